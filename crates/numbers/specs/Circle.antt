@@ -1,0 +1,69 @@
+-- A circle of n points, 0 to n - 1: a step along it, and the signed distance between two points.
+use Prim.Native.Nat.{ℕ, _+_, _-_, _%_, _<_, _≤_}
+use mathlib.Core.Path.{_≡_, refl, sym, _∙_}
+use native.Mathlib.Nat.{mod-eq-of-lt, mod-eq-sub-mod}
+use native.Mathlib.Decide.{decLt}
+use native.Mathlib.Omega.{arith}
+use borrow.Author.Tests.{lt-ltb, le-ltb, le-leb, lt-leb, eq-eqb, ne-eqb}
+use mathlib.Core.Bool.{Bool, true, false}
+use lib.Dec.{leb, ltb, eqb}
+use Rattle.numbers.specs.declared.circle.Distance.{Distance}
+use Rattle.numbers.specs.declared.circle.Distance.the-variants.{Ahead, Behind, Opposite}
+
+-- the point k steps on from a
+abbrev pub along : ℕ → ℕ → ℕ → ℕ
+along n a k = (a + k) % n
+
+abbrev pub pickℕ : Bool → ℕ → ℕ → ℕ
+pickℕ true x y = x
+pickℕ false x y = y
+
+abbrev pub pickDistance : Bool → Distance → Distance → Distance
+pickDistance true x y = x
+pickDistance false x y = y
+
+-- the steps from a on to b, below n
+abbrev pub steps : ℕ → ℕ → ℕ → ℕ
+steps n a b = pickℕ (leb a b) (b - a) (n + b - a)
+
+-- d steps on, d below n, as a distance: the shorter way round
+abbrev pub asDistance : ℕ → ℕ → Distance
+asDistance n d = pickDistance (ltb (d + d) n) (Ahead d) (pickDistance (eqb (d + d) n) Opposite (Behind (n - d)))
+
+-- the signed distance from a to b
+unfoldable pub onCircle : ℕ → ℕ → ℕ → Distance
+onCircle n a b = asDistance n (steps n a b)
+
+-- how far ahead, and 0 where it is not
+abbrev pub forward : Distance → ℕ
+forward (Ahead d) = d
+forward (Behind d) = 0
+forward Opposite = 0
+
+-- Of the steps d by which b follows a: what `steps` and `onCircle` are. One law for every size of circle.
+module _ {n a b d : ℕ} (ha : a < n) (hd : d < n) (e : (d + a) % n ≡ b) where
+  pub steps-are : steps n a b ≡ d
+  steps-are = go (decLt (d + a) n)
+    where
+      go : Dec (d + a < n) → steps n a b ≡ d
+      go (yes h) =
+          let q : d + a ≡ b = sym (mod-eq-of-lt h) ∙ e in
+          let l : a ≤ b = omega arith in
+          rw (le-leb a b l) (omega arith)
+      go (no h) =
+          let s : d + a - n < n = omega arith in
+          let q : d + a - n ≡ b = sym (mod-eq-of-lt s) ∙ (sym (mod-eq-sub-mod (omega arith)) ∙ e) in
+          let l : b < a = omega arith in
+          rw (lt-leb a b l) (omega arith)
+
+  pub ahead : d + d < n → Ahead d ≡ onCircle n a b
+  unfolding onCircle
+  ahead h = simp (steps-are, lt-ltb (d + d) n h)
+
+  pub opposite : d + d ≡ n → Opposite ≡ onCircle n a b
+  unfolding onCircle
+  opposite h = simp (steps-are, le-ltb (d + d) n (omega arith), eq-eqb (d + d) n h)
+
+  pub behind : n < d + d → (k : ℕ) → k ≡ n - d → Behind k ≡ onCircle n a b
+  unfolding onCircle
+  behind h k q = simp (steps-are, le-ltb (d + d) n (omega arith), ne-eqb (d + d) n (omega arith), q)

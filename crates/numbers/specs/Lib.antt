@@ -1,0 +1,8 @@
+-- The circle and the line, one judgement on either, and number-keeping over both.
+pub mod Circle
+pub mod Signed
+pub mod Numbering
+pub mod Judgement
+pub mod Profile
+pub mod Come
+pub mod Keeping

@@ -1,0 +1,96 @@
+-- What scans of a list say of one whose elements are replaced, each by one that answers alike; and what holds of every element.
+-- Assumes nothing.
+use Prim.Native.Nat.{ℕ, zero, suc, _+_, _<_, _≤_}
+use mathlib.Core.Path.{_≡_, refl, sym, _∙_, ap}
+use mathlib.Core.Bool.{Bool, true, false}
+use mathlib.Core.List.{List, [], _∷_, map}
+use native.Mathlib.Omega.{arith}
+use lib.ListN.{length, set, getD}
+use Rattle.scans.specs.declared.Found.{Found}
+use Rattle.scans.specs.declared.Found.the-variants.{At, Nothing}
+use Rattle.scans.specs.Scan.{pick, count, findFrom, any}
+
+module _ {A : Type 0} where
+  -- every one is P
+  abbrev pub All : (A → Type 0) → List A → Type 0
+  All P [] = Unit
+  All P (x ∷ xs) = P x × All P xs
+
+-- ---- a list whose elements are replaced, each by one that answers the test alike
+
+module _ {A B : Type 0} (f : A → B) (p : A → Bool) (q : B → Bool) where
+  abbrev pub Alike : A → Type 0
+  Alike x = q (f x) ≡ p x
+
+  pub count-map : (xs : List A) → All Alike xs → count q (map f xs) ≡ count p xs
+  count-map [] w = refl
+  count-map (x ∷ xs) w = rw (w .0, count-map xs (w .1))
+
+  pub find-map : (i : ℕ) (xs : List A) → All Alike xs → findFrom q i (map f xs) ≡ findFrom p i xs
+  find-map i [] w = refl
+  find-map i (x ∷ xs) w = rw (w .0, find-map (i + 1) xs (w .1))
+
+  pub any-map : (xs : List A) → All Alike xs → any q (map f xs) ≡ any p xs
+  any-map [] w = refl
+  any-map (x ∷ xs) w = rw (w .0, any-map xs (w .1))
+
+module _ {A B : Type 0} (f : A → B) where
+  pub set-map : (xs : List A) (i : ℕ) (x : A) → set (map f xs) i (f x) ≡ map f (set xs i x)
+  set-map [] i x = refl
+  set-map (y ∷ xs) zero x = refl
+  set-map (y ∷ xs) (suc i) x = rw (set-map xs i x)
+
+module _ {A : Type 0} {P Q : A → Type 0} where
+  pub all-map : ((x : A) → P x → Q x) → (xs : List A) → All P xs → All Q xs
+  all-map g [] w = tt
+  all-map g (x ∷ xs) w = (g x (w .0), all-map g xs (w .1))
+
+module _ {A : Type 0} (P : A → Type 0) where
+  pub all-at : (xs : List A) (i : ℕ) (d : A) → P d → All P xs → P (getD xs i d)
+  all-at [] i d z w = z
+  all-at (x ∷ xs) zero d z w = w .0
+  all-at (x ∷ xs) (suc i) d z w = all-at xs i d z (w .1)
+
+  pub all-set : (xs : List A) (i : ℕ) (x : A) → P x → All P xs → All P (set xs i x)
+  all-set [] i x h w = tt
+  all-set (y ∷ xs) zero x h w = (h, w .1)
+  all-set (y ∷ xs) (suc i) x h w = (w .0, all-set xs i x h (w .1))
+
+  pub all-of : ((x : A) → P x) → (xs : List A) → All P xs
+  all-of g [] = tt
+  all-of g (x ∷ xs) = (g x, all-of g xs)
+
+-- ---- tests
+
+-- what stands behind a test counts only where the test comes out that way
+module _ {A : Type 0} (z : A) {x y : A} where
+  pub if-not : (t : Bool) → (t ≡ false → x ≡ y) → pick t z x ≡ pick t z y
+  if-not true f = refl
+  if-not false f = f refl
+
+  pub if-so : (t : Bool) → (t ≡ true → x ≡ y) → pick t x z ≡ pick t y z
+  if-so true f = f refl
+  if-so false f = refl
+
+pub clash : {A : Type 0} → false ≡ true → A
+clash e = let z : _≡_ {A = ℕ} 0 1 = cc in absurd (omega arith)
+
+-- what is found passes
+pub found : {A : Type 0} (p : A → Bool) (d : A) (xs : List A) (i j : ℕ) → findFrom p i xs ≡ At j → (k : ℕ) × (j ≡ i + k) × (p (getD xs k d) ≡ true)
+found p d [] i j e = let z : _≡_ {A = ℕ} 0 1 = cc in absurd (omega arith)
+found p d (x ∷ xs) i j e = go (p x) refl (found p d xs (i + 1) j)
+  where
+    go : (t : Bool) → p x ≡ t
+        → (findFrom p (i + 1) xs ≡ At j → (k : ℕ) × (j ≡ i + 1 + k) × (p (getD xs k d) ≡ true))
+        → (k : ℕ) × (j ≡ i + k) × (p (getD (x ∷ xs) k d) ≡ true)
+    go true q ih =
+        let a : At i ≡ At j = rw q at e in
+        let s : i ≡ j = cc in
+        (0, omega arith, q)
+    go false q ih = let w = ih (rw q at e) in (suc (w .0), omega arith, w .2)
+
+pub found-at : {A : Type 0} (p : A → Bool) (d : A) (xs : List A) (j : ℕ) → findFrom p 0 xs ≡ At j → p (getD xs j d) ≡ true
+found-at p d xs j e =
+    let w = found p d xs 0 j e in
+    let q : w .0 ≡ j = omega arith in
+    rw q at (w .2)
