@@ -1,0 +1,84 @@
+use Rattle.octets.specs.BytesLaws.{laid-more, laid-out}
+use mathlib.Core.List.{[], _∷_}
+use mathlib.Core.Path.{_∙_, ap}
+use borrow.Author.Needs.{needs}
+use Rattle.octets.proofs.bytes.put32.Statement.{statement}
+use Rattle.octets.proofs.bytes.put32.Tie as tie
+use Rattle.octets.proofs.bytes.put32.Reads as reads
+use Rattle.octets.proofs.bytes.put32.Lts as lts
+use Rattle.octets.proofs.bytes.put8.Reads as put8-reads
+
+-- src/bytes.rt:65:23
+cast-put8 : tie.Need-cast-put8
+cast-put8 c = search needs
+
+-- src/bytes.rt:65:9
+put8-requires : tie.Need-put8-requires
+put8-requires c κs = search needs
+
+-- src/bytes.rt:66:19
+add-put8 : tie.Need-add-put8
+add-put8 c = search needs
+
+-- src/bytes.rt:66:27
+cast-put8-2 : tie.Need-cast-put8-2
+cast-put8-2 c = search needs
+
+-- src/bytes.rt:66:9
+put8-requires-2 : tie.Need-put8-requires-2
+put8-requires-2 c κs = search needs
+
+-- src/bytes.rt:67:19
+add-put8-2 : tie.Need-add-put8-2
+add-put8-2 c = search needs
+
+-- src/bytes.rt:67:27
+cast-put8-3 : tie.Need-cast-put8-3
+cast-put8-3 c = search needs
+
+-- src/bytes.rt:67:9
+put8-requires-3 : tie.Need-put8-requires-3
+put8-requires-3 c κs = search needs
+
+-- src/bytes.rt:68:19
+add-put8-3 : tie.Need-add-put8-3
+add-put8-3 c = search needs
+
+-- src/bytes.rt:68:27
+cast-put8-4 : tie.Need-cast-put8-4
+cast-put8-4 c = search needs
+
+-- src/bytes.rt:68:9
+put8-requires-4 : tie.Need-put8-requires-4
+put8-requires-4 c κs = search needs
+
+-- src/bytes.rt:61:1
+same-length : tie.Need-same-length
+same-length c = search needs
+
+-- src/bytes.rt:61:1
+returns : tie.Need-returns
+returns c = rw (c .before .before .put84 .ensures, c .before .before .before .before .before .before .put83 .ensures, c .before .before .before .before .before .before .before .before .before .before .put82 .ensures, c .before .before .before .before .before .before .before .before .before .before .before .before .before .before .put8 .ensures, laid-more (_ ∷ []) (_ ∷ []) _ _, laid-more (_ ∷ _ ∷ []) (_ ∷ []) _ _) (laid-more (_ ∷ _ ∷ _ ∷ []) _ _ _)
+
+-- src/bytes.rt:61:1
+returns-2 : tie.Need-returns-2
+returns-2 c = laid-out _ _ _ (c .if1 .left)
+
+pub put32-spec : {M : Type 1} → statement M
+put32-spec =
+    tie.close
+    (tie.spec
+    cast-put8
+    put8-requires
+    add-put8
+    cast-put8-2
+    put8-requires-2
+    add-put8-2
+    cast-put8-3
+    put8-requires-3
+    add-put8-3
+    cast-put8-4
+    put8-requires-4
+    same-length
+    returns
+    returns-2)
