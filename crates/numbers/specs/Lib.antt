@@ -4,6 +4,7 @@ pub mod Signed
 pub mod Whole
 pub mod Numbering
 pub mod Judgement
+pub mod JudgementLaws
 pub mod Profile
 pub mod Come
 pub mod Keeping
