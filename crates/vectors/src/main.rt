@@ -84,12 +84,18 @@ fn step(name: &[u8], n: u64, should: &[u8]) {
     text(b"\n");
 }
 
-// RFC 3720, B.4, and the usual nine digits.
-fn checksums() {
+// RFC 3720, B.4.
+fn zeros() {
     let zeros = [0u8; 32];
     checksum(b"32 zeros:", &zeros, b"aa 36 91 8a");
+}
+
+fn ones() {
     let ones = [255u8; 32];
     checksum(b"32 ones:", &ones, b"43 ab a8 62");
+}
+
+fn rising() {
     let rising: [u8; 32] = [
         0,
         1,
@@ -124,6 +130,10 @@ fn checksums() {
         30,
         31,
     ];
+    checksum(b"rising:", &rising, b"4e 79 dd 46");
+}
+
+fn falling() {
     let falling: [u8; 32] = [
         31,
         30,
@@ -158,8 +168,11 @@ fn checksums() {
         1,
         0,
     ];
-    checksum(b"rising:", &rising, b"4e 79 dd 46");
     checksum(b"falling:", &falling, b"5c db 3f 11");
+}
+
+// The iSCSI read command.
+fn read_command() {
     let read: [u8; 48] = [
         1,
         192,
@@ -211,6 +224,9 @@ fn checksums() {
         0,
     ];
     checksum(b"iSCSI read:", &read, b"56 3a 96 d9");
+}
+
+fn digits() {
     checksum(b"123456789:", b"123456789", b"83 92 06 e3");
     checksum(b"nothing:", b"", b"00 00 00 00");
 }
@@ -234,7 +250,7 @@ fn fields() {
     );
 }
 
-// C1 to C7, and steps across the end of either circle.
+// C1 to C7.
 fn circles() {
     distance(b"C1", Tsn(4294967295).distance(Tsn(0)), b"+1");
     distance(b"C2", Tsn(0).distance(Tsn(4294967295)), b"-1");
@@ -243,6 +259,10 @@ fn circles() {
     distance(b"C5", Tsn(0).distance(Tsn(2147483649)), b"-2147483647");
     distance(b"C6", Ssn(65535).distance(Ssn(0)), b"+1");
     distance(b"C7", Ssn(0).distance(Ssn(32768)), b"opposite");
+}
+
+// Steps across the end of either circle.
+fn steps() {
     step(
         b"TSN 4294967295 and 1:",
         Tsn(4294967295).after(1).0 as u64,
@@ -259,6 +279,9 @@ fn circles() {
         Ssn(40000).after(40000).0 as u64,
         b"14464",
     );
+}
+
+fn judgements() {
     judgement(
         b"0 from 4294967294, room 1:",
         Tsn(4294967294).judge(Tsn(0), 1),
@@ -287,7 +310,14 @@ fn circles() {
 }
 
 fn main() {
-    checksums();
+    zeros();
+    ones();
+    rising();
+    falling();
+    read_command();
+    digits();
     fields();
     circles();
+    steps();
+    judgements();
 }
