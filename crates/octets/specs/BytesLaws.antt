@@ -6,7 +6,7 @@ use mathlib.Core.List.{List, [], _∷_, _++_, append-nil}
 use native.Mathlib.Omega.{arith}
 use native.Mathlib.Numerals.{add-one}
 use lib.ListN.{length, getD, take, drop, set, length-set, replicate, length-replicate, drop-of-length-le, List·getD-eq-default, length-drop, take-append-drop}
-use lib.Seq.{sets, sets-eq, set-out, length-sets, drop-cons, take-set-le, drop-set-add, take-all, take-nil, getD-drop}
+use lib.Seq.{sets, sets-eq, set-out, length-sets, drop-cons, take-set-le, drop-set-lt, drop-set-add, take-all, take-nil, getD-drop}
 use Rattle.octets.specs.Bytes.{two, four, u16, u32, be16, be32, laid, up4, zeros}
 
 -- ---- reading
@@ -108,6 +108,12 @@ laid-is vs l at h = sets-eq vs l at h
 pub length-laid : (l : List ℕ) (at : ℕ) (vs : List ℕ) → length (laid l at vs) ≡ length l
 unfolding laid
 length-laid l at vs = length-sets l at vs
+
+-- behind them all stays
+pub drop-past : (vs l : List ℕ) (at n : ℕ) → at + length vs ≤ n → drop n (laid l at vs) ≡ drop n l
+unfolding laid
+drop-past [] l at n h = refl
+drop-past (x ∷ vs) l at n h = drop-past vs (set l at x) (suc at) n (omega arith) ∙ drop-set-lt n l at x (omega arith)
 
 -- ---- padding
 
