@@ -5,7 +5,7 @@ use mathlib.Core.Path.{_≡_, refl, sym, ap, _∙_}
 use mathlib.Core.List.{List, [], _∷_, _++_, append-nil}
 use native.Mathlib.Omega.{arith}
 use native.Mathlib.Numerals.{add-one}
-use lib.ListN.{length, getD, take, drop, set, length-set, replicate, length-replicate, drop-of-length-le, List·getD-eq-default, length-drop, take-append-drop}
+use lib.ListN.{length, getD, take, drop, set, length-set, replicate, length-replicate, drop-of-length-le, List·getD-eq-default, List·getD-append, length-drop, take-append-drop}
 use lib.Seq.{sets, sets-eq, set-out, length-sets, drop-cons, take-set-le, drop-set-lt, drop-set-add, take-all, take-nil, getD-drop}
 use Rattle.octets.specs.Bytes.{two, four, u16, u32, be16, be32, laid, up4, zeros}
 
@@ -53,6 +53,16 @@ unfolding u32
 u32-at s at x {r} e =
     let z : at + 0 ≡ at = omega arith in
     ap (λ (k : ℕ). u32 s k) (sym z) ∙ u32-drop at 0 s ∙ ap (λ (l : List ℕ). u32 l 0) e ∙ four-back x
+
+-- what stands before an end stays when more follows
+pub u16-append : (a b : List ℕ) (at : ℕ) → at + 2 ≤ length a → u16 (a ++ b) at ≡ u16 a at
+unfolding u16
+u16-append a b at h = rw (List·getD-append a b 0 at (omega arith), List·getD-append a b 0 (at + 1) (omega arith))
+
+pub u32-append : (a b : List ℕ) (at : ℕ) → at + 4 ≤ length a → u32 (a ++ b) at ≡ u32 a at
+unfolding u32
+u32-append a b at h =
+    rw (List·getD-append a b 0 at (omega arith), List·getD-append a b 0 (at + 1) (omega arith), List·getD-append a b 0 (at + 2) (omega arith), List·getD-append a b 0 (at + 3) (omega arith))
 
 -- past the end all is 0
 gone : (s : List ℕ) (at k : ℕ) → length s ≤ at → getD s (at + k) 0 ≡ 0
