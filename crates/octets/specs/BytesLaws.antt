@@ -1,6 +1,6 @@
 -- Laws of bytes: a number written is the number read; bytes laid behind bytes, and in a part of a list; a loop that lays bytes.
 -- Assumes nothing.
-use Prim.Native.Nat.{ℕ, suc, _+_, _-_, _*_, _/_, _%_, _<_, _≤_}
+use Prim.Native.Nat.{ℕ, zero, suc, _+_, _-_, _*_, _/_, _%_, _<_, _≤_}
 use mathlib.Core.Path.{_≡_, refl, sym, ap, _∙_}
 use mathlib.Core.List.{List, [], _∷_, _++_, append-nil}
 use native.Mathlib.Omega.{arith}
@@ -86,6 +86,14 @@ part-rest s at n h = part-is s at ∙ sym (take-all n (drop at s) (omega (arith,
 
 pub part-none : (s : List ℕ) (at n : ℕ) → length s ≤ at → [] ≡ take n (drop at s)
 part-none s at n h = sym (ap (λ (l : List ℕ). take n l) (drop-of-length-le s h) ∙ take-nil n)
+
+-- the part behind the first m of the first m + k
+pub drop-take : (m k : ℕ) (l : List ℕ) → drop m (take (m + k) l) ≡ take k (drop m l)
+drop-take zero k l = let e : 0 + k ≡ k = omega arith in ap (λ (n : ℕ). take n l) e
+drop-take (suc m) k [] = ap (λ (l : List ℕ). drop (suc m) l) (take-nil (suc m + k)) ∙ sym (take-nil k)
+drop-take (suc m) k (x ∷ l) =
+    let e : suc m + k ≡ suc (m + k) = omega arith in
+    ap (λ (n : ℕ). drop (suc m) (take n (x ∷ l))) e ∙ drop-take m k l
 
 -- ---- writing
 

@@ -5,16 +5,16 @@ use mathlib.Core.Path.{_≡_, refl, sym, ap, _∙_}
 use mathlib.Core.Bool.{Bool, true, false}
 use mathlib.Core.List.{List, [], _∷_, _++_, map}
 use native.Mathlib.Omega.{arith}
-use borrow.Author.Tests.{ltb-true, ltb-false, le-ltb}
+use borrow.Author.Tests.{ltb-true, ltb-false, lt-ltb, le-ltb}
 use lib.Dec.{ltb}
 use lib.ListN.{length, take, drop, length-drop, length-append, drop-of-length-le, take-append-drop}
-use lib.Seq.{drop-drop, drop-at}
+use lib.Seq.{drop-drop, drop-at, drop-append-add}
 use Rattle.scans.specs.Scan.{pick}
 use Rattle.scans.specs.Each.{All}
 use Rattle.octets.specs.Bytes.{u16}
 use Rattle.octets.specs.BytesLaws.{u16-append}
-use Rattle.octets.specs.Walk.{size, walkBy, walk, seek, firstItem, overItems, itemAt, joined, places, Whole, Rising}
-use Rattle.octets.specs.WalkLaws.{size-least, size-append, walk-budget, walk-end, walk-on, first-on, first-end}
+use Rattle.octets.specs.Walk.{size, walkBy, walk, seek, firstItem, overItems, itemAt, joined, places, overJoined, Whole, Rising}
+use Rattle.octets.specs.WalkLaws.{size-least, size-append, walk-budget, walk-end, walk-on, first-on, first-end, over-on, over-end}
 
 -- ---- once, in order, at most a quarter of the bytes in number
 
@@ -115,7 +115,7 @@ module _ (c : List ℕ) (cs : List (List ℕ)) (s : List ℕ) (at : ℕ) (w : Wh
       ∙ (λ i. drop (joined-size i) (e i))
       ∙ drop-at c (joined cs) (length c) refl
 
-joined-end : (s : List ℕ) (at : ℕ) → drop at s ≡ [] → length s ≤ at
+pub joined-end : (s : List ℕ) (at : ℕ) → drop at s ≡ [] → length s ≤ at
 joined-end s at e = omega (arith, length-drop at s, ap length e)
 
 -- the walk visits just those
@@ -134,3 +134,54 @@ first-joined p [] s at w n e = first-end p s at (joined-end s at e)
 first-joined p (c ∷ cs) s at w n e =
     first-on p s at (joined-within c cs s at (w .0) e) (ap p e ∙ n .0 (joined cs))
     ∙ first-joined p cs s (at + size (drop at s)) (w .1) (n .1) (joined-next c cs s at (w .0) e)
+
+-- a fold goes over just those
+pub over-joined {ℓ} : {R : Type ℓ} (f : R → List ℕ → R) (r : R) (cs : List (List ℕ)) (s : List ℕ) (at : ℕ) → All Whole cs → drop at s ≡ joined cs
+    → overItems f r s at ≡ overJoined f r cs
+over-joined f r [] s at w e = over-end f r s at (joined-end s at e)
+over-joined f r (c ∷ cs) s at w e =
+    over-on f r s at (joined-within c cs s at (w .0) e)
+    ∙ over-joined f (f r (drop at s)) cs s (at + size (drop at s)) (w .1) (joined-next c cs s at (w .0) e)
+    ∙ ap (λ (l : List ℕ). overJoined f (f r l) cs) e
+
+-- ---- behind a list, items begin as they do without it
+
+shifted : (n : ℕ) (a b : List ℕ) (k : ℕ) → walkBy n (a ++ b) (length a + k) ≡ map (λ (j : ℕ). length a + j) (walkBy n b k)
+unfolding walkBy
+shifted zero a b k = refl
+shifted (suc n) a b k = go (ltb k (length b)) refl (shifted n a b (k + size (drop k b)))
+  where
+    go : (t : Bool) → ltb k (length b) ≡ t
+        → walkBy n (a ++ b) (length a + (k + size (drop k b))) ≡ map (λ (j : ℕ). length a + j) (walkBy n b (k + size (drop k b)))
+        → pick (ltb (length a + k) (length (a ++ b))) ((length a + k) ∷ walkBy n (a ++ b) (length a + k + size (drop (length a + k) (a ++ b)))) []
+        ≡ map (λ (j : ℕ). length a + j) (pick t (k ∷ walkBy n b (k + size (drop k b))) [])
+    go true e ih =
+        let z : length a + k + size (drop k b) ≡ length a + (k + size (drop k b)) = omega arith in
+        rw (lt-ltb (length a + k) (length (a ++ b)) (omega (arith, ltb-true k (length b) e, length-append a b)), drop-append-add a b k, z, ih)
+    go false e ih = rw (le-ltb (length a + k) (length (a ++ b)) (omega (arith, ltb-false k (length b) e, length-append a b)))
+
+seek-map : (p : ℕ → Bool) (d m : ℕ) (xs : List ℕ) → seek p (m + d) (map (λ (j : ℕ). m + j) xs) ≡ m + seek (λ (j : ℕ). p (m + j)) d xs
+seek-map p d m [] = refl
+seek-map p d m (x ∷ xs) = go (p (m + x)) (seek-map p d m xs)
+  where
+    go : (t : Bool) → seek p (m + d) (map (λ (j : ℕ). m + j) xs) ≡ m + seek (λ (j : ℕ). p (m + j)) d xs
+        → pick t (m + x) (seek p (m + d) (map (λ (j : ℕ). m + j) xs)) ≡ m + pick t x (seek (λ (j : ℕ). p (m + j)) d xs)
+    go true e = refl
+    go false e = e
+
+seek-alike : (p q : ℕ → Bool) → ((j : ℕ) → p j ≡ q j) → (d : ℕ) (xs : List ℕ) → seek p d xs ≡ seek q d xs
+seek-alike p q f d [] = refl
+seek-alike p q f d (x ∷ xs) = rw (f x, seek-alike p q f d xs)
+
+pub first-behind : (p : List ℕ → Bool) (a b : List ℕ) → firstItem p (a ++ b) (length a) ≡ length a + firstItem p b 0
+unfolding firstItem walk
+first-behind p a b =
+    let z : length a ≡ length a + 0 = omega arith in
+    let n : ℕ = length (a ++ b) in
+    ap (λ (k : ℕ). seek (λ (j : ℕ). p (drop j (a ++ b))) n (walkBy n (a ++ b) k)) z
+    ∙ ap (λ (l : List ℕ). seek (λ (j : ℕ). p (drop j (a ++ b))) n l) (shifted n a b 0)
+    ∙ ap (λ (d : ℕ). seek (λ (j : ℕ). p (drop j (a ++ b))) d (map (λ (j : ℕ). length a + j) (walkBy n b 0))) (length-append a b)
+    ∙ seek-map (λ (j : ℕ). p (drop j (a ++ b))) (length b) (length a) (walkBy n b 0)
+    ∙ ap (λ (m : ℕ). length a + m)
+    (seek-alike (λ (j : ℕ). p (drop (length a + j) (a ++ b))) (λ (j : ℕ). p (drop j b)) (λ j. ap p (drop-append-add a b j)) (length b) (walkBy n b 0)
+    ∙ ap (λ (l : List ℕ). seek (λ (j : ℕ). p (drop j b)) (length b) l) (sym (walk-budget n b 0 (omega (arith, length-append a b)))))

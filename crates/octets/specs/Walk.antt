@@ -52,6 +52,11 @@ abbrev pub places : ℕ → List (List ℕ) → List ℕ
 places at [] = []
 places at (c ∷ cs) = at ∷ places (at + length c) cs
 
+-- what a step makes of r over lists that were joined, each with those behind it
+abbrev pub overJoined {ℓ} : {R : Type ℓ} → (R → List ℕ → R) → R → List (List ℕ) → R
+overJoined f r [] = r
+overJoined f r (c ∷ cs) = overJoined f (f r (c ++ joined cs)) cs
+
 -- an item that ends where it says
 pub record Whole (c : List ℕ) : Type 0 where
   pub some : 4 ≤ length c

@@ -1,6 +1,6 @@
 -- Laws of the walk: it goes on by the size of each item and ends; the invariants of a loop that searches the items, or folds them.
 -- Assumes nothing.
-use Prim.Native.Nat.{ℕ, zero, suc, _+_, _-_, _*_, _<_, _≤_}
+use Prim.Native.Nat.{ℕ, zero, suc, _+_, _-_, _*_, _%_, _<_, _≤_}
 use mathlib.Core.Path.{_≡_, refl, sym, ap, _∙_}
 use mathlib.Core.Bool.{Bool, true, false}
 use mathlib.Core.List.{List, [], _∷_, _++_}
@@ -24,6 +24,14 @@ size-least s = go (ltb (u16 s 2) 4) refl
     go : (t : Bool) → ltb (u16 s 2) 4 ≡ t → 4 ≤ pick t 4 (up4 (u16 s 2))
     go true e = omega arith
     go false e = omega (arith, ltb-false (u16 s 2) 4 e)
+
+pub size-four : (s : List ℕ) → size s % 4 ≡ 0
+unfolding size
+size-four s = go (ltb (u16 s 2) 4)
+  where
+    go : (t : Bool) → pick t 4 (up4 (u16 s 2)) % 4 ≡ 0
+    go true = refl
+    go false = omega arith
 
 -- the size of an item that stands whole does not depend on what follows
 pub size-append : (c rest : List ℕ) → 4 ≤ length c → size (c ++ rest) ≡ size c
