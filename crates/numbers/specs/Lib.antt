@@ -3,7 +3,9 @@ pub mod Circle
 pub mod Signed
 pub mod Numbering
 pub mod Judgement
+pub mod Reach
 pub mod Profile
 pub mod Come
 pub mod Keeping
 pub mod Blocks
+pub mod KeepingLaws
