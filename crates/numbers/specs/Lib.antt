@@ -9,3 +9,4 @@ pub mod Come
 pub mod Keeping
 pub mod Blocks
 pub mod KeepingLaws
+pub mod KeepingLine
