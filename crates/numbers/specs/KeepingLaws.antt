@@ -44,6 +44,11 @@ pub offset-alike : (T : Numbering) (k l : Keeping) (y : ℕ) → k .point ≡ l 
 unfolding offsetOf
 offset-alike T k l y e = ap (λ (p : Tsn). forward (far T (p .0) y)) e
 
+-- two numbers at one offset are one
+pub same-ahead : (T : Numbering) (k : Keeping) (t y : ℕ) → On T (k .point .0) → On T t → On T y → 0 < offsetOf T k t → offsetOf T k y ≡ offsetOf T k t → y ≡ t
+unfolding offsetOf
+same-ahead T k t y hp ht hy h q = sym (ahead-same T (k .point .0) t y hp ht hy h (sym q))
+
 -- the flag of offset d
 abbrev pub flagOf : List Bool → ℕ → Bool
 flagOf cs d = pick (ltb d 1) false (getD cs (d - 1) false)
@@ -320,10 +325,6 @@ module _ {T : Numbering} {P : Profile} {k : Keeping} {t : ℕ} (w : Comes T P k 
         (short-le T (P .places + P .places) (movedBy T k t + forward (far T (on T (k .point .0) (movedBy T k t)) y)) (omega (arith, moved-le, e-is)) (w .wide))
         ∙ ap (λ (x : ℕ). movedBy T k t + x) (sym e-is)
 
-    same-offset : offsetOf T k y ≡ offsetOf T k t → y ≡ t
-    unfolding offsetOf
-    same-offset q = sym (ahead-same T (k .point .0) t y (w .point) (w .number) hy (w .ahead) (sym q))
-
     -- the flag of y, when the number has come and the point has not moved
     flag-mid : flagOf cs (offsetOf T k y) ≡ pick (eqb y t) true (isCome T k y)
     flag-mid =
@@ -333,7 +334,7 @@ module _ {T : Numbering} {P : Profile} {k : Keeping} {t : ℕ} (w : Comes T P k 
       where
         go : Dec (y ≡ t) → eqb (offsetOf T k y) (offsetOf T k t) ≡ eqb y t
         go (yes q) = eq-eqb (offsetOf T k y) (offsetOf T k t) (ap (offsetOf T k) q) ∙ sym (eq-eqb y t q)
-        go (no q) = ne-eqb (offsetOf T k y) (offsetOf T k t) (λ x. q (same-offset x)) ∙ sym (ne-eqb y t q)
+        go (no q) = ne-eqb (offsetOf T k y) (offsetOf T k t) (λ x. q (same-ahead T k t y (w .point) (w .number) hy (w .ahead) x)) ∙ sym (ne-eqb y t q)
 
     -- the law: come is what lies beyond the steps moved and is the number, or had come
     pub come-after : isCome T (marked T P k t) y ≡ pick (ltb (movedBy T k t) (offsetOf T k y)) (pick (eqb y t) true (isCome T k y)) false

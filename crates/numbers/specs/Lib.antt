@@ -10,3 +10,4 @@ pub mod Keeping
 pub mod Blocks
 pub mod KeepingLaws
 pub mod KeepingLine
+pub mod KeepingRoom
