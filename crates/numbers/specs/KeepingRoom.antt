@@ -260,3 +260,102 @@ module _ {T : Numbering} {P : Profile} {k : Keeping} {t : ℕ} (w : Comes T P k 
       go (no h) =
           let e : highestOf (marked T P k t) + movedBy T k t ≡ highestOf k = highest-after w ∙ rw (le-ltb (highestOf k) (offsetOf T k t) (omega arith)) in
           omega (arith, late-after)
+
+  pub bound-kept-unheld : (n : ℕ) → highestOf k + count (isLate T k) ts ≤ n → offsetOf T k t + count (isLate T k) ts ≤ n
+      → highestOf (marked T P k t) + count (isLate T (marked T P k t)) ts ≤ n
+  bound-kept-unheld n a b = omega (arith, bound-kept n a b, fewer (isLate T (marked T P k t) t))
+    where
+      fewer : (b : Bool) → count (isLate T (marked T P k t)) ts ≤ tick b (count (isLate T (marked T P k t)) ts)
+      fewer true = omega arith
+      fewer false = omega arith
+
+-- ---- a place is filled, or freed
+
+-- distinct is: none twice
+none-among : (t : ℕ) (ts : List ℕ) → isAmong t ts ≡ false → count (λ (y : ℕ). eqb y t) ts ≡ 0
+none-among t [] e = refl
+none-among t (y ∷ ts) e = go (eqb y t) refl (none-among t ts)
+  where
+    go : (b : Bool) → eqb y t ≡ b → (isAmong t ts ≡ false → count (λ (z : ℕ). eqb z t) ts ≡ 0) → tick b (count (λ (z : ℕ). eqb z t) ts) ≡ 0
+    go true q ih = clash (sym (rw q at e))
+    go false q ih = ih (rw q at e)
+
+not-among : (t : ℕ) (ts : List ℕ) → count (λ (y : ℕ). eqb y t) ts ≡ 0 → isAmong t ts ≡ false
+not-among t [] e = refl
+not-among t (y ∷ ts) e = go (eqb y t) refl (not-among t ts)
+  where
+    go : (b : Bool) → eqb y t ≡ b → (count (λ (z : ℕ). eqb z t) ts ≡ 0 → isAmong t ts ≡ false) → pick b true (isAmong t ts) ≡ false
+    go true q ih = let z : suc (count (λ (z : ℕ). eqb z t) ts) ≡ 0 = rw q at e in absurd (omega arith)
+    go false q ih = ih (rw q at e)
+
+pub distinct-once : (ts : List ℕ) → Distinct ts → (t : ℕ) → count (λ (y : ℕ). eqb y t) ts ≤ 1
+distinct-once [] s t = zero-le
+distinct-once (y ∷ ts) s t = go (ℕ-discrete y t) (distinct-once ts (s .1) t)
+  where
+    go : Dec (y ≡ t) → count (λ (z : ℕ). eqb z t) ts ≤ 1 → tick (eqb y t) (count (λ (z : ℕ). eqb z t) ts) ≤ 1
+    go (yes q) h =
+        let n : count (λ (z : ℕ). eqb z t) ts ≡ 0 = rw q at (none-among y ts (s .0)) in
+        rw (eq-eqb y t q) (omega arith)
+    go (no q) h = rw (ne-eqb y t q) h
+
+pub once-distinct : (ts : List ℕ) → ((t : ℕ) → count (λ (y : ℕ). eqb y t) ts ≤ 1) → Distinct ts
+once-distinct [] f = tt
+once-distinct (y ∷ ts) f =
+    let h : suc (count (λ (z : ℕ). eqb z y) ts) ≤ 1 = rw (eq-eqb y y refl) at (f y) in
+    (not-among y ts (omega arith), once-distinct ts (λ t. rest t (eqb y t) (f t)))
+  where
+    rest : (t : ℕ) (b : Bool) → tick b (count (λ (z : ℕ). eqb z t) ts) ≤ 1 → count (λ (z : ℕ). eqb z t) ts ≤ 1
+    rest t true g = omega arith
+    rest t false g = g
+
+tick-tick : (a b : Bool) (m : ℕ) → tick a (tick b m) ≡ tick b (tick a m)
+tick-tick true true m = refl
+tick-tick true false m = refl
+tick-tick false b m = refl
+
+module _ {A : Type 0} (used : A → Bool) (number : A → ℕ) where
+  count-cons : (q : ℕ → Bool) (u : Bool) (n : ℕ) (ts : List ℕ) → count q (pick u (n ∷ ts) ts) ≡ tick (pick u (q n) false) (count q ts)
+  count-cons q true n ts = refl
+  count-cons q false n ts = refl
+
+  -- a number put in a place that was free is one more
+  pub count-filled : (q : ℕ → Bool) (xs : List A) (i : ℕ) (x d : A) → i < length xs → used x ≡ true → used (getD xs i d) ≡ false
+      → count q (numbersOf used number (set xs i x)) ≡ count q (number x ∷ numbersOf used number xs)
+  count-filled q [] i x d h u v = absurd (omega arith)
+  count-filled q (y ∷ xs) zero x d h u v = rw (u, v)
+  count-filled q (y ∷ xs) (suc i) x d h u v =
+      count-cons q (used y) (number y) (numbersOf used number (set xs i x))
+      ∙ (ap (tick (pick (used y) (q (number y)) false)) (count-filled q xs i x d (omega arith) u v)
+      ∙ (tick-tick (pick (used y) (q (number y)) false) (q (number x)) (count q (numbersOf used number xs))
+      ∙ ap (tick (q (number x))) (sym (count-cons q (used y) (number y) (numbersOf used number xs)))))
+
+  -- one taken out is no more
+  pub count-freed : (q : ℕ → Bool) (xs : List A) (i : ℕ) (x : A) → used x ≡ false → count q (numbersOf used number (set xs i x)) ≤ count q (numbersOf used number xs)
+  count-freed q [] i x u = zero-le
+  count-freed q (y ∷ xs) zero x u = rw u (go (used y) (q (number y)))
+    where
+      go : (b c : Bool) → count q (numbersOf used number xs) ≤ count q (pick b (number y ∷ numbersOf used number xs) (numbersOf used number xs))
+      go false c = omega arith
+      go true c = fewer (q (number y))
+        where
+          fewer : (b : Bool) → count q (numbersOf used number xs) ≤ tick b (count q (numbersOf used number xs))
+          fewer true = omega arith
+          fewer false = omega arith
+  count-freed q (y ∷ xs) (suc i) x u =
+      rw (count-cons q (used y) (number y) (numbersOf used number (set xs i x)), count-cons q (used y) (number y) (numbersOf used number xs))
+      (go (pick (used y) (q (number y)) false) (count-freed q xs i x u))
+    where
+      go : (b : Bool) → count q (numbersOf used number (set xs i x)) ≤ count q (numbersOf used number xs)
+          → tick b (count q (numbersOf used number (set xs i x))) ≤ tick b (count q (numbersOf used number xs))
+      go true h = suc-le-suc h
+      go false h = h
+
+  pub distinct-filled : (xs : List A) (i : ℕ) (x d : A) → i < length xs → used x ≡ true → used (getD xs i d) ≡ false
+      → isAmong (number x) (numbersOf used number xs) ≡ false → Distinct (numbersOf used number xs) → Distinct (numbersOf used number (set xs i x))
+  distinct-filled xs i x d h u v n s =
+      once-distinct (numbersOf used number (set xs i x)) (λ t. rw (count-filled (λ (y : ℕ). eqb y t) xs i x d h u v) (distinct-once (number x ∷ numbersOf used number xs) (n, s) t))
+
+  pub distinct-freed : (xs : List A) (i : ℕ) (x : A) → used x ≡ false → Distinct (numbersOf used number xs) → Distinct (numbersOf used number (set xs i x))
+  distinct-freed xs i x u s =
+      once-distinct (numbersOf used number (set xs i x))
+      (λ t. omega (arith, count-freed (λ (y : ℕ). eqb y t) xs i x u, distinct-once (numbersOf used number xs) s t))
