@@ -11,3 +11,4 @@ pub mod Blocks
 pub mod KeepingLaws
 pub mod KeepingLine
 pub mod KeepingRoom
+pub mod BlocksLaws
