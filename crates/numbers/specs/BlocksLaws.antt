@@ -2,13 +2,13 @@
 -- before the first and after the last an offset has not come. There are at most half as many as places.
 -- Assumes nothing.
 use Prim.Native.Nat.{ℕ, zero, suc, _+_, _-_, _*_, _/_, _<_, _≤_, zero-le}
-use mathlib.Core.Path.{_≡_, refl, sym, ap, _∙_}
+use mathlib.Core.Path.{_≡_, refl, sym, _∙_}
 use mathlib.Core.Bool.{Bool, true, false}
 use mathlib.Core.List.{List, [], _∷_, _++_, map}
-use native.Mathlib.Decide.{decLt, decLe, ℕ-discrete}
+use native.Mathlib.Decide.{decLt, decLe}
 use native.Mathlib.Omega.{arith}
 use borrow.Author.Tests.{lt-ltb, le-ltb, le-leb, lt-leb}
-use lib.ListN.{length, take, replicate, getD, length-append, length-replicate, length-map}
+use lib.ListN.{length, take, replicate, getD, length-map}
 use lib.Seq.{take-at}
 use lib.Dec.{ltb, leb}
 use Rattle.scans.specs.Scan.{pick, any, either}
@@ -16,7 +16,6 @@ use Rattle.scans.specs.Each.{All, all-map}
 use Rattle.numbers.specs.declared.keeping.Keeping.{Keeping}
 use Rattle.numbers.specs.declared.keeping.Blocks.{Blocks}
 use Rattle.numbers.specs.Profile.{Profile}
-use Rattle.numbers.specs.Keeping.{Bounded}
 use Rattle.numbers.specs.Blocks.{Block, ended, runsFrom, runs, padded, laidOut, blocksOf}
 use Rattle.numbers.specs.KeepingLaws.{flagOf}
 

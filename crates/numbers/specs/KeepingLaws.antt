@@ -1,28 +1,27 @@
 -- What the operations of number-keeping do to what has come, on either numbering. Those above rest on these laws and open no definition.
 -- Assumes nothing.
-use Prim.Native.Nat.{ℕ, zero, suc, _+_, _-_, _<_, _≤_, zero-le}
+use Prim.Native.Nat.{ℕ, _+_, _-_, _<_, _≤_, zero-le}
 use mathlib.Core.Path.{_≡_, refl, sym, ap, _∙_}
 use mathlib.Core.Bool.{Bool, true, false}
-use mathlib.Core.List.{List, [], _∷_}
+use mathlib.Core.List.{List}
 use mathlib.Core.Logic.{_⊎_, inl, inr}
 use native.Mathlib.Nat.{add-zero, mod-lt}
 use native.Mathlib.Decide.{decLt, decLe, ℕ-discrete}
 use native.Mathlib.Omega.{arith}
-use borrow.Author.Tests.{lt-ltb, le-ltb, le-leb, eq-eqb, ne-eqb, ltb-true, leb-true}
+use borrow.Author.Tests.{lt-ltb, le-ltb, le-leb, eq-eqb, ne-eqb, leb-true}
 use lib.ListN.{length, set, replicate, getD, length-set, length-replicate, List·getD-eq-default}
 use lib.Seq.{getD-set-same, getD-set-other}
-use lib.Dec.{ltb, leb, eqb}
+use lib.Dec.{ltb, eqb}
 use Rattle.scans.specs.Scan.{pick}
 use Rattle.scans.specs.Upto.{larger, pick-keeps}
 use Rattle.scans.specs.Each.{clash}
 use Rattle.numbers.specs.declared.circle.Tsn.{Tsn}
 use Rattle.numbers.specs.declared.keeping.Keeping.{Keeping}
-use Rattle.numbers.specs.Circle.{forward}
 use Rattle.numbers.specs.Numbering.{Numbering, ring, line, on, before, far}
 use Rattle.numbers.specs.Profile.{Profile}
-use Rattle.numbers.specs.Come.{run, shift, highest, Below, run-le, run-at, run-ends, shift-at, length-shift, clear-at, highest-le, highest-least, highest-above, highest-marks, highest-shifts}
-use Rattle.numbers.specs.Keeping.{fresh, offsetOf, isCome, settled, marked, listed, told, highestOf, keepingSound, Bounded}
-use Rattle.numbers.specs.Reach.{On, Short, short-le, on-On, on-none, on-ahead, on-behind, ahead-on, ahead-same, nearer, passed, was}
+use Rattle.numbers.specs.Come.{run, shift, highest, run-le, run-at, run-ends, shift-at, length-shift, clear-at, highest-le, highest-least, highest-above, highest-marks, highest-shifts}
+use Rattle.numbers.specs.Keeping.{forward, fresh, offsetOf, isCome, settled, marked, listed, told, highestOf, keepingSound, Bounded}
+use Rattle.numbers.specs.Reach.{On, Short, short-le, on-On, on-behind, ahead-same, nearer, passed, was}
 
 -- ---- the bounds: the test says what the record says
 
@@ -194,10 +193,10 @@ abbrev pub isKnown : Numbering → Keeping → ℕ → Bool
 isKnown T k y = pick (ltb (offsetOf T k y) 1) true (isCome T k y)
 
 -- a number less than half a circle behind the point is known
-pub behind-known : (T : Numbering) (k : Keeping) (y b : ℕ) → On T (k .point .0) → On T y → Short T b → on T y b ≡ k .point .0 → isKnown T k y ≡ true
+pub behind-known : (T : Numbering) (k : Keeping) (y b : ℕ) → On T y → Short T b → on T y b ≡ k .point .0 → isKnown T k y ≡ true
 unfolding offsetOf
-behind-known T k y b hp hy s e =
-    let z : forward (far T (k .point .0) y) < 1 = omega (arith, on-behind T (k .point .0) y b hp hy s e) in
+behind-known T k y b hy s e =
+    let z : forward (far T (k .point .0) y) < 1 = omega (arith, on-behind T (k .point .0) y b hy s e) in
     rw (lt-ltb (forward (far T (k .point .0) y)) 1 z)
 
 -- ---- the number comes

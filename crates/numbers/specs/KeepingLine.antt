@@ -2,22 +2,20 @@
 -- for a number less than half a circle from the point. Once for every (even) size of circle and every profile.
 -- Assumes nothing.
 use Prim.Native.Nat.{ℕ, zero, suc, _+_, _-_, _%_, _<_}
-use mathlib.Core.Path.{_≡_, refl, sym, ap, _∙_}
+use mathlib.Core.Path.{_≡_, refl, ap}
 use mathlib.Core.Bool.{Bool, true, false}
-use mathlib.Core.List.{List, [], _∷_, map}
+use mathlib.Core.List.{List, map}
 use native.Mathlib.Nat.{zero-mod}
-use native.Mathlib.Omega.{arith}
-use lib.ListN.{set, replicate, getD}
+use lib.ListN.{set, replicate}
 use lib.Dec.{ltb}
 use Rattle.scans.specs.Scan.{pick}
 use Rattle.scans.specs.Each.{set-map}
 use Rattle.numbers.specs.declared.circle.Tsn.{Tsn}
 use Rattle.numbers.specs.declared.keeping.Keeping.{Keeping}
-use Rattle.numbers.specs.Circle.{forward}
-use Rattle.numbers.specs.Numbering.{Numbering, ring, line, on, far, Within, on-law, before-law, far-law}
+use Rattle.numbers.specs.Numbering.{ring, line, Within, on-law, before-law, far-law}
 use Rattle.numbers.specs.Profile.{Profile}
 use Rattle.numbers.specs.Come.{run}
-use Rattle.numbers.specs.Keeping.{fresh, offsetOf, isCome, settled, marked, listed, told, highestOf, keepingSound}
+use Rattle.numbers.specs.Keeping.{forward, fresh, offsetOf, isCome, settled, marked, listed, told, highestOf, keepingSound}
 use Rattle.numbers.specs.Blocks.{blocksOf}
 
 abbrev pub reduceTsn : ℕ → Tsn → Tsn

@@ -7,14 +7,13 @@ use mathlib.Core.Bool.{Bool, true, false, not}
 use mathlib.Core.List.{List, [], _∷_}
 use mathlib.Core.Logic.{_⊎_, inl, inr, ⊎-elim}
 use native.Mathlib.Nat.{le-of-suc-le-suc}
-use native.Mathlib.Decide.{decLt, decLe, ℕ-discrete}
+use native.Mathlib.Decide.{decLt, ℕ-discrete}
 use native.Mathlib.Omega.{arith}
 use borrow.Author.Tests.{lt-ltb, le-ltb, eq-eqb, ne-eqb, not-true}
-use lib.ListN.{length, set, replicate, getD, List·getD-eq-default}
+use lib.ListN.{length, set, replicate, getD}
 use lib.Seq.{getD-set-other}
-use lib.Dec.{ltb, eqb}
+use lib.Dec.{eqb}
 use Rattle.scans.specs.Scan.{pick, tick, count, any}
-use Rattle.scans.specs.Upto.{larger}
 use Rattle.scans.specs.Each.{All, clash}
 use Rattle.numbers.specs.declared.keeping.Keeping.{Keeping}
 use Rattle.numbers.specs.Numbering.{Numbering}
@@ -22,7 +21,7 @@ use Rattle.numbers.specs.Profile.{Profile}
 use Rattle.numbers.specs.Come.{Below, highest-below}
 use Rattle.numbers.specs.Keeping.{offsetOf, isCome, marked, highestOf}
 use Rattle.numbers.specs.Reach.{On}
-use Rattle.numbers.specs.KeepingLaws.{Comes, flagOf, come-flag, come-below, same-ahead, movedBy, come-after, highest-after}
+use Rattle.numbers.specs.KeepingLaws.{Comes, flagOf, come-below, same-ahead, movedBy, come-after, highest-after}
 
 -- ---- the numbers of what is used
 
