@@ -1,6 +1,6 @@
 -- What the operations of number-keeping do to what has come, on either numbering. Those above rest on these laws and open no definition.
 -- Assumes nothing.
-use Prim.Native.Nat.{ℕ, _+_, _-_, _<_, _≤_, zero-le}
+use Prim.Native.Nat.{ℕ, _+_, _-_, _<_, _≤_, _^_, zero-le}
 use mathlib.Core.Path.{_≡_, refl, sym, ap, _∙_}
 use mathlib.Core.Bool.{Bool, true, false}
 use mathlib.Core.List.{List}
@@ -18,8 +18,9 @@ use Rattle.scans.specs.Each.{clash}
 use Rattle.numbers.specs.declared.circle.Tsn.{Tsn}
 use Rattle.numbers.specs.declared.keeping.Keeping.{Keeping}
 use Rattle.numbers.specs.Numbering.{Numbering, ring, line, on, before, far}
-use Rattle.numbers.specs.Profile.{Profile}
-use Rattle.numbers.specs.Come.{run, shift, highest, run-le, run-at, run-ends, shift-at, length-shift, clear-at, highest-le, highest-least, highest-above, highest-marks, highest-shifts}
+use Rattle.numbers.specs.Profile.{Profile, rail}
+use Rattle.numbers.specs.Come.{run, shift, highest}
+use Rattle.numbers.specs.ComeLaws.{run-le, run-at, run-ends, shift-at, length-shift, clear-at, highest-le, highest-least, highest-above, highest-marks, highest-shifts}
 use Rattle.numbers.specs.Keeping.{forward, fresh, offsetOf, isCome, settled, marked, listed, told, highestOf, keepingSound, Bounded}
 use Rattle.numbers.specs.Reach.{On, Short, short-le, on-On, on-behind, ahead-same, nearer, passed, was}
 
@@ -38,6 +39,10 @@ unfolding keepingSound
 bounded-sound P k b = rw (b .first) (le-leb (k .listed) (P .listed) (b .few))
 
 -- ---- what a record is asked depends on its point and its offsets alone
+
+pub offset-far : (T : Numbering) (k : Keeping) (y : ℕ) → offsetOf T k y ≡ forward (far T (k .point .0) y)
+unfolding offsetOf
+offset-far T k y = refl
 
 pub offset-alike : (T : Numbering) (k l : Keeping) (y : ℕ) → k .point ≡ l .point → offsetOf T k y ≡ offsetOf T l y
 unfolding offsetOf
@@ -148,6 +153,10 @@ told-bounded P k b = record { first = b .first; few = zero-le }
 
 -- ---- fresh
 
+pub fresh-point : (T : Numbering) (P : Profile) (t : Tsn) → fresh T P t .point ≡ record { 0 = before T (t .0) }
+unfolding fresh
+fresh-point T P t = refl
+
 pub fresh-none : (T : Numbering) (P : Profile) (t : Tsn) (y : ℕ) → isCome T (fresh T P t) y ≡ false
 unfolding fresh
 fresh-none T P t y = come-flag T (fresh T P t) y ∙ go (ltb (offsetOf T (fresh T P t) y) 1)
@@ -245,13 +254,15 @@ pub record Comes (T : Numbering) (P : Profile) (k : Keeping) (t : ℕ) : Type 0 
   pub ahead : 0 < offsetOf T k t
   pub near : offsetOf T k t ≤ P .places
 
+pub rail-wide : Short (ring (2 ^ 32)) (rail .places + rail .places)
+rail-wide = omega arith
+
 -- any other changes nothing
 pub marked-out : (T : Numbering) (P : Profile) (k : Keeping) (t : ℕ) → (offsetOf T k t ≡ 0) ⊎ (P .places < offsetOf T k t) → marked T P k t ≡ k
 unfolding marked
 marked-out T P k t (inl z) = rw (lt-ltb (offsetOf T k t) 1 (omega arith))
 marked-out T P k t (inr h) = rw (le-ltb (offsetOf T k t) 1 (omega arith), lt-ltb (P .places) (offsetOf T k t) h)
 
--- "one at or behind the point, or past the last offset": no other record changes than one that the number comes to
 module _ {T : Numbering} {P : Profile} {k : Keeping} {t : ℕ} (w : Comes T P k t) where
   abbrev d : ℕ
   d = offsetOf T k t
