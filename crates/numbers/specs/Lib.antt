@@ -8,3 +8,9 @@ pub mod JudgementLaws
 pub mod Profile
 pub mod Come
 pub mod Keeping
+pub mod Blocks
+pub mod Reach
+pub mod KeepingLaws
+pub mod KeepingLine
+pub mod KeepingRoom
+pub mod BlocksLaws
