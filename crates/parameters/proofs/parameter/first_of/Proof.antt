@@ -1,0 +1,82 @@
+use borrow.Author.Needs.{needs}
+use borrow.Author.Tests.{lt-ltb, le-ltb, le-leb, lt-leb, eq-eqb, ne-eqb}
+use native.Mathlib.Omega.{arith}
+use Prim.Native.Nat.{_-_}
+use mathlib.Core.Path.{refl}
+use lib.ListN.{length}
+use Rattle.octets.specs.WalkLaws.{Walking, walking-none, walking-yes, walking-no, walking-end}
+use Rattle.parameters.specs.Parameter.{isKind}
+use Rattle.parameters.proofs.parameter.first_of.Statement.{statement}
+use Rattle.parameters.proofs.parameter.first_of.Tie as tie
+use Rattle.parameters.proofs.parameter.first_of.Reads as reads
+use Rattle.parameters.proofs.parameter.first_of.Lts as lts
+use Rattle.octets.proofs.size.Reads as size-reads
+use Rattle.parameters.proofs.parameter.is_kind.Reads as is-kind-reads
+
+abbrev Inv-loop : tie.InvT-loop
+Inv-loop b kind at₀ at = Walking (isKind kind) b 0 at
+
+abbrev μ-loop : tie.MeasureT-loop
+μ-loop b kind at₀ at = length b - at
+
+-- src/parameter.rt:87:5
+loop-holds : tie.Need-loop-holds Inv-loop μ-loop
+loop-holds c = walking-none _ _ _
+
+-- src/parameter.rt:88:17
+sub-t : tie.Need-sub-t Inv-loop μ-loop
+sub-t c = search needs
+
+-- src/parameter.rt:88:17
+part-t-start : tie.Need-part-t-start Inv-loop μ-loop
+part-t-start c = search needs
+
+-- src/parameter.rt:88:17
+part-t-end : tie.Need-part-t-end Inv-loop μ-loop
+part-t-end c = search needs
+
+-- src/parameter.rt:89:12
+is-kind-requires : tie.Need-is-kind-requires Inv-loop μ-loop
+is-kind-requires c κs = search needs
+
+-- src/parameter.rt:90:13
+returns : tie.Need-returns Inv-loop μ-loop
+returns c = walking-yes (c .before .before .before .before .loop .inv) (c .before .before .before .loop-test .taken) refl (c .before .is-kind .ensures) (c .if1 .taken)
+
+-- src/parameter.rt:92:15
+size-requires : tie.Need-size-requires Inv-loop μ-loop
+size-requires c κs = search needs
+
+-- src/parameter.rt:92:9
+add-at : tie.Need-add-at Inv-loop μ-loop
+add-at c = search needs
+
+-- src/parameter.rt:87:5
+loop-less : tie.Need-loop-less Inv-loop μ-loop
+loop-less c = search needs
+
+-- src/parameter.rt:87:5
+loop-again : tie.Need-loop-again Inv-loop μ-loop
+loop-again c = walking-no (c .before .before .before .before .before .loop .inv) (c .before .before .before .before .loop-test .taken) refl (c .before .before .is-kind .ensures) (c .before .if1 .left) (c .size .ensures .0)
+
+-- src/parameter.rt:83:1
+returns-2 : tie.Need-returns-2 Inv-loop μ-loop
+returns-2 c = walking-end (c .before .loop .inv) (c .loop-test .left)
+
+pub first-of-spec : {M : Type 1} → statement M
+first-of-spec =
+    tie.close
+    (tie.spec
+    Inv-loop
+    μ-loop
+    loop-holds
+    sub-t
+    part-t-start
+    part-t-end
+    is-kind-requires
+    returns
+    size-requires
+    add-at
+    loop-less
+    loop-again
+    returns-2)

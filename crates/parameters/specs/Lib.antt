@@ -1,0 +1,6 @@
+-- Parameters, their reports, and the causes of an ERROR; with the laws of each.
+pub mod Parameter
+pub mod ParameterLaws
+pub mod Report
+pub mod ReportLaws
+pub mod Stale
