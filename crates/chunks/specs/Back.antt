@@ -26,7 +26,7 @@ pub read-back : {A : Type 0} {read : List ℕ → A} {v : A} {out bs exit : List
     → (read exit ≡ v) × (drop (length bs) exit ≡ drop (length bs) out)
 read-back {read = read} {v} {out} {bs} b w h k = rw (wrote-is w h k) (b .value (drop (length bs) out), drop-at bs (drop (length bs) out) (length bs) refl)
 
--- ---- a framed chunk is an item of the walk that ends where it says
+-- ---- where a chunk ends
 
 pub smaller-le : (a b : ℕ) → a ≤ b → smaller a b ≡ a
 smaller-le a b h = go (decLt a b)
@@ -34,6 +34,16 @@ smaller-le a b h = go (decLt a b)
     go : Dec (a < b) → smaller a b ≡ a
     go (yes x) = rw (lt-ltb a b x)
     go (no x) = rw (le-ltb a b (omega arith)) (omega arith)
+
+-- a chunk whose length lies within s ends there, and its parts are as long as they say
+module _ (s : List ℕ) (n : ℕ) (e : u16 s 2 ≡ n) (h : n ≤ length s) where
+  pub ended-is : ended s ≡ n
+  unfolding ended
+  ended-is = rw e (smaller-le n (length s) h)
+
+  pub from-is : (k : ℕ) → k ≤ n → partFrom k s ≡ record { at = k; len = n - k }
+  unfolding partFrom
+  from-is k l = rw (ended-is, smaller-le k n l)
 
 module _ (k f : ℕ) (v : List ℕ) where
   pub framed-whole : Whole (framed k f v)
@@ -44,23 +54,19 @@ module _ (k f : ℕ) (v : List ℕ) where
   pub framed-length : Back (λ (s : List ℕ). u16 s 2) (4 + length v) (framed k f v)
   framed-length = record { value = λ rest. chunk-length k f (4 + length v) v rest }
 
-  pub framed-ended : (rest : List ℕ) → ended (framed k f v ++ rest) ≡ 4 + length v
-  unfolding ended
-  framed-ended rest =
-      let e : u16 (framed k f v ++ rest) 2 ≡ 4 + length v = chunk-length k f (4 + length v) v rest in
-      let l : length (framed k f v ++ rest) ≡ up4 (4 + length v) + length rest = length-append (framed k f v) rest ∙ ap (λ (j : ℕ). j + length rest) (framed-long k f v) in
-      rw (e, l) (smaller-le (4 + length v) (up4 (4 + length v) + length rest) (omega arith))
+  -- it lies within what it begins
+  pub framed-within : (rest : List ℕ) → 4 + length v ≤ length (framed k f v ++ rest)
+  framed-within rest = omega (arith, length-append (framed k f v) rest, framed-long k f v)
 
 -- ---- the part behind the fixed fields a
 
 module _ (k f : ℕ) (a t : List ℕ) where
   pub framed-part : Back (partFrom (4 + length a)) (record { at = 4 + length a; len = length t }) (framed k f (a ++ t))
-  unfolding partFrom
   framed-part = record {
     value = λ rest.
-        let e : ended (framed k f (a ++ t) ++ rest) ≡ 4 + length a + length t = framed-ended k f (a ++ t) rest ∙ omega (arith, length-append a t) in
-        let z : 4 + length a + length t - (4 + length a) ≡ length t = omega arith in
-        rw (e, z, smaller-le (4 + length a) (4 + length a + length t) (omega arith));
+        let z : 4 + length (a ++ t) - (4 + length a) ≡ length t = omega (arith, length-append a t) in
+        from-is (framed k f (a ++ t) ++ rest) (4 + length (a ++ t)) (framed-length k f (a ++ t) .value rest) (framed-within k f (a ++ t) rest) (4 + length a) (omega (arith, length-append a t))
+        ∙ ap (λ (j : ℕ). record { at = 4 + length a; len = j }) z;
   }
 
   pub framed-bytes : Back (λ (s : List ℕ). bytesIn s (partFrom (4 + length a) s)) t (framed k f (a ++ t))

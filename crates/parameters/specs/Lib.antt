@@ -3,4 +3,5 @@ pub mod Parameter
 pub mod ParameterLaws
 pub mod Report
 pub mod ReportLaws
+pub mod Filling
 pub mod Stale
