@@ -14,3 +14,4 @@ pub mod CookieChunk
 pub mod CookieLaws
 pub mod Cause
 pub mod RoundTrips
+pub mod Again
