@@ -1,7 +1,6 @@
 -- "What a reader accepts, written again, is the same bytes where no ignored bits stand": DATA and SACK. Assumes nothing.
 use Prim.Native.Nat.{ℕ, zero, suc, _+_, _-_, _*_, _/_, _%_, _<_, _≤_}
 use mathlib.Core.Path.{_≡_, refl, sym, ap, _∙_}
-use mathlib.Core.Bool.{Bool, true, false}
 use mathlib.Core.List.{List, [], _∷_, _++_, append-nil}
 use native.Mathlib.Omega.{arith}
 use lib.Dec.{eqb}
@@ -16,7 +15,7 @@ use Rattle.octets.specs.Bytes.{two, four, u8, u16, u32, be16, be32, up4, zeros}
 use Rattle.octets.specs.BytesLaws.{u16-is, u32-is, zeros-none}
 use Rattle.octets.specs.Writing.{items}
 use Rattle.octets.specs.WritingLaws.{length-items}
-use Rattle.chunks.specs.Frame.{framed, partFrom, bytesIn, weight}
+use Rattle.chunks.specs.Frame.{partFrom, bytesIn, weight}
 use Rattle.chunks.specs.Back.{from-is}
 use Rattle.chunks.specs.DataChunk.{dataOf, dataBytes, dataFields, flagsOf}
 use Rattle.chunks.specs.DataLaws.{data-is}

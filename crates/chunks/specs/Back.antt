@@ -1,12 +1,11 @@
 -- "Reading what a writer wrote gives the value back, its length and nothing else", once for every chunk. Assumes nothing.
 use Prim.Native.Nat.{ℕ, _+_, _-_, _<_, _≤_}
 use mathlib.Core.Path.{_≡_, refl, sym, ap, _∙_}
-use mathlib.Core.Bool.{Bool, true, false}
-use mathlib.Core.List.{List, [], _∷_, _++_, append-assoc, append-nil}
+use mathlib.Core.List.{List, [], _++_, append-assoc, append-nil}
 use native.Mathlib.Decide.{decLt}
 use native.Mathlib.Omega.{arith}
 use borrow.Author.Tests.{lt-ltb, le-ltb}
-use lib.ListN.{length, take, drop, length-append}
+use lib.ListN.{length, drop, length-append}
 use lib.Seq.{take-at, drop-at}
 use Rattle.scans.specs.Upto.{smaller}
 use Rattle.octets.specs.Bytes.{u16, up4, zeros}
@@ -15,7 +14,6 @@ use Rattle.octets.specs.Writing.{head, Wrote}
 use Rattle.octets.specs.WritingLaws.{chunk-length, chunk-size, wrote-is}
 use Rattle.chunks.specs.Frame.{framed, ended, partFrom, bytesIn}
 use Rattle.chunks.specs.FrameLaws.{framed-long}
-use Rattle.chunks.specs.declared.frame.Part.{Part}
 
 -- whatever follows the bytes bs, the reader gives v
 pub record Back {A : Type 0} (read : List ℕ → A) (v : A) (bs : List ℕ) : Type 0 where

@@ -1,7 +1,7 @@
 -- A chunk by its type, flags and value (RFC 9260 section 3.2); the parts of a chunk that was received.
 use Prim.Native.Nat.{ℕ, _+_, _-_, _/_, _%_}
 use mathlib.Core.Bool.{Bool}
-use mathlib.Core.List.{List, [], _∷_, _++_}
+use mathlib.Core.List.{List, []}
 use lib.Dec.{ltb, eqb}
 use lib.ListN.{length, take, drop, getD}
 use Rattle.scans.specs.Scan.{pick}

@@ -11,7 +11,7 @@ use Rattle.scans.specs.Upto.{smaller}
 use Rattle.numbers.specs.Profile.{rail}
 use Rattle.numbers.specs.Blocks.{padded}
 use Rattle.numbers.specs.declared.circle.Tsn.{Tsn}
-use Rattle.octets.specs.Bytes.{u8, u16, u32, be16, be32, zeros}
+use Rattle.octets.specs.Bytes.{u16, u32, be32, zeros}
 use Rattle.octets.specs.BytesLaws.{u16-at, u32-at}
 use Rattle.octets.specs.Writing.{items}
 use Rattle.octets.specs.WritingLaws.{length-items}
@@ -25,7 +25,6 @@ use Rattle.chunks.specs.SackLaws.{sack-is}
 use Rattle.chunks.specs.ShutdownChunk.{pointOf}
 use Rattle.chunks.specs.CookieChunk.{cookieEchoBytes}
 use Rattle.chunks.specs.CookieLaws.{echo-is}
-use Rattle.chunks.specs.HeartbeatChunk.{heartbeatBytes}
 use Rattle.chunks.specs.declared.data.Data.{Data}
 use Rattle.chunks.specs.declared.init.Init.{Init}
 use Rattle.chunks.specs.declared.sack.Sack.{Sack}

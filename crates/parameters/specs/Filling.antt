@@ -1,25 +1,24 @@
 -- What is gathered fills its chunk, and begins with what was there; so an INIT ACK is read back as it was written. Assumes nothing.
-use Prim.Native.Nat.{ℕ, zero, suc, _+_, _-_, _*_, _%_, _<_, _≤_}
+use Prim.Native.Nat.{ℕ, zero, suc, _+_, _-_, _%_, _<_, _≤_}
 use mathlib.Core.Path.{_≡_, refl, sym, ap, _∙_}
 use mathlib.Core.Bool.{Bool, true, false}
-use mathlib.Core.List.{List, [], _∷_, _++_, append-assoc, append-nil}
+use mathlib.Core.List.{List, [], _++_, append-assoc, append-nil}
 use native.Mathlib.Decide.{decLt}
 use native.Mathlib.Omega.{arith}
-use lib.Dec.{ltb, eqb}
+use lib.Dec.{ltb}
 use lib.ListN.{length, take, drop, length-append}
 use lib.Seq.{take-at}
 use borrow.Author.Tests.{eq-eqb}
 use Rattle.scans.specs.Scan.{pick}
 use Rattle.octets.specs.Bytes.{u16, up4, zeros}
 use Rattle.octets.specs.BytesLaws.{u16-at, u16-append, part-is, zeros-of, zeros-long}
-use Rattle.octets.specs.Walk.{size, firstItem, overItems}
+use Rattle.octets.specs.Walk.{size, overItems}
 use Rattle.octets.specs.WalkLaws.{size-least, over-on, over-end, first-here}
 use Rattle.chunks.specs.Frame.{framed, partFrom, bytesIn, ended}
 use Rattle.chunks.specs.Back.{Back, from-is, framed-part}
 use Rattle.chunks.specs.RoundTrips.{init-back, parameters-back}
 use Rattle.chunks.specs.InitChunk.{initOf, initFields}
 use Rattle.chunks.specs.declared.init.Init.{Init}
-use Rattle.chunks.specs.declared.frame.Part.{Part}
 use Rattle.chunks.specs.declared.kind.Handling.{Handling}
 use Rattle.chunks.specs.declared.kind.Handling.the-variants.{Stop, StopAndReport, Skip, SkipAndReport}
 use Rattle.parameters.specs.declared.parameter.Treatment.{Treatment}

@@ -3,7 +3,7 @@ use Prim.Native.Nat.{ℕ, _+_, _/_}
 use mathlib.Core.Bool.{Bool}
 use mathlib.Core.List.{List, [], _∷_}
 use lib.Dec.{ltb, eqb}
-use lib.ListN.{length, take, drop}
+use lib.ListN.{length, drop}
 use Rattle.scans.specs.Scan.{pick, any}
 use Rattle.octets.specs.Bytes.{u16}
 use Rattle.octets.specs.Walk.{size, firstItem}
@@ -12,7 +12,6 @@ use Rattle.chunks.specs.Kind.{handled}
 use Rattle.chunks.specs.declared.frame.Part.{Part}
 use Rattle.parameters.specs.declared.parameter.Treatment.{Treatment}
 use Rattle.parameters.specs.declared.parameter.Treatment.the-variants.{Known, Unknown}
-use Rattle.parameters.specs.declared.parameter.Parameter.{Parameter}
 use Rattle.parameters.specs.declared.parameter.Step.{Step}
 use Rattle.parameters.specs.declared.parameter.Step.the-variants.{At, Done}
 
