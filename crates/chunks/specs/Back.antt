@@ -33,6 +33,15 @@ smaller-le a b h = go (decLt a b)
     go (yes x) = rw (lt-ltb a b x)
     go (no x) = rw (le-ltb a b (omega arith)) (omega arith)
 
+-- it ends within s, and no later than its length
+pub ended-within : (s : List ℕ) → (ended s ≤ u16 s 2) × (ended s ≤ length s)
+unfolding ended
+ended-within s = go (decLt (u16 s 2) (length s))
+  where
+    go : Dec (u16 s 2 < length s) → (smaller (u16 s 2) (length s) ≤ u16 s 2) × (smaller (u16 s 2) (length s) ≤ length s)
+    go (yes x) = rw (lt-ltb (u16 s 2) (length s) x) (omega arith, omega arith)
+    go (no x) = rw (le-ltb (u16 s 2) (length s) (omega arith)) (omega arith, omega arith)
+
 -- a chunk whose length lies within s ends there, and its parts are as long as they say
 module _ (s : List ℕ) (n : ℕ) (e : u16 s 2 ≡ n) (h : n ≤ length s) where
   pub ended-is : ended s ≡ n

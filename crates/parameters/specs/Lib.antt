@@ -4,4 +4,5 @@ pub mod ParameterLaws
 pub mod Report
 pub mod ReportLaws
 pub mod Filling
+pub mod Whole
 pub mod Stale
