@@ -1,4 +1,4 @@
--- "What a reader accepts, written again, is the same bytes where no ignored bits stand": DATA and SACK. Assumes nothing.
+-- What is read of a DATA or a SACK, written again, is the same bytes where no ignored bits stand. Assumes nothing.
 use Prim.Native.Nat.{ℕ, zero, suc, _+_, _-_, _*_, _/_, _%_, _<_, _≤_}
 use mathlib.Core.Path.{_≡_, refl, sym, ap, _∙_}
 use mathlib.Core.List.{List, [], _∷_, _++_, append-nil}

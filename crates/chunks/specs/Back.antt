@@ -1,4 +1,4 @@
--- "Reading what a writer wrote gives the value back, its length and nothing else", once for every chunk. Assumes nothing.
+-- Reading what a writer wrote gives the value back, its length and nothing else: once for every chunk. Assumes nothing.
 use Prim.Native.Nat.{ℕ, _+_, _-_, _<_, _≤_}
 use mathlib.Core.Path.{_≡_, refl, sym, ap, _∙_}
 use mathlib.Core.List.{List, [], _++_, append-assoc, append-nil}

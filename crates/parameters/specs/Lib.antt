@@ -6,3 +6,4 @@ pub mod ReportLaws
 pub mod Filling
 pub mod Whole
 pub mod Stale
+pub mod StaleLaws

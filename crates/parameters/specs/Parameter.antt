@@ -45,7 +45,8 @@ isKind k p = eqb (u16 p 0) k
 unfoldable pub paramsOf : List ℕ → List ℕ
 paramsOf s = bytesIn s (partFrom 20 s)
 
--- where the first parameter of a type begins among them: "the first cookie counts, wherever it stands"
+-- where the first parameter of a type begins among them, whatever stands before it: a parameter that stops ends the reports only,
+-- since COOKIE ECHO is sent in all four cases (the note of section 3.2.1)
 unfoldable pub placeOf : ℕ → List ℕ → ℕ
 placeOf k s = firstItem (isKind k) (paramsOf s) 0
 

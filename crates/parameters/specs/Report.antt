@@ -25,7 +25,7 @@ parameter k v = be16 k ++ be16 (4 + length v) ++ v
 abbrev pub report : Bool → List ℕ → List ℕ
 report wrapped p = pick wrapped (parameter 8 p) p
 
--- p behind acc, "padded between"
+-- p behind acc, with padding between
 abbrev pub behind : List ℕ → List ℕ → List ℕ
 behind acc p = acc ++ (zeros (length acc) ++ p)
 
@@ -56,7 +56,7 @@ gatherOne room w g t = pick (g .done) g (judged room w (g .bytes) (take (ended t
 unfoldable pub gatherAll : ℕ → Bool → List ℕ → List ℕ → List ℕ
 gatherAll room w acc b = overItems (gatherOne room w) (record { bytes = acc; done = false }) b 0 .bytes
 
--- "sent .. one of at most 1,472": less the header of 12 and the fixed fields of 20
+-- "the replies to one packet share one of at most 1,472": less its header of 12 and the fixed fields of 20
 abbrev pub ROOM : ℕ
 ROOM = 1440
 
