@@ -9,6 +9,7 @@ use lib.Seq.{length-take-le, drop-drop, take-add}
 use Rattle.scans.specs.Scan.{drop-at}
 use Rattle.scans.specs.Each.{All, all-at}
 use Rattle.numbers.specs.Profile.{rail}
+use Rattle.numbers.specs.Blocks.{padded}
 use Rattle.numbers.specs.declared.circle.Tsn.{Tsn}
 use Rattle.numbers.specs.declared.keeping.Blocks.{Blocks}
 use Rattle.octets.specs.Bytes.{two, four, u8, u16, u32, be16, be32, up4, zeros}
@@ -156,19 +157,24 @@ module _ (s : List ℕ) (w : All Octet s) (k : Sack) (t : Taken s k) (kind : u8 
   unfolding c sackOf
   count-is = ap (λ (x : SackHead). x .blocks) (t .head)
 
-  starts-are : (i : ℕ) → i < c → getD (k .blocks .starts) i 0 ≡ u16 s (16 + 4 * i)
+  -- an array of the blocks that was read, at a place that counts
+  listed-is : (array : Blocks → List ℕ) (f : ℕ → ℕ) → array (blocksIn rail s) ≡ padded 64 (table f 0 (listedIn rail s)) → (i : ℕ) → i < c → getD (array (k .blocks)) i 0 ≡ f i
   unfolding c blocksIn
-  starts-are i l =
+  listed-is array f e i l =
       let n : c ≡ listedIn rail s = ap (λ (b : Blocks). b .count) (t .blocks) in
       let z : 0 + i ≡ i = omega arith in
-      ap (λ (b : Blocks). getD (b .starts) i 0) (t .blocks) ∙ table-get (λ (j : ℕ). u16 s (16 + 4 * j)) 0 (listedIn rail s) i (replicate (64 - length (table (λ (j : ℕ). u16 s (16 + 4 * j)) 0 (listedIn rail s))) 0) (omega arith) ∙ ap (λ (j : ℕ). u16 s (16 + 4 * j)) z
+      ap (λ (b : Blocks). getD (array b) i 0) (t .blocks)
+      ∙ ap (λ (x : List ℕ). getD x i 0) e
+      ∙ table-get f 0 (listedIn rail s) i (replicate (64 - length (table f 0 (listedIn rail s))) 0) (omega arith)
+      ∙ ap f z
+
+  starts-are : (i : ℕ) → i < c → getD (k .blocks .starts) i 0 ≡ u16 s (16 + 4 * i)
+  unfolding blocksIn
+  starts-are = listed-is (λ (b : Blocks). b .starts) (λ (j : ℕ). u16 s (16 + 4 * j)) refl
 
   ends-are : (i : ℕ) → i < c → getD (k .blocks .ends) i 0 ≡ u16 s (18 + 4 * i)
-  unfolding c blocksIn
-  ends-are i l =
-      let n : c ≡ listedIn rail s = ap (λ (b : Blocks). b .count) (t .blocks) in
-      let z : 0 + i ≡ i = omega arith in
-      ap (λ (b : Blocks). getD (b .ends) i 0) (t .blocks) ∙ table-get (λ (j : ℕ). u16 s (18 + 4 * j)) 0 (listedIn rail s) i (replicate (64 - length (table (λ (j : ℕ). u16 s (18 + 4 * j)) 0 (listedIn rail s))) 0) (omega arith) ∙ ap (λ (j : ℕ). u16 s (18 + 4 * j)) z
+  unfolding blocksIn
+  ends-are = listed-is (λ (b : Blocks). b .ends) (λ (j : ℕ). u16 s (18 + 4 * j)) refl
 
   block-again : (i : ℕ) → i < c → blockAt (k .blocks .starts) (k .blocks .ends) i ≡ take 4 (drop (16 + 4 * i) s)
   unfolding c

@@ -43,15 +43,18 @@ pub record Collected (x : List ℕ) (n : ℕ) (w : Bool) (b : List ℕ) (r : ℕ
 
 -- ---- laws
 
+pub behind-long : (acc q : List ℕ) → length (behind acc q) ≡ up4 (length acc) + length q
+behind-long acc q =
+    let z : length (zeros (length acc)) ≡ up4 (length acc) - length acc = zeros-long (length acc) in
+    length-append acc (zeros (length acc) ++ q) ∙ omega (arith, length-append (zeros (length acc)) q)
+
 module _ (x : List ℕ) (n : ℕ) (w : Bool) (p : List ℕ) (h : n ≤ length x) where
-  behind-long : length (behind (take n x) (report w p)) ≡ up4 n + length (report w p)
-  behind-long =
-      let l : length (take n x) ≡ n = length-take-le n x h in
-      rw (length-append (take n x) (zeros (length (take n x)) ++ report w p), l, length-append (zeros n) (report w p), zeros-long n) (omega arith)
+  gathered-long : length (behind (take n x) (report w p)) ≡ up4 n + length (report w p)
+  gathered-long = behind-long (take n x) (report w p) ∙ ap (λ (j : ℕ). up4 j + length (report w p)) (length-take-le n x h)
 
   pub append-none : length x < up4 (up4 n + length (report w p)) → Appended x n w p n x
   unfolding fitted
-  append-none g = record { within = h; is = rw (behind-long, lt-ltb (length x) (up4 (up4 n + length (report w p))) g) }
+  append-none g = record { within = h; is = rw (gathered-long, lt-ltb (length x) (up4 (up4 n + length (report w p))) g) }
 
   pub append-all : {y z : List ℕ} → up4 (up4 n + length (report w p)) ≤ length x → y ≡ laid x n (zeros n) → z ≡ laid y (up4 n) (report w p)
       → Appended x n w p (up4 n + length (report w p)) z
@@ -67,7 +70,7 @@ module _ (x : List ℕ) (n : ℕ) (w : Bool) (p : List ℕ) (h : n ≤ length x)
       let b : take n x ++ v ≡ behind (take n x) (report w p) = ap (λ (i : ℕ). take n x ++ (zeros i ++ report w p)) (sym l) in
       record {
         within = omega (arith, ap length q, length-laid x n v);
-        is = rw (behind-long, le-ltb (length x) (up4 (up4 n + length (report w p))) g) (ap (λ (i : List ℕ). take (up4 n + length (report w p)) i) s ∙ take-at (take n x ++ v) (drop (n + length v) x) (up4 n + length (report w p)) k ∙ b);
+        is = rw (gathered-long, le-ltb (length x) (up4 (up4 n + length (report w p))) g) (ap (λ (i : List ℕ). take (up4 n + length (report w p)) i) s ∙ take-at (take n x ++ v) (drop (n + length v) x) (up4 n + length (report w p)) k ∙ b);
       }
 
 -- three fields one behind the other

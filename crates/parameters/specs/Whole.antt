@@ -2,15 +2,14 @@
 use Prim.Native.Nat.{ℕ, zero, suc, _+_, _-_, _%_, _<_, _≤_}
 use mathlib.Core.Path.{_≡_, refl, sym, ap, _∙_}
 use mathlib.Core.Bool.{Bool, true, false}
-use mathlib.Core.List.{List, [], _++_}
+use mathlib.Core.List.{List, []}
 use native.Mathlib.Decide.{decLt}
 use native.Mathlib.Omega.{arith}
 use borrow.Author.Tests.{le-ltb}
-use lib.ListN.{length, take, drop, length-append, length-drop}
+use lib.ListN.{length, take, drop, length-drop}
 use lib.Seq.{length-take-le}
 use Rattle.scans.specs.Scan.{pick}
-use Rattle.octets.specs.Bytes.{u16, up4, zeros}
-use Rattle.octets.specs.BytesLaws.{zeros-long}
+use Rattle.octets.specs.Bytes.{u16, up4}
 use Rattle.octets.specs.Walk.{size, overItems}
 use Rattle.octets.specs.WalkLaws.{size-is, size-least, size-four, over-on, over-end}
 use Rattle.chunks.specs.Frame.{ended}
@@ -20,12 +19,8 @@ use Rattle.chunks.specs.declared.kind.Handling.the-variants.{Stop, StopAndRepor
 use Rattle.parameters.specs.declared.parameter.Treatment.{Treatment}
 use Rattle.parameters.specs.declared.parameter.Treatment.the-variants.{Known, Unknown}
 use Rattle.parameters.specs.Parameter.{treated}
+use Rattle.parameters.specs.ReportLaws.{behind-long}
 use Rattle.parameters.specs.Report.{behind, fitted, Gathered, acted, judged, gatherOne, gatherAll, ROOM}
-
-behind-long : (acc q : List ℕ) → length (behind acc q) ≡ up4 (length acc) + length q
-behind-long acc q =
-    let z : length (zeros (length acc)) ≡ up4 (length acc) - length acc = zeros-long (length acc) in
-    length-append acc (zeros (length acc) ++ q) ∙ omega (arith, length-append (zeros (length acc)) q)
 
 -- what fits is put behind, whatever the room
 fitted-is : (room : ℕ) (acc q : List ℕ) → up4 (length (behind acc q)) ≤ room → fitted room acc q ≡ behind acc q
