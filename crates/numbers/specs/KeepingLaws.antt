@@ -245,7 +245,7 @@ pick-true false = refl
 flag-none : (cs : List Bool) (e : ℕ) → e ≡ 0 → flagOf cs e ≡ false
 flag-none cs e q = rw q
 
--- a number that comes: ahead of the point and not past the last offset, where four times the offsets are fewer than a circle
+-- the number comes: it is ahead of the point and not past the last offset, and four times the offsets are fewer than a circle
 pub record Comes (T : Numbering) (P : Profile) (k : Keeping) (t : ℕ) : Type 0 where
   pub point : On T (k .point .0)
   pub number : On T t
@@ -264,9 +264,7 @@ marked-out T P k t (inl z) = rw (lt-ltb (offsetOf T k t) 1 (omega arith))
 marked-out T P k t (inr h) = rw (le-ltb (offsetOf T k t) 1 (omega arith), lt-ltb (P .places) (offsetOf T k t) h)
 
 module _ {T : Numbering} {P : Profile} {k : Keeping} {t : ℕ} (w : Comes T P k t) where
-  abbrev d : ℕ
-  d = offsetOf T k t
-
+  -- the flags with the number's set, before the point moves
   abbrev cs : List Bool
   cs = set (k .come) (offsetOf T k t - 1) true
 
@@ -307,9 +305,6 @@ module _ {T : Numbering} {P : Profile} {k : Keeping} {t : ℕ} (w : Comes T P k 
   -- ---- of any number y
 
   module _ (y : ℕ) (hy : On T y) where
-    abbrev e : ℕ
-    e = offsetOf T (marked T P k t) y
-
     e-is : offsetOf T (marked T P k t) y ≡ forward (far T (on T (k .point .0) (movedBy T k t)) y)
     unfolding offsetOf
     e-is = ap (λ (p : Tsn). forward (far T (p .0) y)) marked-point
@@ -372,7 +367,7 @@ module _ {T : Numbering} {P : Profile} {k : Keeping} {t : ℕ} (w : Comes T P k 
     unfolding movedBy
     passed-come l h = sym flag-mid ∙ flag-run cs (offsetOf T k y) l h
 
-    -- ---- once known, known: until it lies ahead beyond every offset, half a circle behind the point
+    -- once known, known, as long as it does not lie ahead beyond every offset, as what is half a circle behind does
     pub known-stays : isKnown T k y ≡ true → offsetOf T (marked T P k t) y ≤ P .places → isKnown T (marked T P k t) y ≡ true
     known-stays q b = go (decLt (offsetOf T (marked T P k t) y) 1)
       where
@@ -384,7 +379,7 @@ module _ {T : Numbering} {P : Profile} {k : Keeping} {t : ℕ} (w : Comes T P k 
             let c : isCome T k y ≡ true = rw (le-ltb (offsetOf T k y) 1 (omega arith)) at q in
             rw (le-ltb (offsetOf T (marked T P k t) y) 1 l) (come-after ∙ rw (lt-ltb (movedBy T k t) (offsetOf T k y) (omega arith), c) (pick-true (eqb y t)))
 
-    -- nothing else becomes known than the number
+    -- and nothing becomes known but the number
     pub known-only : isKnown T (marked T P k t) y ≡ true → pick (eqb y t) true (isKnown T k y) ≡ true
     known-only q = go (decLt (offsetOf T k y) 1) (decLt (movedBy T k t) (offsetOf T k y))
       where
