@@ -16,8 +16,14 @@ use Rattle.scans.specs.Scan.{pick}
 use Rattle.scans.specs.Upto.{larger, pick-keeps}
 use Rattle.scans.specs.Each.{clash}
 use Rattle.numbers.specs.declared.circle.Tsn.{Tsn}
+use Rattle.numbers.specs.declared.circle.Distance.{Distance}
+use Rattle.numbers.specs.declared.circle.Distance.the-variants.{Ahead, Behind, Opposite}
+use Rattle.numbers.specs.declared.circle.Judgement.{Judgement}
+use Rattle.numbers.specs.declared.circle.Judgement.the-variants.{AtOrBehind, AheadWithin, AheadBeyond, AtOpposite}
 use Rattle.numbers.specs.declared.keeping.Keeping.{Keeping}
 use Rattle.numbers.specs.Numbering.{Numbering, ring, line, on, before, far}
+use Rattle.numbers.specs.Judgement.{judged}
+use Rattle.numbers.specs.JudgementLaws.{Says, judged-says}
 use Rattle.numbers.specs.Profile.{Profile, rail}
 use Rattle.numbers.specs.Come.{run, shift, highest}
 use Rattle.numbers.specs.ComeLaws.{run-le, run-at, run-ends, shift-at, length-shift, clear-at, highest-le, highest-least, highest-above, highest-marks, highest-shifts}
@@ -47,6 +53,25 @@ offset-far T k y = refl
 pub offset-alike : (T : Numbering) (k l : Keeping) (y : ℕ) → k .point ≡ l .point → offsetOf T k y ≡ offsetOf T l y
 unfolding offsetOf
 offset-alike T k l y e = ap (λ (p : Tsn). forward (far T (p .0) y)) e
+
+-- what a judgement against the point says of the offset
+abbrev pub OffsetSays : ℕ → ℕ → Judgement → Type 0
+OffsetSays room o AtOrBehind = o ≡ 0
+OffsetSays room o (AheadWithin d) = (o ≡ d) × (0 < d) × (d ≤ room)
+OffsetSays room o (AheadBeyond d) = (o ≡ d) × (0 < d) × (room < d)
+OffsetSays room o AtOpposite = o ≡ 0
+
+pub judged-offset : (T : Numbering) (k : Keeping) (room t : ℕ) (j : Judgement) → judged T (k .point .0) room t ≡ j → OffsetSays room (offsetOf T k t) j
+unfolding offsetOf
+judged-offset T k room t j e = go j (far T (k .point .0) t) (judged-says T (k .point .0) room t j e)
+  where
+    go : (j : Judgement) (x : Distance) → Says room x j → OffsetSays room (forward x) j
+    go AtOrBehind (Ahead d) w = w d refl
+    go AtOrBehind (Behind d) w = refl
+    go AtOrBehind Opposite w = refl
+    go (AheadWithin d) x w = (ap forward (w .0), w .1, w .2)
+    go (AheadBeyond d) x w = (ap forward (w .0), w .1, w .2)
+    go AtOpposite x w = ap forward w
 
 -- two numbers at one offset are one
 pub same-ahead : (T : Numbering) (k : Keeping) (t y : ℕ) → On T (k .point .0) → On T t → On T y → 0 < offsetOf T k t → offsetOf T k y ≡ offsetOf T k t → y ≡ t
