@@ -21,13 +21,14 @@ use Rattle.numbers.specs.declared.circle.Distance.the-variants.{Ahead, B
 use Rattle.numbers.specs.declared.circle.Judgement.{Judgement}
 use Rattle.numbers.specs.declared.circle.Judgement.the-variants.{AtOrBehind, AheadWithin, AheadBeyond, AtOpposite}
 use Rattle.numbers.specs.declared.keeping.Keeping.{Keeping}
+use Rattle.numbers.specs.Circle.{forward}
 use Rattle.numbers.specs.Numbering.{Numbering, ring, line, on, before, far}
 use Rattle.numbers.specs.Judgement.{judged}
 use Rattle.numbers.specs.JudgementLaws.{Says, judged-says}
 use Rattle.numbers.specs.Profile.{Profile, rail}
 use Rattle.numbers.specs.Come.{run, shift, highest}
 use Rattle.numbers.specs.ComeLaws.{run-le, run-at, run-ends, shift-at, length-shift, clear-at, highest-le, highest-least, highest-above, highest-marks, highest-shifts}
-use Rattle.numbers.specs.Keeping.{forward, fresh, offsetOf, isCome, settled, marked, listed, told, highestOf, keepingSound, Bounded}
+use Rattle.numbers.specs.Keeping.{fresh, offsetOf, isCome, settled, marked, listed, told, highestOf, keepingSound, Bounded}
 use Rattle.numbers.specs.Reach.{On, Short, short-le, on-On, on-behind, ahead-same, nearer, passed, was}
 
 -- ---- the bounds: the test says what the record says

@@ -10,8 +10,8 @@ use lib.Dec.{leb}
 use Rattle.scans.specs.Scan.{pick}
 use Rattle.numbers.specs.declared.circle.Distance.{Distance}
 use Rattle.numbers.specs.declared.circle.Distance.the-variants.{Ahead, Behind, Opposite}
+use Rattle.numbers.specs.Circle.{forward}
 use Rattle.numbers.specs.Numbering.{Numbering, ring, line, on, far, far-on, far-back, on-far, ahead-half}
-use Rattle.numbers.specs.Keeping.{forward}
 
 -- x is a number of this numbering
 abbrev pub On : Numbering → ℕ → Type 0
