@@ -3,4 +3,5 @@ pub mod Header
 pub mod HeaderLaws
 pub mod Shape
 pub mod ShapeLaws
+pub mod Body
 pub mod Checks
