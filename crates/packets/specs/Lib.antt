@@ -5,3 +5,4 @@ pub mod Shape
 pub mod ShapeLaws
 pub mod Body
 pub mod Checks
+pub mod BodyLaws

@@ -14,11 +14,9 @@ use Rattle.scans.specs.Scan.{pick}
 use Rattle.scans.specs.Each.{All, if-so, if-not, clash}
 use Rattle.octets.specs.Bytes.{u8, u16, up4}
 use Rattle.octets.specs.BytesLaws.{u16-append}
-use Rattle.octets.specs.Walk.{size, walk, firstItem, Whole}
-use Rattle.octets.specs.WalkLaws.{size-is, size-append, first-here, first-on, first-end}
-use Rattle.octets.specs.Tiling.{first-all, first-behind}
-use Rattle.octets.specs.Writing.{chunk}
-use Rattle.octets.specs.WritingLaws.{chunk-length, length-chunk}
+use Rattle.octets.specs.Walk.{size, walkBy, walk, firstItem}
+use Rattle.octets.specs.WalkLaws.{size-is, size-append, walk-budget, first-on, first-end}
+use Rattle.octets.specs.Tiling.{walk-few, first-all, first-behind}
 use Rattle.packets.specs.Shape.{least, alone, misplaced, tiled, params, counted, filled, ill, shapeNumber}
 
 -- ---- what is accepted
@@ -57,6 +55,13 @@ pub shape-none : (s : List ℕ) → length s ≤ 12 → 0 ≡ shapeNumber s
 unfolding shapeNumber
 shape-none s h =
     rw (first-end ill s 12 h, le-ltb (length s) (length s) (omega arith), le-ltb (12 + size (drop 12 s)) (length s) (omega arith))
+
+-- a packet has at most 365 chunks: the walk is a run with that budget
+pub chunks-few : (s : List ℕ) → length s ≤ 1472 → length (walk s 12) ≤ 365
+chunks-few s h = walk-few 365 s 12 (omega arith)
+
+pub chunks-by : (s : List ℕ) → length s ≤ 1472 → walk s 12 ≡ walkBy 365 s 12
+chunks-by s h = walk-budget 365 s 12 (omega arith)
 
 -- no chunk of a packet that passes is ill
 pub shape-sound : (s : List ℕ) → shapeNumber s ≡ 0 → All (λ (k : ℕ). ill (drop k s) ≡ false) (walk s 12)
