@@ -23,9 +23,13 @@ const SHUTDOWN_COMPLETE: u8 = 14;
 
 // Their fixed fields.
 const DATA_LEAST: u16 = 16;
+
 const INIT_LEAST: u16 = 20;
+
 const SACK_LEAST: u16 = 16;
+
 const SHUTDOWN_LEAST: u16 = 8;
+
 const OTHER_LEAST: u16 = 4;
 
 fn least(k: u8) -> u16
