@@ -100,7 +100,7 @@ fn show(s: &[u8]) {
     }
 }
 
-fn sizes() {
+fn small_sizes() {
     size(0, 2);
     size(12, 2);
     size(15, 2);
@@ -108,6 +108,9 @@ fn sizes() {
     size(17, 2);
     size(18, 2);
     size(19, 2);
+}
+
+fn large_sizes() {
     size(20, 0);
     size(1471, 2);
     size(1472, 0);
@@ -115,25 +118,38 @@ fn sizes() {
     size(1476, 2);
 }
 
-fn leasts() {
+// One byte less than each type's least, and its least.
+fn data_leasts() {
     one(b"DATA", 0, 15, 28, 5);
     one(b"DATA", 0, 16, 28, 0);
     one(b"INIT", 1, 19, 32, 5);
     one(b"INIT", 1, 20, 32, 0);
+}
+
+fn ack_leasts() {
     one(b"INIT ACK", 2, 19, 32, 5);
     one(b"INIT ACK", 2, 20, 32, 0);
     one(b"SACK", 3, 15, 28, 5);
     one(b"SACK", 3, 16, 28, 0);
+}
+
+fn control_leasts() {
     one(b"HEARTBEAT", 4, 3, 16, 5);
     one(b"HEARTBEAT", 4, 4, 16, 0);
     one(b"HEARTBEAT ACK", 5, 3, 16, 5);
     one(b"HEARTBEAT ACK", 5, 4, 16, 0);
     one(b"ABORT", 6, 3, 16, 5);
     one(b"ABORT", 6, 4, 16, 0);
+}
+
+fn shutdown_leasts() {
     one(b"SHUTDOWN", 7, 7, 20, 5);
     one(b"SHUTDOWN", 7, 8, 20, 0);
     one(b"SHUTDOWN ACK", 8, 3, 16, 5);
     one(b"SHUTDOWN ACK", 8, 4, 16, 0);
+}
+
+fn cookie_leasts() {
     one(b"ERROR", 9, 3, 16, 5);
     one(b"ERROR", 9, 4, 16, 0);
     one(b"COOKIE ECHO", 10, 3, 16, 5);
@@ -142,6 +158,9 @@ fn leasts() {
     one(b"COOKIE ACK", 11, 4, 16, 0);
     one(b"SHUTDOWN COMPLETE", 14, 3, 16, 5);
     one(b"SHUTDOWN COMPLETE", 14, 4, 16, 0);
+}
+
+fn unknown_leasts() {
     one(b"type 63", 63, 0, 16, 5);
     one(b"type 63", 63, 3, 16, 5);
     one(b"type 63", 63, 4, 16, 0);
@@ -150,7 +169,7 @@ fn leasts() {
 }
 
 // Chunks that go past the packet by 1 and by 4, that end with it, and that leave tails 01 has no number for.
-fn pasts() {
+fn short_pasts() {
     one(b"DATA in 16 bytes", 0, 17, 28, 5);
     one(b"DATA in 16 bytes", 0, 20, 28, 5);
     one(b"DATA in 20 bytes", 0, 17, 32, 0);
@@ -159,6 +178,9 @@ fn pasts() {
     one(b"COOKIE ECHO in 8 bytes", 10, 5, 20, 0);
     one(b"COOKIE ECHO in 8 bytes", 10, 8, 20, 0);
     one(b"COOKIE ECHO in 8 bytes", 10, 9, 20, 5);
+}
+
+fn long_pasts() {
     one(b"COOKIE ECHO in 8 bytes", 10, 12, 20, 5);
     one(b"type 193 in 8 bytes", 193, 9, 20, 5);
     one(b"type 193 in 8 bytes", 193, 65535, 20, 5);
@@ -170,7 +192,7 @@ fn pasts() {
 }
 
 // An INIT of tag 1, window 65,536, 4 and 8 streams, TSN 11, and parameters.
-fn parameters() {
+fn parameter_lengths() {
     chunks(
         b"INIT, parameter of 0",
         b"\x01\x00\x00\x18\x00\x00\x00\x01\x00\x01\x00\x00\x00\x04\x00\x08\x00\x00\x00\x0b\x80\x00\x00\x00",
@@ -196,6 +218,9 @@ fn parameters() {
         b"\x01\x00\x00\x18\x00\x00\x00\x01\x00\x01\x00\x00\x00\x04\x00\x08\x00\x00\x00\x0b\x80\x00\x00\x04",
         0,
     );
+}
+
+fn parameter_ends() {
     chunks(
         b"INIT of 28, parameter of 8",
         b"\x01\x00\x00\x1c\x00\x00\x00\x01\x00\x01\x00\x00\x00\x04\x00\x08\x00\x00\x00\x0b\x00\x05\x00\x08\x7f\x00\x00\x01",
@@ -211,6 +236,9 @@ fn parameters() {
         b"\x01\x00\x00\x1c\x00\x00\x00\x01\x00\x01\x00\x00\x00\x04\x00\x08\x00\x00\x00\x0b\x00\x05\x00\x09\x7f\x00\x00\x01",
         5,
     );
+}
+
+fn parameter_paddings() {
     chunks(
         b"INIT of 25, parameter of 5, its padding not counted",
         b"\x01\x00\x00\x19\x00\x00\x00\x01\x00\x01\x00\x00\x00\x04\x00\x08\x00\x00\x00\x0b\x00\x07\x00\x05\x63\x00\x00\x00",
@@ -332,7 +360,7 @@ fn bundles() {
 }
 
 // Unknown types of the four kinds, first, between and last: the walk goes on behind each, whatever its high bits say.
-fn unknowns() {
+fn stop_types() {
     chunks(
         b"63, 11, 11",
         b"\x3f\x00\x00\x04\x0b\x00\x00\x04\x0b\x00\x00\x04",
@@ -363,6 +391,9 @@ fn unknowns() {
         b"\x0b\x00\x00\x04\x0b\x00\x00\x04\x7f\x00\x00\x04",
         0,
     );
+}
+
+fn skip_types() {
     chunks(
         b"191, 11, 11",
         b"\xbf\x00\x00\x04\x0b\x00\x00\x04\x0b\x00\x00\x04",
@@ -393,6 +424,9 @@ fn unknowns() {
         b"\x0b\x00\x00\x04\x0b\x00\x00\x04\xff\x00\x00\x04",
         0,
     );
+}
+
+fn behind_types() {
     chunks(b"63, 11 of 3", b"\x3f\x00\x00\x04\x0b\x00\x00\x03", 5);
     chunks(b"63, 14", b"\x3f\x00\x00\x04\x0e\x00\x00\x04", 6);
     chunks(
@@ -414,7 +448,7 @@ fn budgets() {
 }
 
 // Ports 5,000 and 10,000, tag 0x12345678, the checksum worked out bit by bit.
-fn packets_of_bytes() {
+fn packet_checksums() {
     whole(
         b"COOKIE ACK",
         b"\x13\x88\x27\x10\x12\x34\x56\x78\xf3\x28\xf2\x3f\x0b\x00\x00\x04",
@@ -445,6 +479,9 @@ fn packets_of_bytes() {
         b"\x13\x88\x27\x10\x12\x34\x56\x78\xf3\x28\xf2\x3f\x0b\x00\x00",
         2,
     );
+}
+
+fn packet_chunks() {
     whole(
         b"DATA of 17",
         b"\x13\x88\x27\x10\x12\x34\x56\x78\x75\xc3\x07\x8f\x00\x03\x00\x11\xff\xff\xff\xfe\x00\x01\x00\x02\x00\x00\x00\x33\x61\x00\x00\x00",
@@ -500,14 +537,26 @@ fn headers() {
 }
 
 fn main() {
-    sizes();
-    leasts();
-    pasts();
-    parameters();
+    small_sizes();
+    large_sizes();
+    data_leasts();
+    ack_leasts();
+    control_leasts();
+    shutdown_leasts();
+    cookie_leasts();
+    unknown_leasts();
+    short_pasts();
+    long_pasts();
+    parameter_lengths();
+    parameter_ends();
+    parameter_paddings();
     counts();
     bundles();
-    unknowns();
+    stop_types();
+    skip_types();
+    behind_types();
     budgets();
-    packets_of_bytes();
+    packet_checksums();
+    packet_chunks();
     headers();
 }
