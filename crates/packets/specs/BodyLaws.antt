@@ -1,20 +1,17 @@
 -- Chunks as writers leave them are sound, and a packet made of them passes the checks 2, 3, 5 and 6. Assumes nothing.
-use Prim.Native.Nat.{ℕ, _+_, _-_, _*_, _%_, _<_, _≤_}
+use Prim.Native.Nat.{ℕ, _+_, _-_, _*_, _%_, _≤_}
 use mathlib.Core.Path.{_≡_, refl, sym, ap, _∙_}
 use mathlib.Core.Bool.{Bool, true, false}
 use mathlib.Core.List.{List, [], _∷_, _++_, append-nil}
 use native.Mathlib.Omega.{arith}
-use borrow.Author.Tests.{lt-ltb, le-ltb, eq-eqb, ne-eqb}
-use lib.Dec.{ltb, eqb}
+use borrow.Author.Tests.{le-ltb, eq-eqb, ne-eqb}
+use lib.Dec.{ltb}
 use lib.ListN.{length, take, drop, length-append, length-drop}
 use lib.Seq.{take-at, drop-append-le}
 use Rattle.scans.specs.Scan.{pick}
 use Rattle.scans.specs.Each.{All, all-map}
-use Rattle.crc32c.specs.Crc.{packetCrc}
 use Rattle.crc32c.specs.Field.{sealed}
-use Rattle.crc32c.specs.FieldLaws.{length-with, sealed-with, behind-field}
 use Rattle.octets.specs.Bytes.{u8, u16, up4, zeros}
-use Rattle.octets.specs.BytesLaws.{drop-take}
 use Rattle.octets.specs.Walk.{size, joined, Whole}
 use Rattle.octets.specs.WalkLaws.{size-four}
 use Rattle.octets.specs.Tiling.{joined-end, joined-size, first-joined}
@@ -22,8 +19,8 @@ use Rattle.octets.specs.Writing.{chunk}
 use Rattle.octets.specs.WritingLaws.{chunk-length, chunk-size, length-chunk}
 use Rattle.packets.specs.declared.header.Header.{Header}
 use Rattle.packets.specs.Shape.{least, alone, tiled, params, counted, filled, ill, shapeNumber}
-use Rattle.packets.specs.ShapeLaws.{not-ill, least-four, shape-none, ill-append, alone-append}
-use Rattle.packets.specs.Header.{headed, summed, sealBytes}
+use Rattle.packets.specs.ShapeLaws.{not-ill, shape-none, ill-append, alone-append}
+use Rattle.packets.specs.Header.{sealBytes}
 use Rattle.packets.specs.HeaderLaws.{seal-front, seal-rest, sealed-long}
 use Rattle.packets.specs.Checks.{sizeNumber, sumNumber, packetNumber}
 use Rattle.packets.specs.Body.{Sound, Together}

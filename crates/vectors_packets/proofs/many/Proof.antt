@@ -5,11 +5,6 @@ use borrow.Author.Needs.{needs}
 use Prim.Native.Nat.{_-_}
 use Rattle.vectors_packets.proofs.many.Statement.{statement}
 use Rattle.vectors_packets.proofs.many.Tie as tie
-use Rattle.vectors_packets.proofs.many.Reads as reads
-use Rattle.vectors_packets.proofs.many.Lts as lts
-use Rattle.octets.proofs.put_all.Reads as put-all-reads
-use Rattle.packets.proofs.check_shape.Reads as check-shape-reads
-use Rattle.vectors_packets.proofs.line.Reads as line-reads
 
 abbrev Inv-loop : tie.InvT-loop
 Inv-loop name last should buf₀ at₀ t6 buf at = length buf ≡ 1472
@@ -17,59 +12,45 @@ Inv-loop name last should buf₀ at₀ t6 buf at = length buf ≡ 1472
 abbrev μ-loop : tie.MeasureT-loop
 μ-loop name last should buf₀ at₀ t6 buf at = 1472 - at
 
--- src/main.rt:60:5
 loop-holds : tie.Need-loop-holds Inv-loop μ-loop
 loop-holds c = search needs
 
--- src/main.rt:61:17
 slice-aggregate-put-all : tie.Need-slice-aggregate-put-all Inv-loop μ-loop
 slice-aggregate-put-all c = search needs
 
--- src/main.rt:61:31
 slice-aggregate-put-all-2 : tie.Need-slice-aggregate-put-all-2 Inv-loop μ-loop
 slice-aggregate-put-all-2 c = search needs
 
--- src/main.rt:61:9
 put-all-requires : tie.Need-put-all-requires Inv-loop μ-loop
 put-all-requires c κs = search needs
 
--- src/main.rt:62:9
 add-at : tie.Need-add-at Inv-loop μ-loop
 add-at c = search needs
 
--- src/main.rt:60:5
 loop-less : tie.Need-loop-less Inv-loop μ-loop
 loop-less c = search needs
 
--- src/main.rt:60:5
 loop-again : tie.Need-loop-again Inv-loop μ-loop
 loop-again c = search (needs, length-laid)
 
--- src/main.rt:64:13
 slice-aggregate-put-all-3 : tie.Need-slice-aggregate-put-all-3 Inv-loop μ-loop
 slice-aggregate-put-all-3 c = search needs
 
--- src/main.rt:64:5
 put-all-requires-2 : tie.Need-put-all-requires-2 Inv-loop μ-loop
 put-all-requires-2 c κs = search needs
 
--- src/main.rt:65:37
 slice-aggregate-check-shape : tie.Need-slice-aggregate-check-shape Inv-loop μ-loop
 slice-aggregate-check-shape c = search needs
 
--- src/main.rt:65:16
 check-shape-requires : tie.Need-check-shape-requires Inv-loop μ-loop
 check-shape-requires c κs = search needs
 
--- src/main.rt:65:16
 cast-line : tie.Need-cast-line Inv-loop μ-loop
 cast-line c = search needs
 
--- src/main.rt:65:5
 line-requires : tie.Need-line-requires Inv-loop μ-loop
 line-requires c κs = search needs
 
--- src/main.rt:57:1
 returns : tie.Need-returns Inv-loop μ-loop
 returns c = search needs
 
