@@ -2,16 +2,17 @@
 use Prim.Native.Nat.{ℕ, _+_, _-_, _*_, _%_, _≤_}
 use mathlib.Core.Path.{_≡_, refl, sym, ap, _∙_}
 use mathlib.Core.Bool.{Bool, true, false}
-use mathlib.Core.List.{List, [], _∷_, _++_, append-nil}
+use mathlib.Core.List.{List, [], _∷_, _++_, append-nil, append-assoc}
 use native.Mathlib.Omega.{arith}
 use borrow.Author.Tests.{le-ltb, eq-eqb, ne-eqb}
 use lib.Dec.{ltb}
 use lib.ListN.{length, take, drop, length-append, length-drop}
-use lib.Seq.{take-at, drop-append-le}
+use lib.Seq.{take-at, drop-append-le, length-take-le}
 use Rattle.scans.specs.Scan.{pick}
 use Rattle.scans.specs.Each.{All, all-map}
 use Rattle.crc32c.specs.Field.{sealed}
-use Rattle.octets.specs.Bytes.{u8, u16, up4, zeros}
+use Rattle.octets.specs.Bytes.{u8, u16, up4, zeros, laid}
+use Rattle.octets.specs.BytesLaws.{drop-take, laid-is}
 use Rattle.octets.specs.Walk.{size, joined, Whole}
 use Rattle.octets.specs.WalkLaws.{size-four}
 use Rattle.octets.specs.Tiling.{joined-end, joined-size, first-joined}
@@ -100,6 +101,32 @@ body-passes (c ∷ d ∷ cs) s w t e =
     apart : (xs : List (List ℕ)) → All Sound xs → All (λ (x : List ℕ). alone x ≡ false) xs → All (λ (x : List ℕ). (rest : List ℕ) → alone (x ++ rest) ≡ false) xs
     apart [] u v = tt
     apart (x ∷ xs) u v = ((λ rest. alone-append x rest (u .0 .whole .some) ∙ v .0), apart xs (u .1) (v .1))
+
+-- ---- chunks gathered in an output, one behind the other, from byte 12 on
+
+module _ {A : Type 0} (P : A → Type 0) where
+  pub all-snoc : (xs : List A) (x : A) → All P xs → P x → All P (xs ++ x ∷ [])
+  all-snoc [] x w h = (h, tt)
+  all-snoc (y ∷ xs) x w h = (w .0, all-snoc xs x (w .1) h)
+
+joined-snoc : (cs : List (List ℕ)) (c : List ℕ) → joined (cs ++ c ∷ []) ≡ joined cs ++ c
+joined-snoc [] c = append-nil c
+joined-snoc (d ∷ cs) c = ap (λ (l : List ℕ). d ++ l) (joined-snoc cs c) ∙ sym (append-assoc d (joined cs) c)
+
+pub gathered-none : (out : List ℕ) → drop 12 (take 12 out) ≡ joined []
+gathered-none out = drop-take 12 0 out
+
+-- a writer of c at `at`, where c fits
+pub gathered-more : (cs : List (List ℕ)) (c out : List ℕ) (at : ℕ) → 12 ≤ at → at + length c ≤ length out → drop 12 (take at out) ≡ joined cs
+    → drop 12 (take (at + length c) (laid out at c)) ≡ joined (cs ++ c ∷ [])
+gathered-more cs c out at l m e =
+    let f : length (take at out) ≡ at = length-take-le at out (omega arith) in
+    let n : length (take at out ++ c) ≡ at + length c = length-append (take at out) c ∙ ap (λ (k : ℕ). k + length c) f in
+    ap (λ (s : List ℕ). drop 12 (take (at + length c) s)) (laid-is c out at m)
+    ∙ ap (λ (s : List ℕ). drop 12 s) (take-at (take at out ++ c) (drop (at + length c) out) (at + length c) n)
+    ∙ drop-append-le 12 (take at out) c (omega arith)
+    ∙ ap (λ (s : List ℕ). s ++ c) e
+    ∙ sym (joined-snoc cs c)
 
 -- ---- "a written packet passes checks 2, 3, 5, 6"
 
