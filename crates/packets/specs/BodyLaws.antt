@@ -5,11 +5,11 @@ use mathlib.Core.Bool.{Bool, true, false}
 use mathlib.Core.List.{List, [], _∷_, _++_, append-nil, append-assoc}
 use native.Mathlib.Omega.{arith}
 use borrow.Author.Tests.{le-ltb, eq-eqb, ne-eqb}
-use lib.Dec.{ltb}
+use lib.Dec.{ltb, eqb}
 use lib.ListN.{length, take, drop, length-append, length-drop}
 use lib.Seq.{take-at, drop-append-le, length-take-le}
 use Rattle.scans.specs.Scan.{pick}
-use Rattle.scans.specs.Each.{All, all-map}
+use Rattle.scans.specs.Each.{All, all-map, clash}
 use Rattle.crc32c.specs.Field.{sealed}
 use Rattle.octets.specs.Bytes.{u8, u16, up4, zeros, laid}
 use Rattle.octets.specs.BytesLaws.{drop-take, laid-is}
@@ -68,6 +68,53 @@ filled-sack s e t = rw (e, eq-eqb (u16 s 2) (16 + 4 * (u16 s 12 + u16 s 14)) t)
 pub filled-plain : (s : List ℕ) → (u8 s 0 ≡ 1 → ⊥) → (u8 s 0 ≡ 2 → ⊥) → (u8 s 0 ≡ 3 → ⊥) → filled s ≡ true
 unfolding filled
 filled-plain s a b c = rw (ne-eqb (u8 s 0) 1 a, ne-eqb (u8 s 0) 2 b, ne-eqb (u8 s 0) 3 c)
+
+-- ---- a chunk of type k, flags f and value v
+
+abbrev pub plain : ℕ → Bool
+plain k =
+    pick (eqb k 0) false (pick (eqb k 1) false (pick (eqb k 2) false (pick (eqb k 3) false (pick (eqb k 7) false true))))
+
+-- all types but DATA, INIT, INIT ACK, SACK and SHUTDOWN
+pub plain-sound : (k f : ℕ) (v : List ℕ) → plain k ≡ true → Sound (chunk k f (4 + length v) v)
+unfolding least filled
+plain-sound k f v = go (eqb k 0) refl (eqb k 1) refl (eqb k 2) refl (eqb k 3) refl (eqb k 7) refl
+  where
+    go : (a : Bool) → eqb k 0 ≡ a → (b : Bool) → eqb k 1 ≡ b → (c : Bool) → eqb k 2 ≡ c → (d : Bool) → eqb k 3 ≡ d → (e : Bool) → eqb k 7 ≡ e
+        → pick a false (pick b false (pick c false (pick d false (pick e false true)))) ≡ true → Sound (chunk k f (4 + length v) v)
+    go true p b q c r d s e t h = clash h
+    go false p true q c r d s e t h = clash h
+    go false p false q true r d s e t h = clash h
+    go false p false q false r true s e t h = clash h
+    go false p false q false r false s true t h = clash h
+    go false p false q false r false s false t h =
+        chunk-sound k f (4 + length v) v refl (rw (p, q, r, s, t) (omega arith)) (rw (q, r, s))
+
+pub data-sound : (f : ℕ) (v : List ℕ) → 12 ≤ length v → Sound (chunk 0 f (4 + length v) v)
+unfolding least filled
+data-sound f v h = chunk-sound 0 f (4 + length v) v refl (omega arith) refl
+
+pub shutdown-sound : (f : ℕ) (v : List ℕ) → 4 ≤ length v → Sound (chunk 7 f (4 + length v) v)
+unfolding least filled
+shutdown-sound f v h = chunk-sound 7 f (4 + length v) v refl (omega arith) refl
+
+-- INIT and INIT ACK: 16 bytes of fields, and parameters that tile
+pub init-sound : (f : ℕ) (v : List ℕ) → 16 ≤ length v → tiled (drop 16 v) ≡ true → Sound (chunk 1 f (4 + length v) v)
+unfolding least
+init-sound f v h t =
+    chunk-sound 1 f (4 + length v) v refl (omega arith) (filled-init (chunk 1 f (4 + length v) v) refl (ap tiled (params-chunk 1 f (4 + length v) v refl h) ∙ t))
+
+pub init-ack-sound : (f : ℕ) (v : List ℕ) → 16 ≤ length v → tiled (drop 16 v) ≡ true → Sound (chunk 2 f (4 + length v) v)
+unfolding least
+init-ack-sound f v h t =
+    chunk-sound 2 f (4 + length v) v refl (omega arith) (filled-ack (chunk 2 f (4 + length v) v) refl (ap tiled (params-chunk 2 f (4 + length v) v refl h) ∙ t))
+
+-- SACK: its value counts what fills it
+pub sack-sound : (f : ℕ) (v : List ℕ) → 12 ≤ length v → length v ≡ 12 + 4 * (u16 (chunk 3 f (4 + length v) v) 12 + u16 (chunk 3 f (4 + length v) v) 14)
+    → Sound (chunk 3 f (4 + length v) v)
+unfolding least
+sack-sound f v h e =
+    chunk-sound 3 f (4 + length v) v refl (omega arith) (filled-sack (chunk 3 f (4 + length v) v) refl (said 3 f (4 + length v) v refl ∙ omega (arith, e)))
 
 -- ---- the chunks of a packet
 
