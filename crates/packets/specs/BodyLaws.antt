@@ -12,19 +12,19 @@ use Rattle.scans.specs.Scan.{pick}
 use Rattle.scans.specs.Each.{All, all-map, clash}
 use Rattle.crc32c.specs.Field.{sealed}
 use Rattle.octets.specs.Bytes.{u8, u16, up4, zeros, laid}
-use Rattle.octets.specs.BytesLaws.{drop-take, laid-is}
+use Rattle.octets.specs.BytesLaws.{drop-take, laid-is, laid-nil, length-laid}
 use Rattle.octets.specs.Walk.{size, joined, Whole}
 use Rattle.octets.specs.WalkLaws.{size-four}
 use Rattle.octets.specs.Tiling.{joined-end, joined-size, first-joined}
-use Rattle.octets.specs.Writing.{chunk}
-use Rattle.octets.specs.WritingLaws.{chunk-length, chunk-size, length-chunk}
+use Rattle.octets.specs.Writing.{chunk, wroteCount, wroteAt}
+use Rattle.octets.specs.WritingLaws.{chunk-length, chunk-size, length-chunk, WroteAt, stayed, written, wrote-at}
 use Rattle.packets.specs.declared.header.Header.{Header}
 use Rattle.packets.specs.Shape.{least, alone, tiled, params, counted, filled, ill, shapeNumber}
 use Rattle.packets.specs.ShapeLaws.{not-ill, shape-none, ill-append, alone-append}
 use Rattle.packets.specs.Header.{sealBytes}
 use Rattle.packets.specs.HeaderLaws.{seal-front, seal-rest, sealed-long}
 use Rattle.packets.specs.Checks.{sizeNumber, sumNumber, packetNumber}
-use Rattle.packets.specs.Body.{Sound, Together}
+use Rattle.packets.specs.Body.{Sound, Together, Sendable, nothing, chunk-of, Laden}
 
 -- ---- a chunk as a writer leaves it
 
@@ -174,6 +174,30 @@ gathered-more cs c out at l m e =
     ∙ drop-append-le 12 (take at out) c (omega arith)
     ∙ ap (λ (s : List ℕ). s ++ c) e
     ∙ sym (joined-snoc cs c)
+
+-- an output is laden from the start, and stays so whatever writer of a chunk comes next
+pub laden-none : (out : List ℕ) → 12 ≤ length out → Laden 12 out
+laden-none out h = record { chunks = []; sound = tt; begun = omega arith; within = h; is = gathered-none out }
+
+pub laden-more : (used : ℕ) (out bs : List ℕ) → Laden used out → Sendable bs → Laden (used + wroteCount (drop used out) bs) (wroteAt out used bs)
+laden-more used out bs w s = go s (wrote-at out used bs)
+  where
+    same : (n : ℕ) (x : List ℕ) → n ≡ 0 → x ≡ out → Laden (used + n) x
+    same n x p q = let z : used + n ≡ used = omega arith in rw (z, q) w
+
+    go : {n : ℕ} {x : List ℕ} → Sendable bs → WroteAt out used bs n x → Laden (used + n) x
+    go {n} {x} t (stayed p q) = same n x p q
+    go {n} {x} (nothing e) (written h p q) =
+        same n x (p ∙ ap length e) (q ∙ ap (laid out used) e ∙ laid-nil out used)
+    go {n} {x} (chunk-of f) (written h p q) =
+        rw (p, q)
+        record {
+          chunks = w .chunks ++ bs ∷ [];
+          sound = all-snoc Sound (w .chunks) bs (w .sound) f;
+          begun = omega (arith, w .begun);
+          within = omega (arith, w .within, length-laid out used bs);
+          is = gathered-more (w .chunks) bs out used (w .begun) (omega (arith, w .within)) (w .is);
+        }
 
 -- ---- "a written packet passes checks 2, 3, 5, 6"
 
