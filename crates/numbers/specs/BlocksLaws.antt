@@ -269,15 +269,14 @@ paired-maps : (bs : List Block) → paired (map (λ (b : Block). b .from) bs) (m
 paired-maps [] = refl
 paired-maps (b ∷ bs) = rw (paired-maps bs)
 
-take-padded : (n : ℕ) (xs : List ℕ) (m : ℕ) → length xs ≡ m → take m (padded n xs) ≡ xs
-take-padded n xs m e = take-at xs (replicate (n - length xs) 0) m e
+take-padded : (n : ℕ) (f : Block → ℕ) (bs : List Block) → take (length bs) (padded n (map f bs)) ≡ map f bs
+take-padded n f bs = take-at (map f bs) (replicate (n - length (map f bs)) 0) (length bs) (length-map bs f)
 
 pub blocks-listed : (P : Profile) (k : Keeping) → listedIn (blocksOf P k) ≡ runs (k .come)
 unfolding blocksOf laidOut listedIn
 blocks-listed P k =
     let bs : List Block = runs (k .come) in
-    rw (take-padded (P .places / 2) (map (λ (b : Block). b .from) bs) (length bs) (length-map bs (λ (b : Block). b .from)), take-padded (P .places / 2) (map (λ (b : Block). b .to) bs) (length bs) (length-map bs (λ (b : Block). b .to)))
-    (paired-maps bs)
+    rw (take-padded (P .places / 2) (λ (b : Block). b .from) bs, take-padded (P .places / 2) (λ (b : Block). b .to) bs) (paired-maps bs)
 
 pub blocks-count : (P : Profile) (k : Keeping) → blocksOf P k .count ≡ length (runs (k .come))
 unfolding blocksOf laidOut

@@ -191,15 +191,19 @@ module _ (T : Numbering) (k : Keeping) (hp : On T (k .point .0)) where
   pigeon cs [] w s = zero-le
   pigeon cs (t ∷ ts) w s = go (flagOf cs (offsetOf T k t)) refl (λ ds. pigeon ds ts (w .1) (s .1))
     where
+      apart-at : (y : ℕ) → On T y → (y ≡ t → ⊥) → 0 < offsetOf T k t → offsetOf T k y ≡ offsetOf T k t → ⊥
+      apart-at y hy n l x = n (same-ahead T k t y hp (w .0) hy l x)
+
       go : (b : Bool) → flagOf cs (offsetOf T k t) ≡ b
           → ((ds : List Bool) → count (λ (y : ℕ). flagOf ds (offsetOf T k y)) ts ≤ count flag ds)
           → tick b (count (λ (y : ℕ). flagOf cs (offsetOf T k y)) ts) ≤ count flag cs
       go false q ih = ih cs
       go true q ih =
           let v = flag-inv cs (offsetOf T k t) q in
-          let e : count (λ (y : ℕ). flagOf cs (offsetOf T k y)) ts ≡ count (λ (y : ℕ). flagOf (set cs (offsetOf T k t - 1) false) (offsetOf T k y)) ts
-          = count-alike _ _ ts (all-both (λ y hy n. other-flag cs (offsetOf T k t) (offsetOf T k y) (v .0) (λ x. n (same-ahead T k t y hp (w .0) hy (v .0) x))) ts (w .1) (apart t ts (s .0))) in
-          omega (arith, e, clear-one cs (offsetOf T k t - 1) (v .1), ih (set cs (offsetOf T k t - 1) false))
+          let ds : List Bool = set cs (offsetOf T k t - 1) false in
+          let e : count (λ (y : ℕ). flagOf cs (offsetOf T k y)) ts ≡ count (λ (y : ℕ). flagOf ds (offsetOf T k y)) ts
+          = count-alike _ _ ts (all-both (λ y hy n. other-flag cs (offsetOf T k t) (offsetOf T k y) (v .0) (apart-at y hy n (v .0))) ts (w .1) (apart t ts (s .0))) in
+          omega (arith, e, clear-one cs (offsetOf T k t - 1) (v .1), ih ds)
 
   -- a number that is to come: fewer than n are held
   pub has-room : (n t : ℕ) (ts : List ℕ) → All (On T) ts → Distinct ts → 0 < offsetOf T k t → isCome T k t ≡ false
@@ -211,7 +215,8 @@ module _ (T : Numbering) (k : Keeping) (hp : On T (k .point .0)) where
       omega
       (arith, late-come T k ts, pigeon (k .come) ts w s, hole-count (k .come) m (offsetOf T k t - 1) (λ j h. highest-below (k .come) j (omega arith)) (omega arith) z)
 
-module _ {T : Numbering} {P : Profile} {k : Keeping} {t : ℕ} (w : Comes T P k t) (ts : List ℕ) (hs : All (On T) ts) (s : Distinct ts) (new : isAmong t ts ≡ false) where
+module _ {T : Numbering} {P : Profile} {k : Keeping} {t : ℕ} (w : Comes T P k t)
+    (ts : List ℕ) (hs : All (On T) ts) (s : Distinct ts) (new : isAmong t ts ≡ false) where
   -- the number held with the others: no more are late than were, and the steps that the point moved
   pub late-after : count (isLate T (marked T P k t)) (t ∷ ts) ≤ count (isLate T k) ts + movedBy T k t
   late-after =
