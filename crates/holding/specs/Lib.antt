@@ -1,0 +1,4 @@
+-- Held chunks, the messages among them, and a take.
+pub mod Held
+pub mod Message
+pub mod MessageLaws
