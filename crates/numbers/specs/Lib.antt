@@ -6,3 +6,4 @@ pub mod Judgement
 pub mod Profile
 pub mod Come
 pub mod Keeping
+pub mod Blocks
