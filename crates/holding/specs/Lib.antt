@@ -2,3 +2,5 @@
 pub mod Held
 pub mod Message
 pub mod MessageLaws
+pub mod Taking
+pub mod TakingLaws

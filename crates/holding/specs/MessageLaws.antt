@@ -111,7 +111,7 @@ tried T P hs point best i h =
 -- ---- the loop over the places: the struct is the rules' choice
 
 -- a whole run begins with its place
-abbrev Heads : ℕ → Run → Type 0
+abbrev pub Heads : ℕ → Run → Type 0
 Heads i broken = Unit
 Heads i (whole is) = (js : List ℕ) × (is ≡ i ∷ js)
 

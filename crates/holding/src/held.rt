@@ -71,6 +71,13 @@ impl Held {
         }
     }
 
+    // How many bytes its payload has.
+    pub fn bytes(self) -> usize
+        ensures { λ n. ⌜ (n ≡ self .len) × (n ≤ 65535) ⌝ }
+    {
+        self.len as usize
+    }
+
     // Whether it is the chunk of the number.
     pub fn is_of(self, tsn: Tsn) -> bool
         ensures { λ y. ⌜ y ≡ holds (tsn .0) self ⌝ }
