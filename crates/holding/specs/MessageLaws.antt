@@ -21,7 +21,7 @@ use Rattle.holding.specs.declared.held.Held.{Held}
 use Rattle.holding.specs.declared.message.Best.{Best}
 use Rattle.holding.specs.declared.message.Places.{Places}
 use Rattle.holding.specs.Held.{noHeld}
-use Rattle.holding.specs.Message.{Run, broken, whole, led, onward, isWhole, continues, follow, opens, Choice, none, one, ranked, better, chosen}
+use Rattle.holding.specs.Message.{Run, broken, whole, led, onward, isWhole, continues, follow, opens, Choice, none, one, isOne, ranked, better, chosen}
 
 -- ---- following a run
 
@@ -190,3 +190,10 @@ module _ (T : Numbering) (P : Profile) (hs : List Held) (next : List Ssn) (point
     pub choose-end : n ≤ i → best ≡ bestOf (chosen T P hs next point)
     unfolding chosen
     choose-end h = w .same ∙ ap bestOf (fold-end (w .fold) h)
+
+  pub choose-some : {best : Best} → best ≡ bestOf (chosen T P hs next point) → best .some ≡ isOne (chosen T P hs next point)
+  choose-some e = ap (λ (b : Best). b .some) e ∙ go (chosen T P hs next point)
+    where
+      go : (c : Choice) → bestOf c .some ≡ isOne c
+      go none = refl
+      go (one k is) = refl

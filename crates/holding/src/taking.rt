@@ -12,6 +12,7 @@ ghost use lib.ListN.{length, take};
 ghost use Rattle.numbers.specs.Numbering.{ring};
 ghost use Rattle.numbers.specs.Profile.{rail};
 ghost use Rattle.octets.specs.Bytes.{laid};
+ghost use Rattle.holding.specs.Message.{isOne, chosen};
 ghost use Rattle.holding.specs.Taking.{lengthOf, payloadAt, copied, emptied, advanced, took, written};
 ghost use Rattle.holding.specs.TakingLaws.{Within};
 
@@ -118,6 +119,15 @@ fn advance(mut next: [Ssn; Rail::STREAMS], h: Held) -> [Ssn; Rail::STREAMS]
     next
 }
 
+// Whether a message can be taken.
+pub fn can_take(held: [Held; Rail::PLACES], next: [Ssn; Rail::STREAMS], point: Tsn) -> bool
+    ensures { λ y. ⌜ y ≡ isOne (chosen (ring (2 ^ 32)) rail held next (point .0)) ⌝ }
+{
+    let best = message::choose(held, next, point);
+    best.some
+}
+
+// The message that comes first in take order, into the lent output.
 pub fn take(held: [Held; Rail::PLACES], next: [Ssn; Rail::STREAMS], point: Tsn, area: &[u8], out: &mut [u8]) -> Took
     ensures { λ r. ⌜ (r ≡ took (ring (2 ^ 32)) (ring (2 ^ 16)) rail held next (point .0) (length (now (out .entry)))) × (now (out .exit) ≡ written (ring (2 ^ 32)) rail held next (point .0) (now (area .entry)) (now (out .entry))) ⌝ }
 {
