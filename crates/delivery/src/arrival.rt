@@ -164,9 +164,11 @@ fn keep(r: Receiving, area: &mut [u8], c: Chunk, payload: &[u8]) -> Receiving
     let held = r.held;
     match holding::held::free_place(held) {
         Found::At(i) => {
-            octets::bytes::put_all(area, Rail::PAYLOAD * i, payload);
+            let at = Rail::PAYLOAD * i;
             let h = Held::of(c, payload.len() as u16);
-            put(r, i, h)
+            let q = put(r, i, h);
+            octets::bytes::put_all(area, at, payload);
+            q
         }
         Found::Nothing => {
             let tsn = c.tsn;

@@ -1,3 +1,15 @@
+use borrow.Author.Tests.{lt-ltb, le-ltb, eq-eqb, ne-eqb}
+use native.Mathlib.Omega.{arith}
+use Prim.Native.Nat.{_-_, _^_, _<_}
+use mathlib.Core.Path.{_≡_, refl, sym, _∙_, ap}
+use lib.ListN.{length}
+use Rattle.numbers.specs.Numbering.{ring}
+use Rattle.numbers.specs.Profile.{rail}
+use Rattle.scans.specs.Scan.{long-mapped, Counting, count-yes, count-no, count-end, find-within}
+use Rattle.holding.specs.Held.{isFree}
+use Rattle.delivery.specs.Receiving.{fresh, isLow, taken}
+use Rattle.delivery.specs.Arrival.{isRepeat, isWedged, isAgreed, noted, passed, kept}
+use Rattle.delivery.specs.Acknowledging.{sackOf, told, acknowledged}
 use borrow.Author.Needs.{needs}
 use Rattle.delivery.proofs.receiving.Receiving.sack.Statement.{statement}
 use Rattle.delivery.proofs.receiving.Receiving.sack.Tie as tie
@@ -29,7 +41,8 @@ told-requires c κs = search needs
 
 -- src/acknowledging.rt:25:5
 returns : tie.Need-returns
-returns c = ?
+unfolding acknowledged sackOf told
+returns c = rw (c .told .ensures, c .before .before .blocks2 .ensures, c .before .before .before .before .free-places .ensures .0)
 
 pub sack-spec : {M : Type 1} → statement M
 sack-spec =
