@@ -5,8 +5,10 @@ use Prim.Native.Nat.{ℕ, zero, suc, _+_, _-_, _^_, _<_, _≤_, zero-le}
 use mathlib.Core.Path.{_≡_, refl, sym, ap, _∙_, subst}
 use mathlib.Core.Bool.{Bool, true, false, not}
 use mathlib.Core.List.{List, [], _∷_}
+use mathlib.Core.Logic.{_⊎_, inl, inr, ⊎-elim}
 use native.Mathlib.Omega.{arith}
 use native.Mathlib.Nat.{zero-add}
+use native.Mathlib.Decide.{decLt, decLe}
 use borrow.Author.Tests.{lt-ltb, le-ltb, ltb-true, ltb-false, not-true}
 use lib.ListN.{length, set, replicate, getD, length-set, length-replicate}
 use lib.Dec.{ltb, eqb}
@@ -192,3 +194,295 @@ module _ (T : Numbering) (P : Profile) (r : Receiving) (h : Held) (w : Shaped T 
           (arith, low-is T (kept T P r i h), count-filled isUsed numberIn (isLate T (keeping.marked T P (r .keeping) (h .tsn .0))) (r .held) i h noHeld hi u free, bound-kept comes ts (all-numbers isUsed numberIn (On T) (r .held) (w .each)) (s .apart) new-among (P .places) low-room low-here);
       apart = distinct-filled isUsed numberIn (r .held) i h noHeld hi u free new-among (s .apart);
     }
+
+agreed-below : (P : Profile) (s streams : ℕ) → isAgreed P s streams ≡ true → s < P .streams
+unfolding isAgreed
+agreed-below P s streams e = go (ltb s (P .streams)) refl
+  where
+    go : (t : Bool) → ltb s (P .streams) ≡ t → s < P .streams
+    go true q = ltb-true s (P .streams) q
+    go false q = clash (rw q at e)
+
+-- ---- every call keeps the bounds, and what a record has by its type
+
+module _ (T : Numbering) (P : Profile) (r : Receiving) (w : Shaped T P r) where
+  noted-shaped : (t : Tsn) → Shaped T P (noted P r t)
+  unfolding noted
+  noted-shaped t = record { numbers = number.listed-shaped T P (r .keeping) t (w .numbers); long = w .long; streams = w .streams; each = w .each }
+
+  passed-shaped : (t : ℕ) → Shaped T P (passed T P r t)
+  unfolding passed
+  passed-shaped t = record { numbers = number.marked-shaped T P (r .keeping) t (w .numbers); long = w .long; streams = w .streams; each = w .each }
+
+  kept-shaped : (i : ℕ) (h : Held) → On T (h .tsn .0) → Shaped T P (kept T P r i h)
+  unfolding kept
+  kept-shaped i h on = record {
+    numbers = number.marked-shaped T P (r .keeping) (h .tsn .0) (w .numbers);
+    long = length-set (r .held) i h ∙ w .long;
+    streams = w .streams;
+    each = all-set (λ (x : Held). x .used ≡ true → On T (x .tsn .0)) (r .held) i h (λ e. on) (w .each);
+  }
+
+  pub arrived-shaped : (h : Held) (streams : ℕ) → On T (h .tsn .0) → Shaped T P (arrived T P r h streams .receiving)
+  unfolding arrived
+  arrived-shaped h streams on = go (verdictOf T P r h streams)
+    where
+      place : (f : Found) → Shaped T P (keptIn T P r h f)
+      place (At i) = kept-shaped i h on
+      place Nothing = passed-shaped (h .tsn .0)
+
+      go : (v : Verdict) → Shaped T P (after T P r h v)
+      go Kept = place (findFrom isFree 0 (r .held))
+      go Duplicate = noted-shaped (h .tsn)
+      go Stray = passed-shaped (h .tsn .0)
+      go Empty = w
+      go Long = w
+      go Wedged = w
+      go Far = w
+
+noted-sound : (T : Numbering) (P : Profile) (r : Receiving) (t : Tsn) → Sound T P r → Sound T P (noted P r t)
+unfolding noted
+noted-sound T P r t s =
+    let p = number.listed-point P (r .keeping) t in
+    record {
+      numbers = number.listed-bounded P (r .keeping) t (s .numbers);
+      fit = s .fit;
+      room =
+          omega
+          (arith, s .room, low-is T r, low-is T (noted P r t), late-alike T (keeping.listed P (r .keeping) t) (r .keeping) (heldNumbers (r .held)) (p .0) (p .1), number.highest-alike (keeping.listed P (r .keeping) t) (r .keeping) (p .1));
+      apart = s .apart;
+    }
+
+pub arrived-sound : (T : Numbering) (P : Profile) (r : Receiving) (h : Held) (streams : ℕ) → Short T (P .places + P .places) → Shaped T P r → Sound T P r
+    → On T (h .tsn .0) → h .used ≡ true → Sound T P (arrived T P r h streams .receiving)
+unfolding arrived
+arrived-sound T P r h streams wide w s on u = go (verdictOf T P r h streams) refl
+  where
+    go : (v : Verdict) → verdictOf T P r h streams ≡ v → Sound T P (after T P r h v)
+    go Kept e =
+        let c = kept-coming T P r h streams e in
+        let f = finds-place T P r h w on wide (c .0) s in
+        let a : Fit P h = record { some = c .0 .some; small = c .0 .fits; stream = agreed-below P (h .stream .0) streams (c .1) } in
+        rw (f .1) (kept-sound T P r h w on wide (c .0) s (f .0) (f .2) (f .3) u a)
+    go Duplicate e = noted-sound T P r (h .tsn) s
+    go Stray e = passed-sound T P r h w on wide (stray-coming T P r h streams e) s
+    go Empty e = s
+    go Long e = s
+    go Wedged e = s
+    go Far e = s
+
+-- "a chunk that passes the checks finds a free place"
+pub kept-placed : (T : Numbering) (P : Profile) (r : Receiving) (h : Held) (streams : ℕ) → Short T (P .places + P .places) → Shaped T P r → Sound T P r
+    → On T (h .tsn .0) → verdictOf T P r h streams ≡ Kept
+    → (i : ℕ) × (findFrom isFree 0 (r .held) ≡ At i) × (i < length (r .held)) × (getD (r .held) i noHeld .used ≡ false)
+kept-placed T P r h streams wide w s on e = finds-place T P r h w on wide (kept-coming T P r h streams e .0) s
+
+-- ---- a take
+
+module _ (Q : Held → Type 0) (q : Q noHeld) where
+  all-emptied : (hs : List Held) (is : List ℕ) → All Q hs → All Q (emptied hs is)
+  all-emptied hs [] w = w
+  all-emptied hs (i ∷ is) w = all-emptied (set hs i noHeld) is (all-set Q hs i noHeld q w)
+
+emptied-long : (hs : List Held) (is : List ℕ) → length (emptied hs is) ≡ length hs
+emptied-long hs [] = refl
+emptied-long hs (i ∷ is) = emptied-long (set hs i noHeld) is ∙ length-set hs i noHeld
+
+emptied-apart : (hs : List Held) (is : List ℕ) → Distinct (heldNumbers hs) → Distinct (heldNumbers (emptied hs is))
+emptied-apart hs [] s = s
+emptied-apart hs (i ∷ is) s = emptied-apart (set hs i noHeld) is (distinct-freed isUsed numberIn hs i noHeld refl s)
+
+emptied-count : (q : ℕ → Bool) (hs : List Held) (is : List ℕ) → count q (heldNumbers (emptied hs is)) ≤ count q (heldNumbers hs)
+emptied-count q hs [] = omega arith
+emptied-count q hs (i ∷ is) = omega (arith, emptied-count q (set hs i noHeld) is, count-freed isUsed numberIn q hs i noHeld refl)
+
+module _ (T S : Numbering) (P : Profile) (r : Receiving) (room : ℕ) where
+  abbrev leaves : Took → Receiving
+  leaves t = takenBy r t .receiving
+
+  pub taken-shaped : Shaped T P r → Shaped T P (taken T S P r room .receiving)
+  unfolding taken
+  taken-shaped w = go (took T S P (r .held) (r .next) (r .keeping .point .0) room) (took-leaves T S P (r .held) (r .next) (r .keeping .point .0) room)
+    where
+      go : (t : Took) → Leaves S (r .held) (r .next) t → Shaped T P (leaves t)
+      go _ (same a) = record { numbers = w .numbers; long = w .long; streams = w .streams; each = w .each }
+      go _ (less m is first) = record {
+        numbers = w .numbers;
+        long = emptied-long (r .held) is ∙ w .long;
+        streams = advanced-long S (r .next) first ∙ w .streams;
+        each = all-emptied (λ (x : Held). x .used ≡ true → On T (x .tsn .0)) (λ e. clash e) (r .held) is (w .each);
+      }
+
+  pub taken-sound : Sound T P r → Sound T P (taken T S P r room .receiving)
+  unfolding taken
+  taken-sound s = go (took T S P (r .held) (r .next) (r .keeping .point .0) room) (took-leaves T S P (r .held) (r .next) (r .keeping .point .0) room)
+    where
+      go : (t : Took) → Leaves S (r .held) (r .next) t → Sound T P (leaves t)
+      go _ (same a) = record { numbers = s .numbers; fit = s .fit; room = omega (arith, s .room, low-is T r, low-is T (leaves (record { answer = a; held = r .held; next = r .next }))); apart = s .apart }
+      go _ (less m is first) = record {
+        numbers = s .numbers;
+        fit = all-emptied (λ (x : Held). x .used ≡ true → Fit P x) (λ e. clash e) (r .held) is (s .fit);
+        room =
+            omega
+            (arith, s .room, low-is T r, low-is T (record { keeping = r .keeping; held = emptied (r .held) is; next = advanced S (r .next) first }), emptied-count (isLate T (r .keeping)) (r .held) is);
+        apart = emptied-apart (r .held) is (s .apart);
+      }
+
+-- ---- a SACK
+
+module _ (T : Numbering) (P : Profile) (r : Receiving) where
+  pub told-shaped : Shaped T P r → Shaped T P (acknowledged P r .receiving)
+  unfolding acknowledged told
+  told-shaped w = record { numbers = number.told-shaped T P (r .keeping) (w .numbers); long = w .long; streams = w .streams; each = w .each }
+
+  pub told-sound : Sound T P r → Sound T P (acknowledged P r .receiving)
+  unfolding acknowledged told
+  told-sound s =
+      let p = number.told-point P (r .keeping) in
+      record {
+        numbers = number.told-bounded P (r .keeping) (s .numbers);
+        fit = s .fit;
+        room =
+            omega
+            (arith, s .room, low-is T r, low-is T (record { keeping = keeping.told P (r .keeping); held = r .held; next = r .next }), late-alike T (keeping.told P (r .keeping)) (r .keeping) (heldNumbers (r .held)) (p .0) (p .1), number.highest-alike (keeping.told P (r .keeping)) (r .keeping) (p .1));
+        apart = s .apart;
+      }
+
+-- ---- never twice: the second wrong build
+
+-- what is at or behind the point, or has come above it, is old or a repeat
+known-old : (T : Numbering) (P : Profile) (r : Receiving) (t : ℕ) → number.isKnown T (r .keeping) t ≡ true
+    → (isOld (judgementOf T P r t) ≡ true) ⊎ (isRepeat T (r .keeping) (r .held) t ≡ true)
+unfolding isRepeat judgementOf
+known-old T P r t k = go (judged T (r .keeping .point .0) (P .places - lowOf T r) t) refl
+  where
+    again : (d : ℕ) → keeping.offsetOf T (r .keeping) t ≡ d → 0 < d → pick (keeping.isCome T (r .keeping) t) true (any (holds t) (r .held)) ≡ true
+    again d e l =
+        let m : 1 ≤ keeping.offsetOf T (r .keeping) t = omega arith in
+        let c : keeping.isCome T (r .keeping) t ≡ true = rw (le-ltb (keeping.offsetOf T (r .keeping) t) 1 m) at k in
+        rw c
+
+    go : (j : Judgement) → judged T (r .keeping .point .0) (P .places - lowOf T r) t ≡ j
+        → (isOld j ≡ true) ⊎ (pick (keeping.isCome T (r .keeping) t) true (any (holds t) (r .held)) ≡ true)
+    go AtOrBehind e = inl refl
+    go AtOpposite e = inl refl
+    go (AheadWithin d) e = let o = number.judged-offset T (r .keeping) (P .places - lowOf T r) t (AheadWithin d) e in inr (again d (o .0) (o .1))
+    go (AheadBeyond d) e = let o = number.judged-offset T (r .keeping) (P .places - lowOf T r) t (AheadBeyond d) e in inr (again d (o .0) (o .1))
+
+-- and is answered 11, whatever else the record holds
+pub known-again : (T : Numbering) (P : Profile) (r : Receiving) (h : Held) (streams : ℕ) → 1 ≤ h .len → h .len ≤ P .payload
+    → number.isKnown T (r .keeping) (h .tsn .0) ≡ true → verdictOf T P r h streams ≡ Duplicate
+unfolding verdictOf
+known-again T P r h streams a b k =
+    rw (le-ltb (h .len) 1 a, le-ltb (P .payload) (h .len) b)
+    (⊎-elim (λ e. rw e) (λ e. rw e (either-way (isOld (judgementOf T P r (h .tsn .0))))) (known-old T P r (h .tsn .0) k))
+  where
+    either-way : (t : Bool) → pick t Duplicate Duplicate ≡ Duplicate
+    either-way true = refl
+    either-way false = refl
+
+-- what has come is known from then on, held or refused 14
+pub arrived-comes : (T : Numbering) (P : Profile) (r : Receiving) (h : Held) (streams : ℕ) → Short T (P .places + P .places) → Shaped T P r
+    → On T (h .tsn .0) → (verdictOf T P r h streams ≡ Kept) ⊎ (verdictOf T P r h streams ≡ Stray)
+    → number.isKnown T (arrived T P r h streams .receiving .keeping) (h .tsn .0) ≡ true
+unfolding arrived kept passed
+arrived-comes T P r h streams wide w on =
+    ⊎-elim
+    (λ e. rw e (place (findFrom isFree 0 (r .held)) (kept-coming T P r h streams e .0)))
+    (λ e. rw e (number.known-marked (comes T P r h w on wide (stray-coming T P r h streams e))))
+  where
+    place : (f : Found) → Coming T P r h streams → number.isKnown T (keptIn T P r h f .keeping) (h .tsn .0) ≡ true
+    place (At i) c = number.known-marked (comes T P r h w on wide c)
+    place Nothing c = number.known-marked (comes T P r h w on wide c)
+
+-- and stays known through every arrival, as long as it does not lie ahead beyond every offset, as what is half a circle behind does
+module _ (T : Numbering) (P : Profile) (r : Receiving) (wide : Short T (P .places + P .places)) (w : Shaped T P r) (y : ℕ) (hy : On T y)
+    (k : number.isKnown T (r .keeping) y ≡ true) where
+  marked-known : (t : ℕ) → On T t → keeping.offsetOf T (keeping.marked T P (r .keeping) t) y ≤ P .places
+      → number.isKnown T (keeping.marked T P (r .keeping) t) y ≡ true
+  marked-known t on l = go (decLt 0 (keeping.offsetOf T (r .keeping) t)) (decLe (keeping.offsetOf T (r .keeping) t) (P .places))
+    where
+      out : (keeping.offsetOf T (r .keeping) t ≡ 0) ⊎ (P .places < keeping.offsetOf T (r .keeping) t) → number.isKnown T (keeping.marked T P (r .keeping) t) y ≡ true
+      out e = ap (λ (x : Keeping). number.isKnown T x y) (number.marked-out T P (r .keeping) t e) ∙ k
+
+      go : Dec (0 < keeping.offsetOf T (r .keeping) t) → Dec (keeping.offsetOf T (r .keeping) t ≤ P .places)
+          → number.isKnown T (keeping.marked T P (r .keeping) t) y ≡ true
+      go (no a) b = out (inl (omega arith))
+      go (yes a) (no b) = out (inr (omega arith))
+      go (yes a) (yes b) =
+          number.known-stays (record { point = w .numbers .point; number = on; wide = wide; long = w .numbers .long; ahead = a; near = b }) y hy k l
+
+  noted-known : (t : Tsn) → number.isKnown T (keeping.listed P (r .keeping) t) y ≡ true
+  noted-known t =
+      let p = number.listed-point P (r .keeping) t in
+      ap (λ (d : ℕ). pick (ltb d 1) true (keeping.isCome T (keeping.listed P (r .keeping) t) y)) (number.offset-alike T (keeping.listed P (r .keeping) t) (r .keeping) y (p .0))
+      ∙ (ap (λ (b : Bool). pick (ltb (keeping.offsetOf T (r .keeping) y) 1) true b) (number.come-alike T (keeping.listed P (r .keeping) t) (r .keeping) y (p .0) (p .1)) ∙ k)
+
+  pub arrived-known : (h : Held) (streams : ℕ) → On T (h .tsn .0)
+      → keeping.offsetOf T (arrived T P r h streams .receiving .keeping) y ≤ P .places
+      → number.isKnown T (arrived T P r h streams .receiving .keeping) y ≡ true
+  unfolding arrived noted passed kept
+  arrived-known h streams on = go (verdictOf T P r h streams)
+    where
+      place : (f : Found) → keeping.offsetOf T (keptIn T P r h f .keeping) y ≤ P .places → number.isKnown T (keptIn T P r h f .keeping) y ≡ true
+      place (At i) l = marked-known (h .tsn .0) on l
+      place Nothing l = marked-known (h .tsn .0) on l
+
+      go : (v : Verdict) → keeping.offsetOf T (after T P r h v .keeping) y ≤ P .places → number.isKnown T (after T P r h v .keeping) y ≡ true
+      go Kept l = place (findFrom isFree 0 (r .held)) l
+      go Duplicate l = noted-known (h .tsn)
+      go Stray l = marked-known (h .tsn .0) on l
+      go Empty l = k
+      go Long l = k
+      go Wedged l = k
+      go Far l = k
+
+  -- a take leaves number-keeping alone, and a SACK its point and offsets
+  pub taken-known : (S : Numbering) (room : ℕ) → number.isKnown T (taken T S P r room .receiving .keeping) y ≡ true
+  unfolding taken
+  taken-known S room = k
+
+-- ---- a refused call leaves all but what the table names
+
+-- 9, 10, 12, 13: all; 11: "TSN listed if room"; 14: "TSN comes, point moves, nothing held"
+pub data LeftBy (T : Numbering) (P : Profile) (r : Receiving) (h : Held) : Verdict → Receiving → Type 0 where
+  all : (v : Verdict) → (numberOf v ≡ 9) ⊎ (numberOf v ≡ 10) ⊎ (numberOf v ≡ 12) ⊎ (numberOf v ≡ 13) → LeftBy T P r h v r
+  but-listed : LeftBy T P r h Duplicate (noted P r (h .tsn))
+  but-come : LeftBy T P r h Stray (passed T P r (h .tsn .0))
+
+module _ (T : Numbering) (P : Profile) (r : Receiving) (h : Held) (streams : ℕ) where
+  pub arrived-refused : 0 < numberOf (verdictOf T P r h streams)
+      → LeftBy T P r h (verdictOf T P r h streams) (arrived T P r h streams .receiving)
+  unfolding arrived
+  arrived-refused n = go (verdictOf T P r h streams) n
+    where
+      go : (v : Verdict) → 0 < numberOf v → LeftBy T P r h v (after T P r h v)
+      go Kept n = absurd (omega arith)
+      go Empty n = all Empty (inl refl)
+      go Long n = all Long (inr (inl refl))
+      go Wedged n = all Wedged (inr (inr (inl refl)))
+      go Far n = all Far (inr (inr (inr refl)))
+      go Duplicate n = but-listed
+      go Stray n = but-come
+
+  -- and the lent area as it was
+  pub area-refused : (area bytes : List ℕ) → 0 < numberOf (verdictOf T P r h streams) → areaAfter T P r h streams area bytes ≡ area
+  unfolding areaAfter
+  area-refused area bytes n = go (verdictOf T P r h streams) n
+    where
+      go : (v : Verdict) → 0 < numberOf v → storedBy P (r .held) area bytes v ≡ area
+      go Kept n = absurd (omega arith)
+      go Empty n = refl
+      go Long n = refl
+      go Wedged n = refl
+      go Far n = refl
+      go Duplicate n = refl
+      go Stray n = refl
+
+-- a take refused 17 or 18 leaves the record and the output
+pub taken-refused : (T S : Numbering) (P : Profile) (r : Receiving) (area out : List ℕ) → 0 < taking.numberOf (taken T S P r (length out) .answer)
+    → (taken T S P r (length out) .receiving ≡ r) × (written T P (r .held) (r .next) (r .keeping .point .0) area out ≡ out)
+unfolding taken
+taken-refused T S P r area out n =
+    let l = took-refused T S P (r .held) (r .next) (r .keeping .point .0) area out n in
+    (rw (l .held, l .streams), l .output)
