@@ -2,14 +2,6 @@ use borrow.Author.Needs.{needs}
 use Prim.Native.Nat.{_-_, _≤_}
 use Rattle.vectors_receiving.proofs.filled.Statement.{statement}
 use Rattle.vectors_receiving.proofs.filled.Tie as tie
-use Rattle.vectors_receiving.proofs.filled.Reads as reads
-use Rattle.vectors_receiving.proofs.filled.Lts as lts
-use Rattle.numbers.proofs.circle.Tsn.after.Reads as after-reads
-use Rattle.vectors_receiving.proofs.deliver.Reads as deliver-reads
-use Rattle.vectors_receiving.proofs.number.Reads as number-reads
-use Rattle.vectors_receiving.proofs.number_of.Reads as number-of-reads
-use Rattle.vectors_receiving.proofs.one.Reads as one-reads
-use Rattle.vectors_receiving.proofs.text.Reads as text-reads
 
 abbrev Inv-loop : tie.InvT-loop
 Inv-loop area₀ s times start r₀ last₀ i₀ t11 t12 area r last i = i ≤ times
@@ -17,63 +9,48 @@ Inv-loop area₀ s times start r₀ last₀ i₀ t11 t12 area r last i = i ≤ t
 abbrev μ-loop : tie.MeasureT-loop
 μ-loop area₀ s times start r₀ last₀ i₀ t11 t12 area r last i = times - i
 
--- src/main.rt:205:5
 loop-holds : tie.Need-loop-holds Inv-loop μ-loop
 loop-holds c = search needs
 
--- src/main.rt:206:37
 after-requires : tie.Need-after-requires Inv-loop μ-loop
 after-requires c κs = search needs
 
--- src/main.rt:206:13
 deliver-requires : tie.Need-deliver-requires Inv-loop μ-loop
 deliver-requires c κs = search needs
 
--- src/main.rt:208:9
 number-of-requires : tie.Need-number-of-requires Inv-loop μ-loop
 number-of-requires c κs = search needs
 
--- src/main.rt:210:9
 add-i : tie.Need-add-i Inv-loop μ-loop
 add-i c = search needs
 
--- src/main.rt:205:5
 loop-less : tie.Need-loop-less Inv-loop μ-loop
 loop-less c = search needs
 
--- src/main.rt:205:5
 loop-again : tie.Need-loop-again Inv-loop μ-loop
 loop-again c = search needs
 
--- src/main.rt:212:10
 slice-aggregate-text : tie.Need-slice-aggregate-text Inv-loop μ-loop
 slice-aggregate-text c = search needs
 
--- src/main.rt:212:5
 text-requires : tie.Need-text-requires Inv-loop μ-loop
 text-requires c κs = search needs
 
--- src/main.rt:213:12
 cast-number : tie.Need-cast-number Inv-loop μ-loop
 cast-number c = search needs
 
--- src/main.rt:213:5
 number-requires : tie.Need-number-requires Inv-loop μ-loop
 number-requires c κs = search needs
 
--- src/main.rt:214:10
 slice-aggregate-text-2 : tie.Need-slice-aggregate-text-2 Inv-loop μ-loop
 slice-aggregate-text-2 c = search needs
 
--- src/main.rt:214:5
 text-requires-2 : tie.Need-text-requires-2 Inv-loop μ-loop
 text-requires-2 c κs = search needs
 
--- src/main.rt:215:5
 one-requires : tie.Need-one-requires Inv-loop μ-loop
 one-requires c κs = search needs
 
--- src/main.rt:200:1
 returns : tie.Need-returns Inv-loop μ-loop
 returns c = search needs
 

@@ -2,10 +2,6 @@ use borrow.Author.Needs.{needs}
 use Prim.Native.Nat.{_-_, _≤_}
 use Rattle.vectors_receiving.proofs.run.Statement.{statement}
 use Rattle.vectors_receiving.proofs.run.Tie as tie
-use Rattle.vectors_receiving.proofs.run.Reads as reads
-use Rattle.vectors_receiving.proofs.run.Lts as lts
-use Rattle.vectors_receiving.proofs.perform.Reads as perform-reads
-use Rattle.vectors_receiving.proofs.text.Reads as text-reads
 
 abbrev Inv-loop : tie.InvT-loop
 Inv-loop name steps area₀ r₀ i₀ area r i = i ≤ 16
@@ -13,47 +9,36 @@ Inv-loop name steps area₀ r₀ i₀ area r i = i ≤ 16
 abbrev μ-loop : tie.MeasureT-loop
 μ-loop name steps area₀ r₀ i₀ area r i = 16 - i
 
--- src/main.rt:281:5
 text-requires : tie.Need-text-requires Inv-loop μ-loop
 text-requires c κs = search needs
 
--- src/main.rt:282:10
 slice-aggregate-text : tie.Need-slice-aggregate-text Inv-loop μ-loop
 slice-aggregate-text c = search needs
 
--- src/main.rt:282:5
 text-requires-2 : tie.Need-text-requires-2 Inv-loop μ-loop
 text-requires-2 c κs = search needs
 
--- src/main.rt:285:5
 loop-holds : tie.Need-loop-holds Inv-loop μ-loop
 loop-holds c = search needs
 
--- src/main.rt:286:17
 mul-s : tie.Need-mul-s Inv-loop μ-loop
 mul-s c = search needs
 
--- src/main.rt:286:17
 array-copy-out-s : tie.Need-array-copy-out-s Inv-loop μ-loop
 array-copy-out-s c = search needs
 
--- src/main.rt:287:9
 perform-requires : tie.Need-perform-requires Inv-loop μ-loop
 perform-requires c κs = search needs
 
--- src/main.rt:288:9
 add-i : tie.Need-add-i Inv-loop μ-loop
 add-i c = search needs
 
--- src/main.rt:285:5
 loop-less : tie.Need-loop-less Inv-loop μ-loop
 loop-less c = search needs
 
--- src/main.rt:285:5
 loop-again : tie.Need-loop-again Inv-loop μ-loop
 loop-again c = search needs
 
--- src/main.rt:279:1
 returns : tie.Need-returns Inv-loop μ-loop
 returns c = search needs
 
