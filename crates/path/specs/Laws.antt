@@ -14,7 +14,7 @@ use Rattle.numbers.specs.declared.circle.Tsn.{Tsn}
 use Rattle.path.specs.declared.control.Control.{Control}
 use Rattle.path.specs.declared.clock.Clock.{Clock}
 use Rattle.path.specs.declared.path.Path.{Path}
-use Rattle.path.specs.Sizes.{Sizes, Fair, rail}
+use Rattle.path.specs.Sizes.{Sizes, Fair, railSizes}
 use Rattle.path.specs.Control as control
 use Rattle.path.specs.Clock as clock
 use Rattle.path.specs.Path as whole
@@ -250,5 +250,5 @@ pub heard-within : (z : Sizes) (p : Path) → Within z p → Within z (whole.hea
 unfolding whole.heard
 heard-within z p w = record { controlled = w .controlled; clocked = w .clocked; tried = omega arith }
 
-pub rail-fair : Fair rail
+pub rail-fair : Fair railSizes
 rail-fair = record { unit = omega arith; begun = omega arith; floored = omega arith; timed = omega arith; «from» = omega arith; «to» = omega arith }

@@ -1,5 +1,5 @@
 -- The numbers of a profile that congestion and the clock use. Definitions take them; the code's constants are the rail's.
-use Prim.Native.Nat.{ℕ, _*_, _≤_}
+use Prim.Native.Nat.{ℕ, _*_, _-_, _≤_}
 use Rattle.scans.specs.Upto.{smaller, larger}
 
 pub record Sizes : Type 0 where
@@ -11,11 +11,14 @@ pub record Sizes : Type 0 where
   pub «rto-least» : ℕ
   pub «rto-most» : ℕ
   pub tries : ℕ
+  pub room : ℕ
+  pub bundled : ℕ
 
 -- "PMDCS 528; cwnd starts at min(4·528, max(2·528, 4,404)) = 2,112 and stays at or below 1,048,576, where ssthresh starts"; "max(cwnd/2
--- rounded down, 2,112)"; "RTO in milliseconds, 1,000 at start, 1,000 to 60,000"; "Tries: .. 10 for T2 and T3"
-abbrev pub rail : Sizes
-rail = record {
+-- rounded down, 2,112)"; "RTO in milliseconds, 1,000 at start, 1,000 to 60,000"; "Tries: .. 10 for T2 and T3"; "sent packet at most
+-- 548", 12 of them its header: room for 26 chunks of the least size, 16 and one byte padded
+abbrev pub railSizes : Sizes
+railSizes = record {
   pmdcs = 528;
   start = smaller (4 * 528) (larger (2 * 528) 4404);
   floor = 2112;
@@ -24,6 +27,8 @@ rail = record {
   «rto-least» = 1000;
   «rto-most» = 60000;
   tries = 10;
+  room = 548 - 12;
+  bundled = 26;
 }
 
 -- sizes that can be kept to

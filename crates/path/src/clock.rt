@@ -5,7 +5,7 @@ use crate::measure::greater;
 use crate::rail::RailPath;
 ghost use mathlib.Core.Path.{_≡_};
 ghost use mathlib.Core.Bool.{Bool, true, false};
-ghost use Rattle.path.specs.Sizes.{rail};
+ghost use Rattle.path.specs.Sizes.{railSizes};
 ghost use Rattle.path.specs.Clock.{fresh, timed, sampled, doubled, isWithin};
 
 pub struct Clock {
@@ -17,7 +17,7 @@ pub struct Clock {
 
 impl Clock {
     pub fn fresh() -> Clock
-        ensures { λ q. ⌜ q ≡ fresh rail ⌝ }
+        ensures { λ q. ⌜ q ≡ fresh railSizes ⌝ }
     {
         Clock {
             sampled: false,
@@ -28,7 +28,7 @@ impl Clock {
     }
 
     fn timed(s: u32, v: u32) -> Clock
-        ensures { λ q. ⌜ q ≡ timed rail s v ⌝ }
+        ensures { λ q. ⌜ q ≡ timed railSizes s v ⌝ }
     {
         let w = greater(v, 1);
         let t = capped(s as u64 + 4 * (w as u64), RailPath::RTO_MOST);
@@ -42,7 +42,7 @@ impl Clock {
     }
 
     pub fn sampled(self, sample: u32) -> Clock
-        ensures { λ q. ⌜ q ≡ sampled rail self sample ⌝ }
+        ensures { λ q. ⌜ q ≡ sampled railSizes self sample ⌝ }
     {
         let r = capped(sample as u64, RailPath::RTO_MOST);
         if self.sampled {
@@ -55,14 +55,14 @@ impl Clock {
     }
 
     pub fn doubled(mut self) -> Clock
-        ensures { λ q. ⌜ q ≡ doubled rail self ⌝ }
+        ensures { λ q. ⌜ q ≡ doubled railSizes self ⌝ }
     {
         self.rto = capped(2 * (self.rto as u64), RailPath::RTO_MOST);
         self
     }
 
     pub fn is_within(self) -> bool
-        ensures { λ r. ⌜ r ≡ isWithin rail self ⌝ }
+        ensures { λ r. ⌜ r ≡ isWithin railSizes self ⌝ }
     {
         if self.rto < RailPath::RTO_LEAST {
             return false;

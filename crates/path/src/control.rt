@@ -3,7 +3,7 @@ use crate::measure::capped;
 use crate::measure::greater;
 use crate::rail::RailPath;
 ghost use mathlib.Core.Path.{_≡_};
-ghost use Rattle.path.specs.Sizes.{rail};
+ghost use Rattle.path.specs.Sizes.{railSizes};
 ghost use Rattle.path.specs.Control.{fresh, grown, grownSlow, grownSteady, halved, collapsed, isWithin};
 
 pub struct Control {
@@ -14,7 +14,7 @@ pub struct Control {
 
 impl Control {
     pub fn fresh() -> Control
-        ensures { λ q. ⌜ q ≡ fresh rail ⌝ }
+        ensures { λ q. ⌜ q ≡ fresh railSizes ⌝ }
     {
         Control {
             cwnd: RailPath::START,
@@ -24,7 +24,7 @@ impl Control {
     }
 
     pub fn halved(self) -> Control
-        ensures { λ q. ⌜ q ≡ halved rail self ⌝ }
+        ensures { λ q. ⌜ q ≡ halved railSizes self ⌝ }
     {
         let t = greater(self.cwnd / 2, RailPath::FLOOR);
         Control {
@@ -35,7 +35,7 @@ impl Control {
     }
 
     pub fn collapsed(self) -> Control
-        ensures { λ q. ⌜ q ≡ collapsed rail self ⌝ }
+        ensures { λ q. ⌜ q ≡ collapsed railSizes self ⌝ }
     {
         let mut q = self.halved();
         q.cwnd = RailPath::PMDCS;
@@ -43,7 +43,7 @@ impl Control {
     }
 
     fn grown_slow(mut self, newly: u32) -> Control
-        ensures { λ q. ⌜ q ≡ grownSlow rail self newly ⌝ }
+        ensures { λ q. ⌜ q ≡ grownSlow railSizes self newly ⌝ }
     {
         let g = capped(newly as u64, RailPath::PMDCS);
         self.cwnd = capped(self.cwnd as u64 + g as u64, RailPath::TOP);
@@ -51,7 +51,7 @@ impl Control {
     }
 
     fn grown_steady(self, newly: u32, flight: u32) -> Control
-        ensures { λ q. ⌜ q ≡ grownSteady rail self newly flight ⌝ }
+        ensures { λ q. ⌜ q ≡ grownSteady railSizes self newly flight ⌝ }
     {
         let sum = capped(self.partial as u64 + newly as u64, RailPath::TOP);
         let mut q = self;
@@ -70,7 +70,7 @@ impl Control {
 
     // Growth at a SACK; `free` says that the point moved and no fast recovery runs.
     pub fn grown(self, newly: u32, flight: u32, free: bool) -> Control
-        ensures { λ q. ⌜ q ≡ grown rail self newly flight free ⌝ }
+        ensures { λ q. ⌜ q ≡ grown railSizes self newly flight free ⌝ }
     {
         if self.ssthresh < self.cwnd {
             return self.grown_steady(newly, flight);
@@ -85,7 +85,7 @@ impl Control {
     }
 
     pub fn is_within(self) -> bool
-        ensures { λ r. ⌜ r ≡ isWithin rail self ⌝ }
+        ensures { λ r. ⌜ r ≡ isWithin railSizes self ⌝ }
     {
         if RailPath::TOP < self.cwnd {
             return false;

@@ -5,7 +5,7 @@ use crate::rail::RailPath;
 use numbers::Judgement;
 use numbers::Tsn;
 ghost use mathlib.Core.Path.{_≡_};
-ghost use Rattle.path.specs.Sizes.{rail};
+ghost use Rattle.path.specs.Sizes.{railSizes};
 ghost use Rattle.path.specs.Path.{fresh, isFree, grew, struckBy, restedBy, isReached, endedBy, expired, sampledBy, backedOff, heard, isOver, isWithin};
 
 // `running` and `until`: whether a fast recovery runs, and the TSN that ends it. `tries` counts expiries of T3.
@@ -20,7 +20,7 @@ pub struct Path {
 
 impl Path {
     pub fn fresh() -> Path
-        ensures { λ q. ⌜ q ≡ fresh rail ⌝ }
+        ensures { λ q. ⌜ q ≡ fresh railSizes ⌝ }
     {
         let control = Control::fresh();
         let clock = Clock::fresh();
@@ -42,7 +42,7 @@ impl Path {
 
     // A SACK's growth; what it newly acknowledges ends the count of tries.
     pub fn grew(mut self, newly: u32, moved: bool) -> Path
-        ensures { λ q. ⌜ q ≡ grew rail self newly moved ⌝ }
+        ensures { λ q. ⌜ q ≡ grew railSizes self newly moved ⌝ }
     {
         let free = self.is_free(moved);
         let k = self.control;
@@ -57,7 +57,7 @@ impl Path {
 
     // A chunk reached three misses.
     pub fn struck(mut self, struck: bool, last: Tsn) -> Path
-        ensures { λ q. ⌜ q ≡ struckBy rail self struck last ⌝ }
+        ensures { λ q. ⌜ q ≡ struckBy railSizes self struck last ⌝ }
     {
         if self.is_free(struck) {
             let k = self.control;
@@ -105,14 +105,14 @@ impl Path {
 
     // Whether T3's tries are spent, so that its next expiry closes.
     pub fn is_over(self) -> bool
-        ensures { λ r. ⌜ r ≡ isOver rail self ⌝ }
+        ensures { λ r. ⌜ r ≡ isOver railSizes self ⌝ }
     {
         RailPath::TRIES <= self.tries
     }
 
     // T3, one try more; the count stays where it is once the tries are spent.
     pub fn expired(mut self) -> Path
-        ensures { λ q. ⌜ q ≡ expired rail self ⌝ }
+        ensures { λ q. ⌜ q ≡ expired railSizes self ⌝ }
     {
         let k = self.control;
         let m = k.collapsed();
@@ -129,7 +129,7 @@ impl Path {
 
     // A round trip of so many milliseconds was measured.
     pub fn sampled(mut self, sample: u32) -> Path
-        ensures { λ q. ⌜ q ≡ sampledBy rail self sample ⌝ }
+        ensures { λ q. ⌜ q ≡ sampledBy railSizes self sample ⌝ }
     {
         let t = self.clock;
         let u = t.sampled(sample);
@@ -139,7 +139,7 @@ impl Path {
 
     // T1 or T2 expired: RTO doubled.
     pub fn doubled(mut self) -> Path
-        ensures { λ q. ⌜ q ≡ backedOff rail self ⌝ }
+        ensures { λ q. ⌜ q ≡ backedOff railSizes self ⌝ }
     {
         let t = self.clock;
         let u = t.doubled();
@@ -156,7 +156,7 @@ impl Path {
     }
 
     pub fn is_within(self) -> bool
-        ensures { λ r. ⌜ r ≡ isWithin rail self ⌝ }
+        ensures { λ r. ⌜ r ≡ isWithin railSizes self ⌝ }
     {
         let k = self.control;
         if k.is_within() {

@@ -25,4 +25,9 @@ impl RailPath {
 
     // Tries of T3; the next expiry closes.
     pub const TRIES: u8 = 10;
+
+    // Of a sent packet, beside its header; and the chunks of the least size that it has room for.
+    pub const ROOM: u32 = 536;
+
+    pub const BUNDLED: usize = 26;
 }
