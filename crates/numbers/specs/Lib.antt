@@ -1,6 +1,7 @@
 -- The circle and the line, one judgement on either, and number-keeping over both.
 pub mod Circle
 pub mod Signed
+pub mod Whole
 pub mod Numbering
 pub mod Judgement
 pub mod Profile
