@@ -1,9 +1,10 @@
 -- Number-keeping, once over the numbering T: the cumulative point, which offsets above it have come, the duplicates since the last SACK.
-use Prim.Native.Nat.{ℕ, _+_, _-_}
+use Prim.Native.Nat.{ℕ, _+_, _-_, _≤_}
+use mathlib.Core.Path.{_≡_}
 use mathlib.Core.Bool.{Bool, true, false}
 use mathlib.Core.List.{List}
 use lib.ListN.{set, replicate, getD}
-use lib.Dec.{ltb}
+use lib.Dec.{ltb, leb}
 use Rattle.scans.specs.Scan.{pick}
 use Rattle.numbers.specs.declared.circle.Tsn.{Tsn}
 use Rattle.numbers.specs.declared.circle.Distance.{Distance}
@@ -11,7 +12,7 @@ use Rattle.numbers.specs.declared.circle.Distance.the-variants.{Ahead, B
 use Rattle.numbers.specs.declared.keeping.Keeping.{Keeping}
 use Rattle.numbers.specs.Numbering.{Numbering, on, before, far}
 use Rattle.numbers.specs.Profile.{Profile}
-use Rattle.numbers.specs.Come.{run, shift}
+use Rattle.numbers.specs.Come.{run, shift, highest}
 
 -- "point = peer's initial TSN minus 1, all else empty or zero"
 unfoldable pub fresh : Numbering → Profile → Tsn → Keeping
@@ -60,3 +61,15 @@ listed P k t =
 -- a SACK empties the list
 unfoldable pub told : Profile → Keeping → Keeping
 told P k = record { point = k .point; come = k .come; dups = replicate (P .listed) (record { 0 = 0 }); listed = 0 }
+
+-- "highest offset come", and 0 where none has
+unfoldable pub highestOf : Keeping → ℕ
+highestOf k = highest (k .come)
+
+-- the bounds of this part of a record: "offset 1 not come", "16 duplicates listed"
+unfoldable pub keepingSound : Profile → Keeping → Bool
+keepingSound P k = pick (getD (k .come) 0 false) false (leb (k .listed) (P .listed))
+
+pub record Bounded (P : Profile) (k : Keeping) : Type 0 where
+  pub first : getD (k .come) 0 false ≡ false
+  pub few : k .listed ≤ P .listed

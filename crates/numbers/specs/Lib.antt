@@ -4,6 +4,13 @@ pub mod Signed
 pub mod Whole
 pub mod Numbering
 pub mod Judgement
+pub mod JudgementLaws
 pub mod Profile
 pub mod Come
 pub mod Keeping
+pub mod Blocks
+pub mod Reach
+pub mod KeepingLaws
+pub mod KeepingLine
+pub mod KeepingRoom
+pub mod BlocksLaws

@@ -13,7 +13,7 @@ use lib.Dec.{leb, eqb}
 use Rattle.numbers.specs.declared.circle.Distance.{Distance}
 use Rattle.numbers.specs.declared.circle.Distance.the-variants.{Ahead, Behind, Opposite}
 use Rattle.numbers.specs.Circle.{onCircle, steps, along, steps-are}
-use Rattle.numbers.specs.Signed.{IsFrom, only}
+use Rattle.numbers.specs.Signed.{only, right}
 use Rattle.scans.specs.Scan.{pick}
 
 pub data Numbering : Type 0 where
@@ -125,3 +125,32 @@ module _ (h a b : ℕ) (w : Within h a b) where
           let half : (h + h) / 2 ≡ h = omega arith in
           let e : b + h - a + (a + h) ≡ b + (h + h) = omega arith in
           rw (half, mod-add-mod a (h + h) h, add-mod-mod (b + h - a) (a + h) (h + h), e) (add-mod-right b (h + h))
+
+-- ---- a step and a distance undo each other
+
+module _ (n a d : ℕ) (ha : a < n) (hd : d + d < n) where
+  stepped-lt : on (ring n) a d < n
+  unfolding on
+  stepped-lt = mod-lt (a + d) (omega arith)
+
+  pub far-on : far (ring n) a (on (ring n) a d) ≡ Ahead d
+  unfolding on far
+  far-on = sym (only ha stepped-lt (Ahead d) (hd, refl))
+
+  pub far-back : 0 < d → far (ring n) (on (ring n) a d) a ≡ Behind d
+  unfolding on far
+  far-back p = sym (only stepped-lt ha (Behind d) (p, hd, refl))
+
+module _ (n a b d : ℕ) (ha : a < n) (hb : b < n) where
+  pub on-far : far (ring n) a b ≡ Ahead d → on (ring n) a d ≡ b
+  unfolding on far
+  on-far e = (rw e at (right ha hb)) .1
+
+  pub on-back : far (ring n) a b ≡ Behind d → on (ring n) b d ≡ a
+  unfolding on far
+  on-back e = (rw e at (right ha hb)) .2
+
+  -- what is ahead is less than half a circle ahead
+  pub ahead-half : far (ring n) a b ≡ Ahead d → d + d < n
+  unfolding far
+  ahead-half e = (rw e at (right ha hb)) .0

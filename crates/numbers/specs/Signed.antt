@@ -84,7 +84,3 @@ module _ {n a b : ℕ} (ha : a < n) (hb : b < n) where
           less (yes l) m = subst (IsFrom n a b) (ahead ha hd e l) (l, rw (add-comm a d) e)
           less (no l) (yes m) = subst (IsFrom n a b) (behind ha hd e m (n - d) refl) (omega arith, omega arith, back m)
           less (no l) (no m) = subst (IsFrom n a b) (opposite ha hd e (omega arith)) (d, omega arith, rw (add-comm a d) e)
-
--- what is ahead is less than half a circle ahead
-pub ahead-half : {n a b d : ℕ} → a < n → b < n → onCircle n a b ≡ Ahead d → d + d < n
-ahead-half ha hb e = (rw e at (right ha hb)) .0

@@ -35,7 +35,9 @@ impl Tsn {
     pub fn distance(self, to: Tsn) -> Distance
         ensures { λ r. ⌜ r ≡ far (ring (2 ^ 32)) (self .0) (to .0) ⌝ }
     {
-        let d = std::num::wrapping_sub_u32(to.0, self.0);
+        let from = self.0;
+        let other = to.0;
+        let d = std::num::wrapping_sub_u32(other, from);
         if d < 2147483648 {
             return Distance::Ahead(d);
         }
@@ -82,7 +84,9 @@ impl Ssn {
     pub fn distance(self, to: Ssn) -> Distance
         ensures { λ r. ⌜ r ≡ far (ring (2 ^ 16)) (self .0) (to .0) ⌝ }
     {
-        let d = std::num::wrapping_sub_u16(to.0, self.0) as u32;
+        let from = self.0;
+        let other = to.0;
+        let d = std::num::wrapping_sub_u16(other, from) as u32;
         if d < 32768 {
             return Distance::Ahead(d);
         }

@@ -1,7 +1,5 @@
 // The profile of the rail: the numbers that document 01 fixes for it.
-pub struct Rail {
-    pub unit: u8,
-}
+pub struct Rail {}
 
 impl Rail {
     // Held chunks, and as many for sending.
