@@ -252,3 +252,21 @@ heard-within z p w = record { controlled = w .controlled; clocked = w .clocked; 
 
 pub rail-fair : Fair railSizes
 rail-fair = record { unit = omega arith; begun = omega arith; floored = omega arith; timed = omega arith; «from» = omega arith; «to» = omega arith }
+
+-- ---- what leaves flight alone
+
+pub fresh-flight : (z : Sizes) → whole.fresh z .flight ≡ 0
+unfolding whole.fresh
+fresh-flight z = refl
+
+pub sampled-flight : (z : Sizes) (p : Path) (sample : ℕ) → whole.sampledBy z p sample .flight ≡ p .flight
+unfolding whole.sampledBy
+sampled-flight z p sample = refl
+
+pub backed-flight : (z : Sizes) (p : Path) → whole.backedOff z p .flight ≡ p .flight
+unfolding whole.backedOff
+backed-flight z p = refl
+
+pub heard-flight : (p : Path) → whole.heard p .flight ≡ p .flight
+unfolding whole.heard
+heard-flight p = refl

@@ -5,7 +5,7 @@ use mathlib.Core.List.{List, [], _∷_, _++_}
 use native.Mathlib.Omega.{arith}
 use lib.ListN.{length, drop, set, getD, drop-of-length-le, length-append}
 use lib.Seq.{set-at, append-snoc}
-use Rattle.scans.specs.Scan.{drop-at}
+use Rattle.scans.specs.Scan.{drop-at, total}
 
 module _ {A B : Type 0} where
   -- g of the value so far and the element, in its place; f of both is the value after it
@@ -55,3 +55,8 @@ module _ {A B : Type 0} {f : B → A → B} {g : B → A → A} {z : B} {xs : Li
     carry-end h =
         let e : drop i xs ≡ [] = drop-of-length-le xs {i = i} (omega (arith, w .long)) in
         w .so-far ∙ (rw e) ∙ (rw e at (w .rest))
+
+-- a sum that no step changes
+pub carry-total : {A B : Type 0} (h : A → ℕ) (f : B → A → B) (g : B → A → A) → ((b : B) (x : A) → h (g b x) ≡ h x) → (b : B) (xs : List A) → total h (carried f g b xs) ≡ total h xs
+carry-total h f g k b [] = refl
+carry-total h f g k b (x ∷ xs) = rw (k b x, carry-total h f g k (f b x) xs)

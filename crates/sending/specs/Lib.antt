@@ -7,3 +7,4 @@ pub mod Choose
 pub mod Acknowledge
 pub mod Expiry
 pub mod Bounds
+pub mod Laws
