@@ -189,7 +189,7 @@ fn lost(s: Sending) {
     place(b"2 is still at three:", d.sending, 4, b"3 3");
     let e = sending::choose(d.sending);
     chosen(b"2 goes again, first:", e, b"1 1 2 2 1056");
-    let f = plain(e.sending, 5);
+    let f = plain(e.sending, 6);
     state(
         b"the point moves in recovery, no growth:",
         f.sending,
