@@ -4,9 +4,10 @@ use mathlib.Core.Path.{_≡_, refl, sym, ap, _∙_}
 use native.Mathlib.Numerals.{add-one}
 use native.Mathlib.Nat.{zero-add, add-zero, suc-add}
 use native.Mathlib.Omega.{arith}
+use native.Mathlib.Decide.{decLt, decLe}
 use mathlib.Core.Bool.{Bool, true, false}
 use mathlib.Core.List.{List, [], _∷_, _++_}
-use lib.ListN.{length, take, drop, replicate, set, getD, drop-of-length-le, length-drop, length-append, length-replicate}
+use lib.ListN.{length, List·getD-eq-default, take, drop, replicate, set, getD, drop-of-length-le, length-drop, length-append, length-replicate}
 use Rattle.scans.specs.Scan.{drop-at}
 use lib.Seq.{take-suc, set-at, getD-drop, length-take-le, append-snoc, take-all}
 
@@ -19,6 +20,16 @@ run (false ∷ xs) = 0
 -- the first n flags taken off, and as many clear ones put at the end
 abbrev pub shift : ℕ → List Bool → List Bool
 shift n xs = drop n xs ++ replicate (min n (length xs)) false
+
+-- the last flag that is set, counted from 1, and 0 where none is
+abbrev pub raised : Bool → ℕ → ℕ
+raised c (suc n) = suc (suc n)
+raised true zero = 1
+raised false zero = 0
+
+abbrev pub highest : List Bool → ℕ
+highest [] = 0
+highest (c ∷ cs) = raised c (highest cs)
 
 -- ---- laws
 
@@ -103,3 +114,86 @@ pub run-ends : (xs : List Bool) → getD xs (run xs) false ≡ false
 run-ends [] = refl
 run-ends (true ∷ xs) = run-ends xs
 run-ends (false ∷ xs) = refl
+
+-- ---- the highest that has come
+
+clash : {A : Type 0} → false ≡ true → A
+clash e = let z : _≡_ {A = ℕ} 0 1 = cc in absurd (omega arith)
+
+-- no flag is set from m on
+abbrev pub Below : List Bool → ℕ → Type 0
+Below xs m = (j : ℕ) → m ≤ j → getD xs j false ≡ false
+
+pub highest-le : (xs : List Bool) → highest xs ≤ length xs
+highest-le [] = zero-le
+highest-le (c ∷ xs) = go c (highest xs) (highest-le xs)
+  where
+    go : (c : Bool) (n : ℕ) → n ≤ length xs → raised c n ≤ suc (length xs)
+    go true zero h = suc-le-suc zero-le
+    go false zero h = zero-le
+    go c (suc n) h = suc-le-suc h
+
+pub highest-below : (xs : List Bool) → Below xs (highest xs)
+highest-below [] j h = refl
+highest-below (c ∷ xs) j h = go c (highest xs) (highest-below xs) j h
+  where
+    go : (c : Bool) (n : ℕ) → Below xs n → (j : ℕ) → raised c n ≤ j → getD (c ∷ xs) j false ≡ false
+    go true zero b zero h = absurd (omega arith)
+    go false zero b zero h = refl
+    go c (suc n) b zero h = absurd (omega arith)
+    go true zero b (suc j) h = b j (omega arith)
+    go false zero b (suc j) h = b j (omega arith)
+    go c (suc n) b (suc j) h = b j (omega arith)
+
+pub highest-set : (xs : List Bool) (n : ℕ) → highest xs ≡ suc n → getD xs n false ≡ true
+highest-set [] n e = absurd (omega arith)
+highest-set (c ∷ xs) n e = go c (highest xs) (highest-set xs) n e
+  where
+    go : (c : Bool) (m : ℕ) → ((k : ℕ) → m ≡ suc k → getD xs k false ≡ true) → (n : ℕ) → raised c m ≡ suc n → getD (c ∷ xs) n false ≡ true
+    go true zero q zero e = refl
+    go true zero q (suc n) e = absurd (omega arith)
+    go false zero q n e = absurd (omega arith)
+    go c (suc m) q zero e = absurd (omega arith)
+    go c (suc m) q (suc n) e = q n (omega arith)
+
+-- a bound above which no flag is set
+pub highest-least : (xs : List Bool) (m : ℕ) → Below xs m → highest xs ≤ m
+highest-least xs m b = go (highest xs) refl
+  where
+    go : (n : ℕ) → highest xs ≡ n → n ≤ m
+    go zero e = zero-le
+    go (suc n) e = less (decLe (suc n) m)
+      where
+        less : Dec (suc n ≤ m) → suc n ≤ m
+        less (yes h) = h
+        less (no h) = clash (sym (b n (omega arith)) ∙ highest-set xs n e)
+
+-- a flag that is set is not above it
+pub highest-above : (xs : List Bool) (j : ℕ) → getD xs j false ≡ true → j < highest xs
+highest-above xs j e = go (decLt j (highest xs))
+  where
+    go : Dec (j < highest xs) → j < highest xs
+    go (yes h) = h
+    go (no h) = clash (sym (highest-below xs j (omega arith)) ∙ e)
+
+-- a scan from the end that has passed all but i of the n flags, all of them clear
+pub record Lowered (xs : List Bool) (n i : ℕ) : Type 0 where
+  pub within : i ≤ n
+  pub clear : Below xs i
+
+pub lower-start : (xs : List Bool) (n : ℕ) → length xs ≡ n → Lowered xs n n
+lower-start xs n e = record { within = omega arith; clear = λ j h. List·getD-eq-default xs false (omega arith) }
+
+module _ {xs : List Bool} {n i : ℕ} (w : Lowered xs n i) where
+  pub lower-stop : 0 < i → getD xs (i - 1) false ≡ true → i ≡ highest xs
+  lower-stop h t = omega (arith, highest-above xs (i - 1) t, highest-least xs i (w .clear))
+
+  pub lower-more : getD xs (i - 1) false ≡ false → Lowered xs n (i - 1)
+  lower-more t = record { within = omega arith; clear = λ j h. go j h (decLe i j) }
+    where
+      go : (j : ℕ) → i - 1 ≤ j → Dec (i ≤ j) → getD xs j false ≡ false
+      go j h (yes l) = w .clear j l
+      go j h (no l) = let e : j ≡ i - 1 = omega arith in rw e t
+
+  pub lower-end : i ≤ 0 → i ≡ highest xs
+  lower-end h = omega (arith, highest-least xs i (w .clear))

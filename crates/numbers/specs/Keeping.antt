@@ -1,17 +1,17 @@
 -- Number-keeping, once over the numbering T: the cumulative point, which offsets above it have come, the duplicates since the last SACK.
-use Prim.Native.Nat.{ℕ, _+_, _-_}
+use Prim.Native.Nat.{ℕ, _+_, _-_, _≤_}
+use mathlib.Core.Path.{_≡_}
 use mathlib.Core.Bool.{Bool, true, false}
 use mathlib.Core.List.{List}
 use lib.ListN.{set, replicate, getD}
-use lib.Dec.{ltb}
+use lib.Dec.{ltb, leb}
 use Rattle.scans.specs.Scan.{pick}
 use Rattle.numbers.specs.declared.circle.Tsn.{Tsn}
-use Rattle.numbers.specs.declared.circle.Distance.{Distance}
-use Rattle.numbers.specs.declared.circle.Distance.the-variants.{Ahead, Behind, Opposite}
 use Rattle.numbers.specs.declared.keeping.Keeping.{Keeping}
+use Rattle.numbers.specs.Circle.{forward}
 use Rattle.numbers.specs.Numbering.{Numbering, on, before, far}
 use Rattle.numbers.specs.Profile.{Profile}
-use Rattle.numbers.specs.Come.{run, shift}
+use Rattle.numbers.specs.Come.{run, shift, highest}
 
 -- "point = peer's initial TSN minus 1, all else empty or zero"
 unfoldable pub fresh : Numbering → Profile → Tsn → Keeping
@@ -21,11 +21,6 @@ fresh T P t = record {
   dups = replicate (P .listed) (record { 0 = 0 });
   listed = 0;
 }
-
-abbrev pub forward : Distance → ℕ
-forward (Ahead d) = d
-forward (Behind d) = 0
-forward Opposite = 0
 
 -- how far a number is ahead of the point, and 0 where it is not
 unfoldable pub offsetOf : Numbering → Keeping → ℕ → ℕ
@@ -60,3 +55,15 @@ listed P k t =
 -- a SACK empties the list
 unfoldable pub told : Profile → Keeping → Keeping
 told P k = record { point = k .point; come = k .come; dups = replicate (P .listed) (record { 0 = 0 }); listed = 0 }
+
+-- "highest offset come", and 0 where none has
+unfoldable pub highestOf : Keeping → ℕ
+highestOf k = highest (k .come)
+
+-- the bounds of this part of a record: "offset 1 not come", "16 duplicates listed"
+unfoldable pub keepingSound : Profile → Keeping → Bool
+keepingSound P k = pick (getD (k .come) 0 false) false (leb (k .listed) (P .listed))
+
+pub record Bounded (P : Profile) (k : Keeping) : Type 0 where
+  pub first : getD (k .come) 0 false ≡ false
+  pub few : k .listed ≤ P .listed

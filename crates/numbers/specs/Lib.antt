@@ -8,3 +8,4 @@ pub mod JudgementLaws
 pub mod Profile
 pub mod Come
 pub mod Keeping
+pub mod Blocks

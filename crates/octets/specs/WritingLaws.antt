@@ -1,0 +1,158 @@
+-- Laws of writing: the length of a chunk, bytes laid one behind the other, what the promise `Wrote` says where there is room,
+-- writers in a part of an output; and lists of items of four bytes. Assumes nothing.
+use Prim.Native.Nat.{ℕ, zero, suc, _+_, _-_, _*_, _<_, _≤_}
+use mathlib.Core.Path.{_≡_, refl, sym, ap, _∙_}
+use mathlib.Core.Bool.{Bool, true, false}
+use mathlib.Core.List.{List, [], _∷_, _++_, append-assoc}
+use native.Mathlib.Omega.{arith}
+use borrow.Author.Tests.{lt-ltb, le-ltb}
+use lib.Dec.{ltb}
+use lib.ListN.{length, take, drop, length-append, length-take, length-drop}
+use lib.Seq.{drop-append-add}
+use Rattle.scans.specs.Scan.{pick}
+use Rattle.octets.specs.Bytes.{u16, be16, up4, zeros, laid}
+use Rattle.octets.specs.BytesLaws.{u16-at, part-is, laid-nil, laid-more, laid-is, length-laid, laid-part, kept-part, zeros-long}
+use Rattle.octets.specs.Walk.{size}
+use Rattle.octets.specs.WalkLaws.{size-is}
+use Rattle.octets.specs.Writing.{head, chunk, items, wroteCount, wroteBytes, Wrote, wroteAt}
+
+-- ---- a chunk
+
+module _ (k f n : ℕ) (body rest : List ℕ) where
+  -- its length field, its size on the walk, and its first byte
+  pub chunk-length : u16 (chunk k f n body ++ rest) 2 ≡ n
+  chunk-length = u16-at (chunk k f n body ++ rest) 2 n refl
+
+  pub chunk-size : 4 ≤ n → size (chunk k f n body ++ rest) ≡ up4 n
+  chunk-size h =
+      let e : u16 (chunk k f n body ++ rest) 2 ≡ n = chunk-length in
+      size-is (chunk k f n body ++ rest) (omega (arith, e)) ∙ ap up4 e
+
+pub length-chunk : (k f n : ℕ) (body : List ℕ) → 4 + length body ≡ n → length (chunk k f n body) ≡ up4 n
+length-chunk k f n body e = omega (arith, e, length-append body (zeros n), zeros-long n)
+
+-- ---- bytes one behind the other
+
+-- x is out with the bytes a at its head
+pub record Holds (out a x : List ℕ) : Type 0 where
+  pub is : x ≡ laid out 0 a
+
+pub first : (out a : List ℕ) {x : List ℕ} → x ≡ laid out 0 a → Holds out a x
+first out a e = record { is = e }
+
+-- and then the bytes b behind them
+pub then : {out a x : List ℕ} → Holds out a x → {y : List ℕ} (k : ℕ) (b : List ℕ) → length a ≡ k → y ≡ laid x k b → Holds out (a ++ b) y
+then {out} {a} {x} w {y} k b q h =
+    let z : k ≡ 0 + length a = omega arith in
+    record { is = h ∙ (λ i. laid (w .is i) (z i) b) ∙ laid-more a b out 0 }
+
+pub holds-long : {out a x : List ℕ} → Holds out a x → length x ≡ length out
+holds-long {out} {a} w = ap (λ (l : List ℕ). length l) (w .is) ∙ length-laid out 0 a
+
+module _ {out bs : List ℕ} {n : ℕ} (e : length bs ≡ n) where
+  pub wrote-long : 65532 < n → Wrote out bs 0 out
+  unfolding wroteCount wroteBytes
+  wrote-long h = record { count = rw (e, lt-ltb 65532 n h); bytes = rw (e, lt-ltb 65532 n h) }
+
+  pub wrote-short : n ≤ 65532 → length out < n → Wrote out bs 0 out
+  unfolding wroteCount wroteBytes
+  wrote-short h k = record { count = rw (e, le-ltb 65532 n h, lt-ltb (length out) n k); bytes = rw (e, le-ltb 65532 n h, lt-ltb (length out) n k) }
+
+  pub wrote-all : n ≤ 65532 → n ≤ length out → {exit : List ℕ} → Holds out bs exit → Wrote out bs n exit
+  unfolding wroteCount wroteBytes
+  wrote-all h k {exit} q = record { count = rw (e, le-ltb 65532 n h, le-ltb (length out) n k); bytes = rw (e, le-ltb 65532 n h, le-ltb (length out) n k) (q .is) }
+
+-- where bs fits, it is written, and the bytes behind it stay
+pub wrote-fits : {out bs exit : List ℕ} {r : ℕ} → Wrote out bs r exit → length bs ≤ 65532 → length bs ≤ length out → exit ≡ laid out 0 bs
+unfolding wroteBytes
+wrote-fits {out} {bs} w h k = rw (le-ltb 65532 (length bs) h, le-ltb (length out) (length bs) k) at (w .bytes)
+
+pub wrote-is : {out bs exit : List ℕ} {r : ℕ} → Wrote out bs r exit → length bs ≤ 65532 → length bs ≤ length out → exit ≡ bs ++ drop (length bs) out
+wrote-is {out} {bs} w h k =
+    let z : 0 + length bs ≡ length bs = omega arith in
+    wrote-fits w h k ∙ laid-is bs out 0 (omega arith) ∙ ap (λ (j : ℕ). bs ++ drop j out) z
+
+-- a writer at work in the part of xs that begins at `at`
+module _ (at : ℕ) (xs : List ℕ) {bs ys : List ℕ} {r : ℕ} (h : at ≤ length xs) (w : Wrote (take (length xs - at) (drop at xs)) bs r ys) where
+  part-long : length (take (length xs - at) (drop at xs)) ≡ length xs - at
+  part-long = ap length (part-is xs at) ∙ length-drop at xs
+
+  pub wrote-part : take at xs ++ (ys ++ drop (length xs - at) (drop at xs)) ≡ wroteAt xs at bs
+  unfolding wroteAt wroteBytes
+  wrote-part = go (ltb 65532 (length bs)) (ltb (length xs - at) (length bs)) (rw part-long at (w .bytes))
+    where
+      part : List ℕ
+      part = take (length xs - at) (drop at xs)
+
+      go : (s t : Bool) → ys ≡ pick s part (pick t part (laid part 0 bs))
+          → take at xs ++ (ys ++ drop (length xs - at) (drop at xs)) ≡ pick s xs (pick t xs (laid xs at bs))
+      go true t e = kept-part at xs h e
+      go false true e = kept-part at xs h e
+      go false false e = laid-part at xs bs h e
+
+  -- what it answers
+  pub part-count : r ≡ pick (ltb 65532 (length bs)) 0 (pick (ltb (length xs - at) (length bs)) 0 (length bs))
+  unfolding wroteCount
+  part-count = rw part-long at (w .count)
+
+-- no bytes: nothing is written
+pub wrote-none : (out : List ℕ) → Wrote out [] 0 out
+unfolding wroteCount wroteBytes
+wrote-none out = record { count = nought (ltb (length out) 0); bytes = same (ltb (length out) 0) }
+  where
+    nought : (t : Bool) → _≡_ {A = ℕ} 0 (pick t 0 0)
+    nought true = refl
+    nought false = refl
+
+    same : (t : Bool) → out ≡ pick t out (laid out 0 [])
+    same true = refl
+    same false = sym (laid-nil out 0)
+
+-- ---- lists of items of four bytes
+
+pub length-items : (f : ℕ → List ℕ) → ((k : ℕ) → length (f k) ≡ 4) → (i n : ℕ) → length (items f i n) ≡ 4 * n
+length-items f four i zero = refl
+length-items f four i (suc n) = omega (arith, length-append (f i) (items f (i + 1) n), four i, length-items f four (i + 1) n)
+
+-- item j of a list of items of four bytes
+item-at : (f : ℕ → List ℕ) → ((k : ℕ) → length (f k) ≡ 4) → (i n j : ℕ) (rest : List ℕ) → j < n
+    → drop (4 * j) (items f i n ++ rest) ≡ f (i + j) ++ (items f (i + j + 1) (n - (j + 1)) ++ rest)
+item-at f four i zero j rest h = absurd (omega arith)
+item-at f four i (suc n) zero rest h =
+    let a : i + 0 ≡ i = omega arith in
+    let b : suc n - (0 + 1) ≡ n = omega arith in
+    rw (append-assoc (f i) (items f (i + 1) n) rest, a, b)
+item-at f four i (suc n) (suc j) rest h =
+    let a : 4 * suc j ≡ length (f i) + 4 * j = omega (arith, four i) in
+    let b : i + suc j ≡ i + 1 + j = omega arith in
+    let m : suc n - (suc j + 1) ≡ n - (j + 1) = omega arith in
+    rw (append-assoc (f i) (items f (i + 1) n) rest, a, drop-append-add (f i) (items f (i + 1) n ++ rest) (4 * j), b, m)
+    (item-at f four (i + 1) n j rest (omega arith))
+
+-- ---- a loop that lays n items from `at` on
+pub record Listing (f : ℕ → List ℕ) (out : List ℕ) (at n : ℕ) (now : List ℕ) (i : ℕ) : Type 0 where
+  pub within : i ≤ n
+  pub long : length now ≡ length out
+  pub rest : laid now (at + 4 * i) (items f i (n - i)) ≡ laid out at (items f 0 n)
+
+pub listing-none : (f : ℕ → List ℕ) (out : List ℕ) (at n : ℕ) → Listing f out at n out 0
+listing-none f out at n =
+    let z : at ≡ at + 4 * 0 = omega arith in
+    let m : n ≡ n - 0 = omega arith in
+    record { within = omega arith; long = refl; rest = (λ i. laid out (sym z i) (items f 0 (sym m i))) }
+
+module _ {f : ℕ → List ℕ} {out : List ℕ} {at n : ℕ} {now : List ℕ} {i : ℕ} (w : Listing f out at n now i) where
+  pub listing-one : i < n → length (f i) ≡ 4 → {x : List ℕ} → x ≡ laid now (at + 4 * i) (f i) → Listing f out at n x (i + 1)
+  listing-one h four {x} e =
+      let m : n - i ≡ suc (n - (i + 1)) = omega arith in
+      let a : at + 4 * (i + 1) ≡ at + 4 * i + length (f i) = omega arith in
+      record {
+        within = omega arith;
+        long = ap (λ (l : List ℕ). length l) e ∙ length-laid now (at + 4 * i) (f i) ∙ w .long;
+        rest = (λ j. laid (e j) (a j) (items f (i + 1) (n - (i + 1)))) ∙ laid-more (f i) (items f (i + 1) (n - (i + 1))) now (at + 4 * i) ∙ (rw m at (w .rest));
+      }
+
+  pub listing-all : n ≤ i → now ≡ laid out at (items f 0 n)
+  listing-all h =
+      let m : n - i ≡ 0 = omega arith in
+      sym (laid-nil now (at + 4 * i)) ∙ (rw m at (w .rest))
