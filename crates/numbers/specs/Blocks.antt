@@ -1,6 +1,6 @@
 -- The gap blocks: every run of offsets come, in rising order, and the arrays that list them.
 use Prim.Native.Nat.{ℕ, zero, suc, _+_, _-_, _*_, _/_, _<_, _≤_, zero-le, suc-le-suc}
-use mathlib.Core.Path.{_≡_, refl, sym, ap, _∙_}
+use mathlib.Core.Path.{_≡_, refl, ap}
 use mathlib.Core.Bool.{Bool, true, false}
 use mathlib.Core.List.{List, [], _∷_, _++_, map, map-append, append-nil, append-assoc}
 use lib.ListN.{length, set, replicate, drop, getD, length-append, drop-of-length-le, length-map}

@@ -34,6 +34,12 @@ asDistance n d = pickDistance (ltb (d + d) n) (Ahead d) (pickDistance (eqb (d + 
 unfoldable pub onCircle : ℕ → ℕ → ℕ → Distance
 onCircle n a b = asDistance n (steps n a b)
 
+-- how far ahead, and 0 where it is not
+abbrev pub forward : Distance → ℕ
+forward (Ahead d) = d
+forward (Behind d) = 0
+forward Opposite = 0
+
 -- Of the steps d by which b follows a: what `steps` and `onCircle` are. One law for every size of circle.
 module _ {n a b d : ℕ} (ha : a < n) (hd : d < n) (e : (d + a) % n ≡ b) where
   pub steps-are : steps n a b ≡ d

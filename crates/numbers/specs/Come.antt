@@ -2,14 +2,17 @@
 use Prim.Native.Nat.{ℕ, zero, suc, _+_, _-_, _<_, _≤_, min, zero-le, suc-le-suc}
 use mathlib.Core.Path.{_≡_, refl, sym, ap, _∙_}
 use native.Mathlib.Numerals.{add-one}
-use native.Mathlib.Nat.{zero-add, add-zero, suc-add}
+use native.Mathlib.Nat.{zero-add, suc-add}
 use native.Mathlib.Omega.{arith}
-use native.Mathlib.Decide.{decLt, decLe}
+use native.Mathlib.Decide.{decLt, decLe, ℕ-discrete}
+use borrow.Author.Tests.{lt-ltb, le-ltb}
 use mathlib.Core.Bool.{Bool, true, false}
 use mathlib.Core.List.{List, [], _∷_, _++_}
 use lib.ListN.{length, List·getD-eq-default, take, drop, replicate, set, getD, drop-of-length-le, length-drop, length-append, length-replicate}
 use Rattle.scans.specs.Scan.{drop-at}
-use lib.Seq.{take-suc, set-at, getD-drop, length-take-le, append-snoc, take-all}
+use Rattle.scans.specs.Each.{clash}
+use Rattle.scans.specs.Upto.{larger}
+use lib.Seq.{getD-set-same, getD-set-other, take-suc, set-at, getD-drop, length-take-le, append-snoc, take-all}
 
 -- how many flags are set in a row from the front
 abbrev pub run : List Bool → ℕ
@@ -91,7 +94,7 @@ shift-all xs n k e h =
     rw (m, drop-of-length-le xs {i = k} (omega arith))
 
 -- what is read of the shifted flags: each is what it was, n places on
-clear-at : (m j : ℕ) → getD (replicate m false) j false ≡ false
+pub clear-at : (m j : ℕ) → getD (replicate m false) j false ≡ false
 clear-at zero j = refl
 clear-at (suc m) zero = refl
 clear-at (suc m) (suc j) = clear-at m j
@@ -115,10 +118,14 @@ run-ends [] = refl
 run-ends (true ∷ xs) = run-ends xs
 run-ends (false ∷ xs) = refl
 
--- ---- the highest that has come
+-- and all before it are set
+pub run-at : (xs : List Bool) (j : ℕ) → j < run xs → getD xs j false ≡ true
+run-at [] j l = absurd (omega arith)
+run-at (true ∷ xs) zero l = refl
+run-at (true ∷ xs) (suc j) l = run-at xs j (omega arith)
+run-at (false ∷ xs) j l = absurd (omega arith)
 
-clash : {A : Type 0} → false ≡ true → A
-clash e = let z : _≡_ {A = ℕ} 0 1 = cc in absurd (omega arith)
+-- ---- the highest that has come
 
 -- no flag is set from m on
 abbrev pub Below : List Bool → ℕ → Type 0
@@ -197,3 +204,50 @@ module _ {xs : List Bool} {n i : ℕ} (w : Lowered xs n i) where
 
   pub lower-end : i ≤ 0 → i ≡ highest xs
   lower-end h = omega (arith, highest-least xs i (w .clear))
+
+-- the highest, when one more flag is set, and when a run is taken off
+pub highest-marks : (xs : List Bool) (i : ℕ) → i < length xs → highest (set xs i true) ≡ larger (highest xs) (i + 1)
+highest-marks xs i h = go (decLt (highest xs) (i + 1))
+  where
+    here : i < highest (set xs i true)
+    here = highest-above (set xs i true) i (getD-set-same xs i true false h)
+
+    clear : (m : ℕ) → highest xs ≤ m → i < m → Below (set xs i true) m
+    clear m l b j g = getD-set-other xs i j true false (λ e. omega arith) ∙ highest-below xs j (omega arith)
+
+    stays : (n : ℕ) → highest xs ≡ n → n ≤ highest (set xs i true)
+    stays zero e = zero-le
+    stays (suc n) e = same (ℕ-discrete n i)
+      where
+        same : Dec (n ≡ i) → n < highest (set xs i true)
+        same (yes q) = omega (arith, here)
+        same (no q) = highest-above (set xs i true) n (getD-set-other xs i n true false q ∙ highest-set xs n e)
+
+    go : Dec (highest xs < i + 1) → highest (set xs i true) ≡ larger (highest xs) (i + 1)
+    go (yes l) = rw (lt-ltb (highest xs) (i + 1) l) (omega (arith, here, highest-least (set xs i true) (i + 1) (clear (i + 1) (omega arith) (omega arith))))
+    go (no l) =
+        rw (le-ltb (highest xs) (i + 1) (omega arith))
+        (omega (arith, stays (highest xs) refl, highest-least (set xs i true) (highest xs) (clear (highest xs) (omega arith) (omega arith))))
+
+run-highest : (xs : List Bool) → run xs ≤ highest xs
+run-highest xs = go (run xs) refl
+  where
+    go : (n : ℕ) → run xs ≡ n → n ≤ highest xs
+    go zero e = zero-le
+    go (suc n) e = highest-above xs n (run-at xs n (omega arith))
+
+pub highest-shifts : (xs : List Bool) → highest (shift (run xs) xs) + run xs ≡ highest xs
+highest-shifts xs = omega (arith, run-highest xs, above (highest xs) refl, highest-least (shift (run xs) xs) (highest xs - run xs) clear)
+  where
+    clear : Below (shift (run xs) xs) (highest xs - run xs)
+    clear j h = shift-at (run xs) xs j ∙ highest-below xs (run xs + j) (omega arith)
+
+    above : (n : ℕ) → highest xs ≡ n → n ≤ highest (shift (run xs) xs) + run xs
+    above zero e = zero-le
+    above (suc n) e = go (decLe (run xs) n)
+      where
+        go : Dec (run xs ≤ n) → suc n ≤ highest (shift (run xs) xs) + run xs
+        go (yes l) =
+            let q : run xs + (n - run xs) ≡ n = omega arith in
+            omega (arith, highest-above (shift (run xs) xs) (n - run xs) (shift-at (run xs) xs (n - run xs) ∙ (ap (λ (x : ℕ). getD xs x false) q ∙ highest-set xs n e)))
+        go (no l) = omega arith

@@ -9,3 +9,8 @@ pub mod Profile
 pub mod Come
 pub mod Keeping
 pub mod Blocks
+pub mod Reach
+pub mod KeepingLaws
+pub mod KeepingLine
+pub mod KeepingRoom
+pub mod BlocksLaws

@@ -4,11 +4,10 @@ use crate::circle::Tsn;
 use crate::rail::Rail;
 ghost use mathlib.Core.Path.{_≡_};
 ghost use Prim.Native.Nat.{_^_, _<_, _≤_};
-ghost use Rattle.numbers.specs.Circle.{forward};
 ghost use Rattle.numbers.specs.Numbering.{ring, far};
 ghost use Rattle.numbers.specs.Profile.{rail};
 ghost use Rattle.numbers.specs.Come.{run, shift};
-ghost use Rattle.numbers.specs.Keeping.{fresh, offsetOf, isCome, marked, listed, told, highestOf, keepingSound};
+ghost use Rattle.numbers.specs.Keeping.{forward, fresh, offsetOf, isCome, marked, listed, told, highestOf, keepingSound};
 ghost use Rattle.numbers.specs.Blocks.{blocksOf, closed};
 
 pub struct Keeping {

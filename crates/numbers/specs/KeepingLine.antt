@@ -1,0 +1,82 @@
+-- The circle keeps numbers as the line does: of a record of the line, taken modulo the circle, each operation gives the line's result so taken,
+-- for a number less than half a circle from the point. Once for every (even) size of circle and every profile.
+-- Assumes nothing.
+use Prim.Native.Nat.{ℕ, zero, suc, _+_, _-_, _%_, _<_}
+use mathlib.Core.Path.{_≡_, refl, ap}
+use mathlib.Core.Bool.{Bool, true, false}
+use mathlib.Core.List.{List, map}
+use native.Mathlib.Nat.{zero-mod}
+use lib.ListN.{set, replicate}
+use lib.Dec.{ltb}
+use Rattle.scans.specs.Scan.{pick}
+use Rattle.scans.specs.Each.{set-map}
+use Rattle.numbers.specs.declared.circle.Tsn.{Tsn}
+use Rattle.numbers.specs.declared.keeping.Keeping.{Keeping}
+use Rattle.numbers.specs.Numbering.{ring, line, Within, on-law, before-law, far-law}
+use Rattle.numbers.specs.Profile.{Profile}
+use Rattle.numbers.specs.Come.{run}
+use Rattle.numbers.specs.Keeping.{forward, fresh, offsetOf, isCome, settled, marked, listed, told, highestOf, keepingSound}
+use Rattle.numbers.specs.Blocks.{blocksOf}
+
+abbrev pub reduceTsn : ℕ → Tsn → Tsn
+reduceTsn n t = record { 0 = t .0 % n }
+
+-- every number modulo n, and nothing else changed
+abbrev pub reduceKeeping : ℕ → Keeping → Keeping
+reduceKeeping n k = record { point = reduceTsn n (k .point); come = k .come; dups = map (reduceTsn n) (k .dups); listed = k .listed }
+
+pick-map : {A B : Type 0} (f : A → B) (b : Bool) (x y : A) → pick b (f x) (f y) ≡ f (pick b x y)
+pick-map f true x y = refl
+pick-map f false x y = refl
+
+module _ (n : ℕ) where
+  none-law : (m : ℕ) → replicate m (record { 0 = 0 }) ≡ map (reduceTsn n) (replicate m (record { 0 = 0 }))
+  none-law zero = refl
+  none-law (suc m) = rw (zero-mod n, ← none-law m)
+
+  pub fresh-law : (P : Profile) (t : Tsn) → 0 < n → 0 < t .0 → fresh (ring n) P (reduceTsn n t) ≡ reduceKeeping n (fresh line P t)
+  unfolding fresh
+  fresh-law P t z h = rw (before-law n (t .0) z h, ← none-law (P .listed))
+
+  settled-law : (k : Keeping) (cs : List Bool) → settled (ring n) (reduceKeeping n k) cs ≡ reduceKeeping n (settled line k cs)
+  unfolding settled
+  settled-law k cs = rw (on-law n (k .point .0) (run cs))
+
+  pub listed-law : (P : Profile) (k : Keeping) (t : Tsn) → listed P (reduceKeeping n k) (reduceTsn n t) ≡ reduceKeeping n (listed P k t)
+  unfolding listed
+  listed-law P k t =
+      let more : Keeping = record { point = k .point; come = k .come; dups = set (k .dups) (k .listed) t; listed = k .listed + 1 } in
+      rw (set-map (reduceTsn n) (k .dups) (k .listed) t) (pick-map (reduceKeeping n) (ltb (k .listed) (P .listed)) more k)
+
+  pub told-law : (P : Profile) (k : Keeping) → told P (reduceKeeping n k) ≡ reduceKeeping n (told P k)
+  unfolding told
+  told-law P k = rw (← none-law (P .listed))
+
+  pub blocks-law : (P : Profile) (k : Keeping) → blocksOf P (reduceKeeping n k) ≡ blocksOf P k
+  unfolding blocksOf
+  blocks-law P k = refl
+
+  pub highest-law : (k : Keeping) → highestOf (reduceKeeping n k) ≡ highestOf k
+  unfolding highestOf
+  highest-law k = refl
+
+  pub sound-law : (P : Profile) (k : Keeping) → keepingSound P (reduceKeeping n k) ≡ keepingSound P k
+  unfolding keepingSound
+  sound-law P k = refl
+
+module _ (h : ℕ) (k : Keeping) (t : ℕ) (w : Within h (k .point .0) t) where
+  pub offset-law : offsetOf (ring (h + h)) (reduceKeeping (h + h) k) (t % (h + h)) ≡ offsetOf line k t
+  unfolding offsetOf
+  offset-law = ap forward (far-law h (k .point .0) t w)
+
+  pub come-law : isCome (ring (h + h)) (reduceKeeping (h + h) k) (t % (h + h)) ≡ isCome line k t
+  unfolding isCome
+  come-law = rw offset-law
+
+  pub marked-law : (P : Profile) → marked (ring (h + h)) P (reduceKeeping (h + h) k) (t % (h + h)) ≡ reduceKeeping (h + h) (marked line P k t)
+  unfolding marked
+  marked-law P =
+      let d : ℕ = offsetOf line k t in
+      let next : Keeping = settled line k (set (k .come) (d - 1) true) in
+      rw (offset-law, settled-law (h + h) k (set (k .come) (d - 1) true), pick-map (reduceKeeping (h + h)) (ltb (P .places) d) k next)
+      (pick-map (reduceKeeping (h + h)) (ltb d 1) k (pick (ltb (P .places) d) k next))

@@ -1,0 +1,360 @@
+-- Counting: of distinct numbers, no more have come than there are offsets come. So among n places, where the highest offset come and the numbers
+-- that have not come are n at most together, one that is to come at an offset within the rest finds a free place; and they stay so together.
+-- Assumes nothing.
+use Prim.Native.Nat.{ℕ, zero, suc, _+_, _-_, _<_, _≤_, zero-le, suc-le-suc}
+use mathlib.Core.Path.{_≡_, refl, sym, ap, _∙_}
+use mathlib.Core.Bool.{Bool, true, false, not}
+use mathlib.Core.List.{List, [], _∷_}
+use mathlib.Core.Logic.{_⊎_, inl, inr, ⊎-elim}
+use native.Mathlib.Nat.{le-of-suc-le-suc}
+use native.Mathlib.Decide.{decLt, ℕ-discrete}
+use native.Mathlib.Omega.{arith}
+use borrow.Author.Tests.{lt-ltb, le-ltb, eq-eqb, ne-eqb, not-true}
+use lib.ListN.{length, set, replicate, getD}
+use lib.Seq.{getD-set-other}
+use lib.Dec.{eqb}
+use Rattle.scans.specs.Scan.{pick, tick, count, any}
+use Rattle.scans.specs.Each.{All, clash}
+use Rattle.numbers.specs.declared.keeping.Keeping.{Keeping}
+use Rattle.numbers.specs.Numbering.{Numbering}
+use Rattle.numbers.specs.Profile.{Profile}
+use Rattle.numbers.specs.Come.{Below, highest-below}
+use Rattle.numbers.specs.Keeping.{offsetOf, isCome, marked, highestOf}
+use Rattle.numbers.specs.Reach.{On}
+use Rattle.numbers.specs.KeepingLaws.{Comes, flagOf, come-below, same-ahead, movedBy, come-after, highest-after}
+
+-- ---- the numbers of what is used
+
+module _ {A : Type 0} (used : A → Bool) (number : A → ℕ) where
+  abbrev pub numbersOf : List A → List ℕ
+  numbersOf [] = []
+  numbersOf (x ∷ xs) = pick (used x) (number x ∷ numbersOf xs) (numbersOf xs)
+
+  pub count-numbers : (q : ℕ → Bool) (xs : List A) → count (λ (x : A). pick (used x) (q (number x)) false) xs ≡ count q (numbersOf xs)
+  count-numbers q [] = refl
+  count-numbers q (x ∷ xs) = go (used x) (count-numbers q xs)
+    where
+      go : (u : Bool) → count (λ (y : A). pick (used y) (q (number y)) false) xs ≡ count q (numbersOf xs)
+          → tick (pick u (q (number x)) false) (count (λ (y : A). pick (used y) (q (number y)) false) xs) ≡ count q (pick u (number x ∷ numbersOf xs) (numbersOf xs))
+      go true e = rw e
+      go false e = e
+
+  pub any-numbers : (q : ℕ → Bool) (xs : List A) → any (λ (x : A). pick (used x) (q (number x)) false) xs ≡ any q (numbersOf xs)
+  any-numbers q [] = refl
+  any-numbers q (x ∷ xs) = go (used x) (any-numbers q xs)
+    where
+      go : (u : Bool) → any (λ (y : A). pick (used y) (q (number y)) false) xs ≡ any q (numbersOf xs)
+          → pick (pick u (q (number x)) false) true (any (λ (y : A). pick (used y) (q (number y)) false) xs) ≡ any q (pick u (number x ∷ numbersOf xs) (numbersOf xs))
+      go true e = rw e
+      go false e = e
+
+  pub length-numbers : (xs : List A) → count used xs ≡ length (numbersOf xs)
+  length-numbers [] = refl
+  length-numbers (x ∷ xs) = go (used x) (length-numbers xs)
+    where
+      go : (u : Bool) → count used xs ≡ length (numbersOf xs) → tick u (count used xs) ≡ length (pick u (number x ∷ numbersOf xs) (numbersOf xs))
+      go true e = ap suc e
+      go false e = e
+
+  -- what holds of every number that is used
+  pub all-numbers : (Q : ℕ → Type 0) (xs : List A) → All (λ (x : A). used x ≡ true → Q (number x)) xs → All Q (numbersOf xs)
+  all-numbers Q [] w = tt
+  all-numbers Q (x ∷ xs) w = go (used x) (w .0) (all-numbers Q xs (w .1))
+    where
+      go : (u : Bool) → (u ≡ true → Q (number x)) → All Q (numbersOf xs) → All Q (pick u (number x ∷ numbersOf xs) (numbersOf xs))
+      go true f v = (f refl, v)
+      go false f v = v
+
+-- "held TSNs distinct"
+abbrev pub isAmong : ℕ → List ℕ → Bool
+isAmong t ts = any (λ (y : ℕ). eqb y t) ts
+
+abbrev pub Distinct : List ℕ → Type 0
+Distinct [] = Unit
+Distinct (t ∷ ts) = (isAmong t ts ≡ false) × Distinct ts
+
+-- none that is another's
+apart : (t : ℕ) (ts : List ℕ) → isAmong t ts ≡ false → All (λ (y : ℕ). y ≡ t → ⊥) ts
+apart t [] e = tt
+apart t (y ∷ ts) e = go (ℕ-discrete y t) (apart t ts)
+  where
+    go : Dec (y ≡ t) → (isAmong t ts ≡ false → All (λ (z : ℕ). z ≡ t → ⊥) ts) → (y ≡ t → ⊥) × All (λ (z : ℕ). z ≡ t → ⊥) ts
+    go (yes q) ih = clash (sym (rw (eq-eqb y t q) at e))
+    go (no q) ih = (q, ih (rw (ne-eqb y t q) at e))
+
+-- ---- flags
+
+abbrev flag : Bool → Bool
+flag b = b
+
+-- clearing a set flag takes one from the count
+clear-one : (cs : List Bool) (i : ℕ) → getD cs i false ≡ true → count flag cs ≡ suc (count flag (set cs i false))
+clear-one [] i e = clash e
+clear-one (true ∷ cs) zero e = refl
+clear-one (false ∷ cs) zero e = clash e
+clear-one (true ∷ cs) (suc i) e = ap suc (clear-one cs i e)
+clear-one (false ∷ cs) (suc i) e = clear-one cs i e
+
+below-count : (cs : List Bool) (m : ℕ) → Below cs m → count flag cs ≤ m
+below-count [] m b = zero-le
+below-count (true ∷ cs) zero b = clash (sym (b 0 zero-le))
+below-count (false ∷ cs) zero b = below-count cs zero (λ j h. b (suc j) zero-le)
+below-count (true ∷ cs) (suc m) b = suc-le-suc (below-count cs m (λ j h. b (suc j) (suc-le-suc h)))
+below-count (false ∷ cs) (suc m) b = omega (arith, below-count cs m (λ j h. b (suc j) (suc-le-suc h)))
+
+-- one below m is clear
+hole-count : (cs : List Bool) (m i : ℕ) → Below cs m → i < m → getD cs i false ≡ false → count flag cs < m
+hole-count cs zero i b h e = absurd (omega arith)
+hole-count [] (suc m) i b h e = suc-le-suc zero-le
+hole-count (true ∷ cs) (suc m) zero b h e = clash (sym e)
+hole-count (false ∷ cs) (suc m) zero b h e = suc-le-suc (below-count cs m (λ j l. b (suc j) (suc-le-suc l)))
+hole-count (true ∷ cs) (suc m) (suc i) b h e = suc-le-suc (hole-count cs m i (λ j l. b (suc j) (suc-le-suc l)) (le-of-suc-le-suc h) e)
+hole-count (false ∷ cs) (suc m) (suc i) b h e = omega (arith, hole-count cs m i (λ j l. b (suc j) (suc-le-suc l)) (le-of-suc-le-suc h) e)
+
+-- what a set flag is of
+flag-inv : (cs : List Bool) (d : ℕ) → flagOf cs d ≡ true → (0 < d) × (getD cs (d - 1) false ≡ true)
+flag-inv cs d e = go (decLt d 1)
+  where
+    go : Dec (d < 1) → (0 < d) × (getD cs (d - 1) false ≡ true)
+    go (yes h) = clash (rw (lt-ltb d 1 h) at e)
+    go (no h) = let l : 1 ≤ d = omega arith in (l, rw (le-ltb d 1 l) at e)
+
+other-flag : (cs : List Bool) (d e : ℕ) → 0 < d → (e ≡ d → ⊥) → flagOf cs e ≡ flagOf (set cs (d - 1) false) e
+other-flag cs d e l n = go (decLt e 1)
+  where
+    go : Dec (e < 1) → flagOf cs e ≡ flagOf (set cs (d - 1) false) e
+    go (yes h) = rw (lt-ltb e 1 h)
+    go (no h) =
+        let k : 1 ≤ e = omega arith in
+        let o : e - 1 ≡ d - 1 → ⊥ = λ q. n (omega arith) in
+        rw (le-ltb e 1 k, getD-set-other cs (d - 1) (e - 1) false false o)
+
+-- the first m flags set: the offsets 1 to m
+flag-first : (m d : ℕ) → 0 < d → d ≤ m → flagOf (replicate m true) d ≡ true
+flag-first m d l h = rw (le-ltb d 1 l) (at m (d - 1) (omega arith))
+  where
+    at : (m i : ℕ) → i < m → getD (replicate m true) i false ≡ true
+    at zero i h = absurd (omega arith)
+    at (suc m) zero h = refl
+    at (suc m) (suc i) h = at m i (omega arith)
+
+count-first : (m : ℕ) → count flag (replicate m true) ≡ m
+count-first zero = refl
+count-first (suc m) = ap suc (count-first m)
+
+-- ---- counts
+
+-- what passes p passes q or r
+count-or : (p q r : ℕ → Bool) (ts : List ℕ) → All (λ (y : ℕ). p y ≡ true → (q y ≡ true) ⊎ (r y ≡ true)) ts → count p ts ≤ count q ts + count r ts
+count-or p q r [] w = zero-le
+count-or p q r (y ∷ ts) w = go (p y) (q y) (r y) (w .0) (count-or p q r ts (w .1))
+  where
+    go : (a b c : Bool) → (a ≡ true → (b ≡ true) ⊎ (c ≡ true)) → count p ts ≤ count q ts + count r ts
+        → tick a (count p ts) ≤ tick b (count q ts) + tick c (count r ts)
+    go false true true f h = omega arith
+    go false true false f h = omega arith
+    go false false true f h = omega arith
+    go false false false f h = h
+    go true true true f h = omega arith
+    go true true false f h = omega arith
+    go true false true f h = omega arith
+    go true false false f h = ⊎-elim (λ e. clash e) (λ e. clash e) (f refl)
+
+count-alike : (p q : ℕ → Bool) (ts : List ℕ) → All (λ (y : ℕ). p y ≡ q y) ts → count p ts ≡ count q ts
+count-alike p q [] w = refl
+count-alike p q (y ∷ ts) w = rw (w .0, count-alike p q ts (w .1))
+
+all-both : {P Q R : ℕ → Type 0} → ((y : ℕ) → P y → Q y → R y) → (ts : List ℕ) → All P ts → All Q ts → All R ts
+all-both f [] v w = tt
+all-both f (y ∷ ts) v w = (f y (v .0) (w .0), all-both f ts (v .1) (w .1))
+
+-- a number that has not come
+abbrev pub isLate : Numbering → Keeping → ℕ → Bool
+isLate T k y = not (isCome T k y)
+
+pub late-come : (T : Numbering) (k : Keeping) (ts : List ℕ) → length ts ≡ count (isLate T k) ts + count (isCome T k) ts
+late-come T k [] = refl
+late-come T k (y ∷ ts) = go (isCome T k y) (late-come T k ts)
+  where
+    go : (c : Bool) → length ts ≡ count (isLate T k) ts + count (isCome T k) ts
+        → suc (length ts) ≡ tick (not c) (count (isLate T k) ts) + tick c (count (isCome T k) ts)
+    go true e = omega arith
+    go false e = omega arith
+
+module _ (T : Numbering) (k : Keeping) (hp : On T (k .point .0)) where
+  -- of distinct numbers, no more lie at set flags than there are
+  pub pigeon : (cs : List Bool) (ts : List ℕ) → All (On T) ts → Distinct ts → count (λ (y : ℕ). flagOf cs (offsetOf T k y)) ts ≤ count flag cs
+  pigeon cs [] w s = zero-le
+  pigeon cs (t ∷ ts) w s = go (flagOf cs (offsetOf T k t)) refl (λ ds. pigeon ds ts (w .1) (s .1))
+    where
+      go : (b : Bool) → flagOf cs (offsetOf T k t) ≡ b
+          → ((ds : List Bool) → count (λ (y : ℕ). flagOf ds (offsetOf T k y)) ts ≤ count flag ds)
+          → tick b (count (λ (y : ℕ). flagOf cs (offsetOf T k y)) ts) ≤ count flag cs
+      go false q ih = ih cs
+      go true q ih =
+          let v = flag-inv cs (offsetOf T k t) q in
+          let e : count (λ (y : ℕ). flagOf cs (offsetOf T k y)) ts ≡ count (λ (y : ℕ). flagOf (set cs (offsetOf T k t - 1) false) (offsetOf T k y)) ts
+          = count-alike _ _ ts (all-both (λ y hy n. other-flag cs (offsetOf T k t) (offsetOf T k y) (v .0) (λ x. n (same-ahead T k t y hp (w .0) hy (v .0) x))) ts (w .1) (apart t ts (s .0))) in
+          omega (arith, e, clear-one cs (offsetOf T k t - 1) (v .1), ih (set cs (offsetOf T k t - 1) false))
+
+  -- a number that is to come: fewer than n are held
+  pub has-room : (n t : ℕ) (ts : List ℕ) → All (On T) ts → Distinct ts → 0 < offsetOf T k t → isCome T k t ≡ false
+      → highestOf k + count (isLate T k) ts ≤ n → offsetOf T k t + count (isLate T k) ts ≤ n → length ts < n
+  unfolding isCome highestOf
+  has-room n t ts w s l c a b =
+      let m : ℕ = n - count (isLate T k) ts in
+      let z : getD (k .come) (offsetOf T k t - 1) false ≡ false = rw (le-ltb (offsetOf T k t) 1 l) at c in
+      omega
+      (arith, late-come T k ts, pigeon (k .come) ts w s, hole-count (k .come) m (offsetOf T k t - 1) (λ j h. highest-below (k .come) j (omega arith)) (omega arith) z)
+
+module _ {T : Numbering} {P : Profile} {k : Keeping} {t : ℕ} (w : Comes T P k t) (ts : List ℕ) (hs : All (On T) ts) (s : Distinct ts) (new : isAmong t ts ≡ false) where
+  -- the number held with the others: no more are late than were, and the steps that the point moved
+  pub late-after : count (isLate T (marked T P k t)) (t ∷ ts) ≤ count (isLate T k) ts + movedBy T k t
+  late-after =
+      omega
+      (arith, pigeon T k (w .point) (replicate (movedBy T k t) true) (t ∷ ts) (w .number, hs) (new, s), count-first (movedBy T k t), others, own (isCome T (marked T P k t) t) refl)
+    where
+      q : ℕ → Bool
+      q y = flagOf (replicate (movedBy T k t) true) (offsetOf T k y)
+
+      others : count (isLate T (marked T P k t)) ts ≤ count (isLate T k) ts + count q ts
+      others = count-or (isLate T (marked T P k t)) (isLate T k) q ts (all-both each ts hs (apart t ts new))
+        where
+          each : (y : ℕ) → On T y → (y ≡ t → ⊥) → isLate T (marked T P k t) y ≡ true → (isLate T k y ≡ true) ⊎ (q y ≡ true)
+          each y hy n e = go (isCome T k y) refl (decLt (movedBy T k t) (offsetOf T k y))
+            where
+              c : isCome T (marked T P k t) y ≡ false
+              c = not-true (isCome T (marked T P k t) y) e
+
+              go : (b : Bool) → isCome T k y ≡ b → Dec (movedBy T k t < offsetOf T k y) → (isLate T k y ≡ true) ⊎ (q y ≡ true)
+              go false f m = inl (rw f)
+              go true f (no m) = inr (flag-first (movedBy T k t) (offsetOf T k y) (come-below T k y f .0) (omega arith))
+              go true f (yes m) =
+                  clash (sym c ∙ (come-after w y hy ∙ rw (lt-ltb (movedBy T k t) (offsetOf T k y) m, ne-eqb y t n) f))
+
+      own : (b : Bool) → isCome T (marked T P k t) t ≡ b
+          → count (isLate T (marked T P k t)) (t ∷ ts) + count q ts ≤ count (isLate T (marked T P k t)) ts + count q (t ∷ ts)
+      own b f = go b f (decLt (movedBy T k t) (offsetOf T k t))
+        where
+          go : (b : Bool) → isCome T (marked T P k t) t ≡ b → Dec (movedBy T k t < offsetOf T k t)
+              → count (isLate T (marked T P k t)) (t ∷ ts) + count q ts ≤ count (isLate T (marked T P k t)) ts + count q (t ∷ ts)
+          go true f m = rw f (grow (q t))
+            where
+              grow : (b : Bool) → count (isLate T (marked T P k t)) ts + count q ts ≤ count (isLate T (marked T P k t)) ts + tick b (count q ts)
+              grow true = omega arith
+              grow false = omega arith
+          go false f (yes m) =
+              clash (sym f ∙ (come-after w t (w .number) ∙ rw (lt-ltb (movedBy T k t) (offsetOf T k t) m, eq-eqb t t refl)))
+          go false f (no m) = rw (f, flag-first (movedBy T k t) (offsetOf T k t) (w .ahead) (omega arith)) (omega arith)
+
+  -- "highest offset come plus low at most 128": kept, whether the number is held or not
+  pub bound-kept : (n : ℕ) → highestOf k + count (isLate T k) ts ≤ n → offsetOf T k t + count (isLate T k) ts ≤ n
+      → highestOf (marked T P k t) + count (isLate T (marked T P k t)) (t ∷ ts) ≤ n
+  bound-kept n a b = go (decLt (highestOf k) (offsetOf T k t))
+    where
+      go : Dec (highestOf k < offsetOf T k t) → highestOf (marked T P k t) + count (isLate T (marked T P k t)) (t ∷ ts) ≤ n
+      go (yes h) =
+          let e : highestOf (marked T P k t) + movedBy T k t ≡ offsetOf T k t = highest-after w ∙ rw (lt-ltb (highestOf k) (offsetOf T k t) h) in
+          omega (arith, late-after)
+      go (no h) =
+          let e : highestOf (marked T P k t) + movedBy T k t ≡ highestOf k = highest-after w ∙ rw (le-ltb (highestOf k) (offsetOf T k t) (omega arith)) in
+          omega (arith, late-after)
+
+  pub bound-kept-unheld : (n : ℕ) → highestOf k + count (isLate T k) ts ≤ n → offsetOf T k t + count (isLate T k) ts ≤ n
+      → highestOf (marked T P k t) + count (isLate T (marked T P k t)) ts ≤ n
+  bound-kept-unheld n a b = omega (arith, bound-kept n a b, fewer (isLate T (marked T P k t) t))
+    where
+      fewer : (b : Bool) → count (isLate T (marked T P k t)) ts ≤ tick b (count (isLate T (marked T P k t)) ts)
+      fewer true = omega arith
+      fewer false = omega arith
+
+-- ---- a place is filled, or freed
+
+-- distinct is: none twice
+none-among : (t : ℕ) (ts : List ℕ) → isAmong t ts ≡ false → count (λ (y : ℕ). eqb y t) ts ≡ 0
+none-among t [] e = refl
+none-among t (y ∷ ts) e = go (eqb y t) refl (none-among t ts)
+  where
+    go : (b : Bool) → eqb y t ≡ b → (isAmong t ts ≡ false → count (λ (z : ℕ). eqb z t) ts ≡ 0) → tick b (count (λ (z : ℕ). eqb z t) ts) ≡ 0
+    go true q ih = clash (sym (rw q at e))
+    go false q ih = ih (rw q at e)
+
+not-among : (t : ℕ) (ts : List ℕ) → count (λ (y : ℕ). eqb y t) ts ≡ 0 → isAmong t ts ≡ false
+not-among t [] e = refl
+not-among t (y ∷ ts) e = go (eqb y t) refl (not-among t ts)
+  where
+    go : (b : Bool) → eqb y t ≡ b → (count (λ (z : ℕ). eqb z t) ts ≡ 0 → isAmong t ts ≡ false) → pick b true (isAmong t ts) ≡ false
+    go true q ih = let z : suc (count (λ (z : ℕ). eqb z t) ts) ≡ 0 = rw q at e in absurd (omega arith)
+    go false q ih = ih (rw q at e)
+
+pub distinct-once : (ts : List ℕ) → Distinct ts → (t : ℕ) → count (λ (y : ℕ). eqb y t) ts ≤ 1
+distinct-once [] s t = zero-le
+distinct-once (y ∷ ts) s t = go (ℕ-discrete y t) (distinct-once ts (s .1) t)
+  where
+    go : Dec (y ≡ t) → count (λ (z : ℕ). eqb z t) ts ≤ 1 → tick (eqb y t) (count (λ (z : ℕ). eqb z t) ts) ≤ 1
+    go (yes q) h =
+        let n : count (λ (z : ℕ). eqb z t) ts ≡ 0 = rw q at (none-among y ts (s .0)) in
+        rw (eq-eqb y t q) (omega arith)
+    go (no q) h = rw (ne-eqb y t q) h
+
+pub once-distinct : (ts : List ℕ) → ((t : ℕ) → count (λ (y : ℕ). eqb y t) ts ≤ 1) → Distinct ts
+once-distinct [] f = tt
+once-distinct (y ∷ ts) f =
+    let h : suc (count (λ (z : ℕ). eqb z y) ts) ≤ 1 = rw (eq-eqb y y refl) at (f y) in
+    (not-among y ts (omega arith), once-distinct ts (λ t. rest t (eqb y t) (f t)))
+  where
+    rest : (t : ℕ) (b : Bool) → tick b (count (λ (z : ℕ). eqb z t) ts) ≤ 1 → count (λ (z : ℕ). eqb z t) ts ≤ 1
+    rest t true g = omega arith
+    rest t false g = g
+
+tick-tick : (a b : Bool) (m : ℕ) → tick a (tick b m) ≡ tick b (tick a m)
+tick-tick true true m = refl
+tick-tick true false m = refl
+tick-tick false b m = refl
+
+module _ {A : Type 0} (used : A → Bool) (number : A → ℕ) where
+  count-cons : (q : ℕ → Bool) (u : Bool) (n : ℕ) (ts : List ℕ) → count q (pick u (n ∷ ts) ts) ≡ tick (pick u (q n) false) (count q ts)
+  count-cons q true n ts = refl
+  count-cons q false n ts = refl
+
+  -- a number put in a place that was free is one more
+  pub count-filled : (q : ℕ → Bool) (xs : List A) (i : ℕ) (x d : A) → i < length xs → used x ≡ true → used (getD xs i d) ≡ false
+      → count q (numbersOf used number (set xs i x)) ≡ count q (number x ∷ numbersOf used number xs)
+  count-filled q [] i x d h u v = absurd (omega arith)
+  count-filled q (y ∷ xs) zero x d h u v = rw (u, v)
+  count-filled q (y ∷ xs) (suc i) x d h u v =
+      count-cons q (used y) (number y) (numbersOf used number (set xs i x))
+      ∙ (ap (tick (pick (used y) (q (number y)) false)) (count-filled q xs i x d (omega arith) u v)
+      ∙ (tick-tick (pick (used y) (q (number y)) false) (q (number x)) (count q (numbersOf used number xs))
+      ∙ ap (tick (q (number x))) (sym (count-cons q (used y) (number y) (numbersOf used number xs)))))
+
+  -- one taken out is no more
+  pub count-freed : (q : ℕ → Bool) (xs : List A) (i : ℕ) (x : A) → used x ≡ false → count q (numbersOf used number (set xs i x)) ≤ count q (numbersOf used number xs)
+  count-freed q [] i x u = zero-le
+  count-freed q (y ∷ xs) zero x u = rw u (go (used y) (q (number y)))
+    where
+      go : (b c : Bool) → count q (numbersOf used number xs) ≤ count q (pick b (number y ∷ numbersOf used number xs) (numbersOf used number xs))
+      go false c = omega arith
+      go true c = fewer (q (number y))
+        where
+          fewer : (b : Bool) → count q (numbersOf used number xs) ≤ tick b (count q (numbersOf used number xs))
+          fewer true = omega arith
+          fewer false = omega arith
+  count-freed q (y ∷ xs) (suc i) x u =
+      rw (count-cons q (used y) (number y) (numbersOf used number (set xs i x)), count-cons q (used y) (number y) (numbersOf used number xs))
+      (go (pick (used y) (q (number y)) false) (count-freed q xs i x u))
+    where
+      go : (b : Bool) → count q (numbersOf used number (set xs i x)) ≤ count q (numbersOf used number xs)
+          → tick b (count q (numbersOf used number (set xs i x))) ≤ tick b (count q (numbersOf used number xs))
+      go true h = suc-le-suc h
+      go false h = h
+
+  pub distinct-filled : (xs : List A) (i : ℕ) (x d : A) → i < length xs → used x ≡ true → used (getD xs i d) ≡ false
+      → isAmong (number x) (numbersOf used number xs) ≡ false → Distinct (numbersOf used number xs) → Distinct (numbersOf used number (set xs i x))
+  distinct-filled xs i x d h u v n s =
+      once-distinct (numbersOf used number (set xs i x)) (λ t. rw (count-filled (λ (y : ℕ). eqb y t) xs i x d h u v) (distinct-once (number x ∷ numbersOf used number xs) (n, s) t))
+
+  pub distinct-freed : (xs : List A) (i : ℕ) (x : A) → used x ≡ false → Distinct (numbersOf used number xs) → Distinct (numbersOf used number (set xs i x))
+  distinct-freed xs i x u s =
+      once-distinct (numbersOf used number (set xs i x))
+      (λ t. omega (arith, count-freed (λ (y : ℕ). eqb y t) xs i x u, distinct-once (numbersOf used number xs) s t))
