@@ -2,6 +2,7 @@
 pub mod calls;
 pub mod rows;
 pub mod state;
+
 pub use crate::calls::Call;
 pub use crate::calls::permits;
 pub use crate::rows::Row;
