@@ -10,6 +10,7 @@ pub mod verdict;
 pub use crate::lent::Echoed;
 pub use crate::lent::Lent;
 pub use crate::lent::Made;
+pub use crate::step::Beside;
 pub use crate::step::step;
 pub use crate::verdict::Done;
 pub use crate::verdict::Event;

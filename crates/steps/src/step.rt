@@ -9,17 +9,15 @@ use crate::verdict::Done;
 use crate::verdict::Event;
 use crate::verdict::Named;
 use association::Association;
-use chunks::kind::Handling;
-use chunks::kind::Kind;
 use states::Row;
 use states::State;
 ghost use mathlib.Core.Path.{_≡_};
 ghost use lib.ListN.{length};
 ghost use Rattle.octets.specs.Writing.{wroteBytes};
-ghost use Rattle.steps.specs.Verdict.{doneIn, doneWith};
-ghost use Rattle.steps.specs.Steps.{handlingOf, rowFor, openingStep, closingStep, stepOf, stepArea};
+ghost use Rattle.steps.specs.Verdict.{doneIn};
+ghost use Rattle.steps.specs.Steps.{stepOf, areaOf};
 
-// What a packet brings beside its chunks: whether the chunk is its first, where it came from, and what the host lent with it.
+// What a packet brings beside the chunk: whether it is the first, the port that the packet came from, and what the host lent with it.
 pub struct Beside {
     pub first: bool,
     pub source: u16,
@@ -27,19 +25,35 @@ pub struct Beside {
     pub echoed: Echoed,
 }
 
-// The row for the chunk at the head of `s`. A COOKIE ECHO is read only where it is the first chunk.
-fn row(a: Association, first: bool, s: &[u8]) -> Row
-    ensures { λ r. ⌜ r ≡ rowFor a first (now (s .entry)) ⌝ }
+pub fn step(a: Association, area: &mut [u8], b: Beside, cookie: &[u8], s: &[u8], space: &mut [u8]) -> Done
+    ensures { λ r. ⌜ (r ≡ doneIn (now (space .entry)) (stepOf (length (now (space .entry))) a b (now (cookie .entry)) (now (s .entry))))
+        × (now (area .exit) ≡ areaOf a b (now (area .entry)) (now (s .entry)))
+        × (now (space .exit) ≡ wroteBytes (now (space .entry)) (stepOf (length (now (space .entry))) a b (now (cookie .entry)) (now (s .entry)) .reply)) ⌝ }
 {
     let state = a.state;
-    let r = states::row_for(chunks::kind::kind_of(s), state);
-    match r {
-        Row::ReadEcho => {
-            if first {
-                return Row::ReadEcho;
-            }
-            Row::Refused
-        }
-        _ => r,
+    match states::row_for(chunks::kind::kind_of(s), b.first, state) {
+        Row::Refused => Done::refused(a, 7, Named::NoCall),
+        Row::AnswerInit => opening::answer_init(a, b.lent, cookie, s, space),
+        Row::TakeInitAck => opening::take_init_ack(a, s, space),
+        Row::ReadEcho => opening::read_echo(a, b.echoed, b.source, s, space),
+        Row::BecomeEstablished => Done::accepted(a.moved(State::Established), Event::Up, 0),
+        Row::ReadData => carrying::read_data(a, area, s, false),
+        Row::ReadLateData => carrying::read_data(a, area, s, true),
+        Row::ReadSack => carrying::read_sack(a, s),
+        Row::ReadSackPending => carrying::read_sack_pending(a, s),
+        Row::ReadSackReceived => carrying::read_sack_received(a, s, space),
+        Row::EchoHeartbeat => carrying::echo_heartbeat(a, s, space),
+        Row::ClearTries => carrying::clear_tries(a),
+        Row::BecomeClosed => closing::become_closed(a),
+        Row::PassError => Done::accepted(a, Event::NoEvent, 0),
+        Row::ReadError => closing::read_error(a, s),
+        Row::ReadShutdown => closing::read_shutdown(a, s, space),
+        Row::CrossShutdown => closing::cross_shutdown(a, s, space),
+        Row::RepeatShutdownAck => closing::repeat_shutdown_ack(a, s, space),
+        Row::ReflectComplete => closing::reflect_complete(a),
+        Row::SendComplete => closing::send_complete(a),
+        Row::BecomeComplete => closing::become_complete(a),
+        Row::PassUnknown(h) => unknown::pass_unknown(a, h),
+        Row::TellUnknown(h) => unknown::tell_unknown(a, h, s, space),
     }
 }
