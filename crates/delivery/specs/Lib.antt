@@ -1,0 +1,5 @@
+-- The receiving side of a record, once over the numberings: an arrival, a take, a SACK.
+pub mod Receiving
+pub mod Arrival
+pub mod ArrivalLaws
+pub mod Acknowledging
