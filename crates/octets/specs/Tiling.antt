@@ -7,12 +7,10 @@ use mathlib.Core.List.{List, [], _∷_, _++_, map}
 use native.Mathlib.Omega.{arith}
 use borrow.Author.Tests.{ltb-true, ltb-false, lt-ltb, le-ltb}
 use lib.Dec.{ltb}
-use lib.ListN.{length, take, drop, length-drop, length-append, drop-of-length-le, take-append-drop}
+use lib.ListN.{length, drop, length-drop, length-append, drop-of-length-le, take-append-drop}
 use lib.Seq.{drop-drop, drop-at, drop-append-add}
 use Rattle.scans.specs.Scan.{pick}
 use Rattle.scans.specs.Each.{All}
-use Rattle.octets.specs.Bytes.{u16}
-use Rattle.octets.specs.BytesLaws.{u16-append}
 use Rattle.octets.specs.Walk.{size, walkBy, walk, seek, firstItem, overItems, itemAt, joined, places, overJoined, Whole, Rising}
 use Rattle.octets.specs.WalkLaws.{size-least, size-append, walk-budget, walk-end, walk-on, first-on, first-end, over-on, over-end}
 

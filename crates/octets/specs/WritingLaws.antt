@@ -3,18 +3,18 @@
 use Prim.Native.Nat.{ℕ, zero, suc, _+_, _-_, _*_, _<_, _≤_}
 use mathlib.Core.Path.{_≡_, refl, sym, ap, _∙_}
 use mathlib.Core.Bool.{Bool, true, false}
-use mathlib.Core.List.{List, [], _∷_, _++_, append-assoc}
+use mathlib.Core.List.{List, [], _++_, append-assoc}
 use native.Mathlib.Omega.{arith}
 use borrow.Author.Tests.{lt-ltb, le-ltb}
 use lib.Dec.{ltb}
-use lib.ListN.{length, take, drop, length-append, length-take, length-drop}
+use lib.ListN.{length, take, drop, length-append, length-drop}
 use lib.Seq.{drop-append-add}
 use Rattle.scans.specs.Scan.{pick}
-use Rattle.octets.specs.Bytes.{u16, be16, up4, zeros, laid}
+use Rattle.octets.specs.Bytes.{u16, up4, zeros, laid}
 use Rattle.octets.specs.BytesLaws.{u16-at, part-is, laid-nil, laid-more, laid-is, length-laid, laid-part, kept-part, zeros-long}
 use Rattle.octets.specs.Walk.{size}
 use Rattle.octets.specs.WalkLaws.{size-is}
-use Rattle.octets.specs.Writing.{head, chunk, items, wroteCount, wroteBytes, Wrote, wroteAt}
+use Rattle.octets.specs.Writing.{chunk, items, wroteCount, wroteBytes, Wrote, wroteAt}
 
 -- ---- a chunk
 
