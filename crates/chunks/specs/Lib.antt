@@ -1,6 +1,7 @@
 -- Chunks as bytes and as values, in the order of RFC 9260 section 3.3; with the laws of each.
 pub mod Frame
 pub mod FrameLaws
+pub mod Back
 pub mod Kind
 pub mod DataChunk
 pub mod DataLaws
@@ -12,3 +13,4 @@ pub mod ShutdownChunk
 pub mod CookieChunk
 pub mod CookieLaws
 pub mod Cause
+pub mod RoundTrips
