@@ -16,11 +16,8 @@ use Rattle.places.specs.declared.all.Tally.{Tally}
 abbrev pub being : Place → ℕ → Place
 being p s = record { status = s; misses = p .misses; chunk = p .chunk }
 
-abbrev pub isFree : Place → Bool
-isFree p = eqb (p .status) 0
-
-abbrev pub isWaiting : Place → Bool
-isWaiting p = eqb (p .status) 1
+abbrev pub hasStatus : ℕ → Place → Bool
+hasStatus n p = eqb (p .status) n
 
 -- "Outstanding: sent, not acknowledged, marked or not"
 unfoldable pub isOutstanding : Place → Bool
@@ -58,7 +55,7 @@ tallied from ps = record { flight = total flightOf ps; payload = total payloadOf
 
 -- nothing waits, is outstanding or is acknowledged by a block: all 128 are free
 unfoldable pub isEmpty : List Place → Bool
-isEmpty ps = eqb (count isFree ps) 128
+isEmpty ps = eqb (count (hasStatus 0) ps) 128
 
 -- ---- T3
 

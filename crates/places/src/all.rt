@@ -7,7 +7,7 @@ ghost use mathlib.Core.Path.{_≡_};
 ghost use mathlib.Core.List.{map};
 ghost use Prim.Native.Nat.{_≤_};
 ghost use Rattle.scans.specs.Scan.{either, count};
-ghost use Rattle.places.specs.Places.{marked, isFree, tallied, missedAll, isEmpty};
+ghost use Rattle.places.specs.Places.{marked, hasStatus, tallied, missedAll, isEmpty};
 ghost use Rattle.places.specs.Sack.{takenIn};
 
 // What a SACK takes in: the places after it, the bytes newly acknowledged, and the offset of the highest of them.
@@ -114,15 +114,15 @@ pub fn marked_all(places: [Place; Rail::PLACES]) -> [Place; Rail::PLACES]
     ys
 }
 
-// How many places are free.
-pub fn free(places: [Place; Rail::PLACES]) -> usize
-    ensures { λ r. ⌜ (r ≡ count isFree places) × (r ≤ 128) ⌝ }
+// How many places have a status.
+pub fn having(places: [Place; Rail::PLACES], status: u8) -> usize
+    ensures { λ r. ⌜ (r ≡ count (hasStatus status) places) × (r ≤ 128) ⌝ }
 {
     let mut n: usize = 0;
     let mut i: usize = 0;
     while i < Rail::PLACES {
         let p = places[i];
-        if p.is_free() {
+        if p.status == status {
             n += 1;
             i += 1;
         } else {
@@ -136,6 +136,6 @@ pub fn free(places: [Place; Rail::PLACES]) -> usize
 pub fn is_empty(places: [Place; Rail::PLACES]) -> bool
     ensures { λ r. ⌜ r ≡ isEmpty places ⌝ }
 {
-    let n = free(places);
+    let n = having(places, Place::FREE);
     n == Rail::PLACES
 }

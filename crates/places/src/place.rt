@@ -5,7 +5,7 @@ use numbers::StreamId;
 use numbers::Tsn;
 ghost use mathlib.Core.Path.{_≡_};
 ghost use Prim.Native.Nat.{_≤_, _<_};
-ghost use Rattle.places.specs.Places.{aheadOf, isFree, isWaiting, isOutstanding, isSent, weightOf, flightOf, payloadOf, offsetOf, lastOf, marked, gets, reaches, missed};
+ghost use Rattle.places.specs.Places.{aheadOf, isOutstanding, isSent, weightOf, flightOf, payloadOf, offsetOf, lastOf, marked, gets, reaches, missed};
 
 // While it waits, `order` is its place in the order of handing in; its TSN and SSN are given when it is first sent.
 pub struct Chunk {
@@ -54,18 +54,6 @@ impl Place {
 
     // What a chunk counts for congestion beside its payload: the bytes of its header.
     pub const HEADER: u32 = 16;
-
-    pub fn is_free(self) -> bool
-        ensures { λ r. ⌜ r ≡ isFree self ⌝ }
-    {
-        self.status == Place::FREE
-    }
-
-    pub fn is_waiting(self) -> bool
-        ensures { λ r. ⌜ r ≡ isWaiting self ⌝ }
-    {
-        self.status == Place::WAITING
-    }
 
     pub fn is_outstanding(self) -> bool
         ensures { λ r. ⌜ r ≡ isOutstanding self ⌝ }

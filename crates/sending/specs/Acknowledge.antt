@@ -1,7 +1,6 @@
 -- What a SACK does: 01, "On a SACK, first judge it", and a SHUTDOWN's point.
 use Prim.Native.Nat.{ℕ, _+_, _-_, _^_}
 use mathlib.Core.Bool.{Bool, true, false}
-use mathlib.Core.List.{List}
 use lib.Dec.{eqb, ltb}
 use Rattle.numbers.specs.declared.circle.Tsn.{Tsn}
 use Rattle.numbers.specs.declared.circle.Judgement.{Judgement}

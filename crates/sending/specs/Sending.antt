@@ -1,7 +1,6 @@
 -- The record of the sending side.
 use Prim.Native.Nat.{ℕ, _-_, _^_}
-use mathlib.Core.Bool.{Bool, true, false}
-use mathlib.Core.List.{List}
+use mathlib.Core.Bool.{Bool, false}
 use lib.ListN.{replicate}
 use Rattle.numbers.specs.declared.circle.Tsn.{Tsn}
 use Rattle.numbers.specs.declared.circle.Ssn.{Ssn}
@@ -10,7 +9,6 @@ use Rattle.numbers.specs.Profile.{Profile}
 use Rattle.path.specs.Sizes.{Sizes}
 use Rattle.path.specs.declared.path.Path.{Path}
 use Rattle.path.specs.Path as way
-use Rattle.places.specs.declared.place.Chunk.{Chunk}
 use Rattle.places.specs.declared.place.Place.{Place}
 use Rattle.places.specs.Places.{aheadOf, tallied, isEmpty}
 use Rattle.sending.specs.declared.sending.Sending.{Sending}

@@ -1,22 +1,14 @@
-use borrow.Author.Tests.{lt-ltb, le-ltb, le-leb, lt-leb, eq-eqb, ne-eqb}
 use native.Mathlib.Omega.{arith}
 use borrow.Author.Needs.{needs}
-use Prim.Native.Nat.{_-_, _<_, _≤_, _*_, _+_}
-use mathlib.Core.Path.{_≡_, refl, sym, ap, _∙_}
-use Rattle.scans.specs.Scan.{long-mapped, Folding, fold-more, fold-end}
-use Rattle.numbers.specs.Circle.{steps-are}
-use Rattle.sending.specs.Choose.{rankOf, better, bestOf, goes, nextSsn, counted, numbered, put, again, first, sent, tsnOf, going, begun, filling, filled}
+use Prim.Native.Nat.{_-_, _≤_, _*_, _+_}
+use mathlib.Core.Path.{_≡_, sym, ap, _∙_}
+use Rattle.sending.specs.Choose.{going, begun, filling, filled}
 use Rattle.scans.specs.Upto.{Running, run-start, run-more, run-stop, run-end}
 use Rattle.numbers.specs.Profile.{rail}
 use Rattle.sending.specs.declared.choosing.Going.{Going}
 use Rattle.sending.specs.declared.choosing.Chosen.{Chosen}
 use Rattle.sending.proofs.choosing.choose.Statement.{statement}
 use Rattle.sending.proofs.choosing.choose.Tie as tie
-use Rattle.sending.proofs.choosing.choose.Reads as reads
-use Rattle.sending.proofs.choosing.choose.Lts as lts
-use Rattle.sending.proofs.choosing.begun.Reads as begun-reads
-use Rattle.sending.proofs.choosing.filled_with.Reads as filled-with-reads
-use Rattle.sending.proofs.choosing.going_of.Reads as going-of-reads
 
 abbrev Inv-loop : tie.InvT-loop
 Inv-loop f₀ n₀ f n = Running (λ x. going x .go) (λ x. filling rail x (going x .place)) f₀ 26 n f × (f .count ≡ n) × (f .sending .path .flight ≤ 8390528 + 65551 * n) × (f .payload ≤ 8388480 + 65535 * n)
@@ -24,42 +16,33 @@ Inv-loop f₀ n₀ f n = Running (λ x. going x .go) (λ x. filling rail x (goin
 abbrev μ-loop : tie.MeasureT-loop
 μ-loop f₀ n₀ f n = 26 - n
 
--- src/choosing.rt:301:9
 begun-requires : tie.Need-begun-requires Inv-loop μ-loop
 begun-requires c κs = search needs
 
--- src/choosing.rt:303:5
 loop-holds : tie.Need-loop-holds Inv-loop μ-loop
 unfolding begun
 loop-holds c = (run-start _ _ _ 26, ap (λ (x : Chosen). x .count) (c .begun .ensures .0), c .begun .ensures .1, c .begun .ensures .2)
 
--- src/choosing.rt:304:13
 going-of-requires : tie.Need-going-of-requires Inv-loop μ-loop
 going-of-requires c κs = search needs
 
--- src/choosing.rt:306:13
 filled-with-requires : tie.Need-filled-with-requires Inv-loop μ-loop
 filled-with-requires c κs = (c .before .going-of .ensures .1, omega arith, omega arith, omega arith)
 
--- src/choosing.rt:307:13
 add-n : tie.Need-add-n Inv-loop μ-loop
 add-n c = search needs
 
--- src/choosing.rt:303:5
 loop-less : tie.Need-loop-less Inv-loop μ-loop
 loop-less c = search needs
 
--- src/choosing.rt:303:5
 loop-again : tie.Need-loop-again Inv-loop μ-loop
 unfolding filling
 loop-again c = (run-more (c .before .before .before .before .loop .inv .0) _ (c .before .before .before .loop-test .taken) (sym (ap (λ (x : Going). x .go) (c .before .before .going-of .ensures .0)) ∙ c .before .if1 .taken) (rw (c .before .before .going-of .ensures .0) at (c .filled-with .ensures .0)), omega (arith, ap (λ (x : Chosen). x .count) (c .filled-with .ensures .0)), omega (arith, c .filled-with .ensures .1), omega (arith, c .filled-with .ensures .2))
 
--- src/choosing.rt:309:13
 returns : tie.Need-returns Inv-loop μ-loop
 unfolding filled begun
 returns c = rw (← c .before .before .before .before .begun .ensures .0) (run-stop (c .before .before .before .loop .inv .0) (c .before .before .loop-test .taken) (sym (ap (λ (x : Going). x .go) (c .before .going-of .ensures .0)) ∙ c .if1 .left))
 
--- src/choosing.rt:298:1
 returns-2 : tie.Need-returns-2 Inv-loop μ-loop
 unfolding filled begun
 returns-2 c = rw (← c .before .before .begun .ensures .0) (run-end (c .before .loop .inv .0) (c .loop-test .left))
