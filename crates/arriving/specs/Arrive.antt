@@ -10,7 +10,7 @@ use Rattle.packets.specs.Shape.{shapeNumber}
 use Rattle.packets.specs.Header.{headerOf}
 use Rattle.association.specs.declared.ends.Association.{Association}
 use Rattle.association.specs.Bounds.{isSound}
-use Rattle.steps.specs.declared.step.Beside.{Beside}
+use Rattle.steps.specs.declared.chunk.Beside.{Beside}
 use Rattle.steps.specs.declared.lent.Lent.{Lent}
 use Rattle.steps.specs.declared.lent.Echoed.{Echoed}
 use Rattle.steps.specs.Lent.{heeded}

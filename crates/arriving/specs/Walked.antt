@@ -10,7 +10,7 @@ use Rattle.scans.specs.Scan.{pick, either}
 use Rattle.octets.specs.Writing.{wroteAt}
 use Rattle.octets.specs.Walk.{overItems}
 use Rattle.association.specs.declared.ends.Association.{Association}
-use Rattle.steps.specs.declared.step.Beside.{Beside}
+use Rattle.steps.specs.declared.chunk.Beside.{Beside}
 use Rattle.steps.specs.declared.verdict.Done.{Done}
 use Rattle.steps.specs.declared.verdict.Owed.{Owed}
 use Rattle.steps.specs.declared.verdict.Owed.the-variants.{Nothing, Shutdown, Complete, Reflected}

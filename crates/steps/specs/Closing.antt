@@ -6,15 +6,14 @@ use Rattle.scans.specs.Scan.{pick}
 use Rattle.path.specs.Sizes.{railSizes}
 use Rattle.chunks.specs.Frame.{framed}
 use Rattle.chunks.specs.ShutdownChunk.{pointOf}
-use Rattle.parameters.specs.Stale.{isStale}
+use Rattle.parameters.specs.Stale.{staleIn}
 use Rattle.sending.specs.declared.acknowledging.Answer.{Answer}
 use Rattle.sending.specs.Acknowledge.{shutdownPoint}
 use Rattle.states.specs.declared.state.State.{State}
 use Rattle.states.specs.declared.state.State.the-variants.{Closed, ShutdownReceived, ShutdownAckSent}
 use Rattle.association.specs.declared.ends.Association.{Association}
 use Rattle.association.specs.Fresh.{withState, withSending}
-use Rattle.steps.specs.declared.verdict.Event as event
-use Rattle.steps.specs.declared.verdict.Event.the-variants.{NoEvent}
+use Rattle.steps.specs.declared.verdict.Event.the-variants.{NoEvent, Down}
 use Rattle.steps.specs.declared.verdict.Reason.the-variants.{Aborted, StaleCookie, ShutDown}
 use Rattle.steps.specs.declared.verdict.Owed.the-variants.{Complete, Reflected}
 use Rattle.steps.specs.Verdict.{Step, accepted, owing, refused, ending}
@@ -22,11 +21,11 @@ use Rattle.steps.specs.Carrying.{sackCall, isLast}
 
 -- ABORT (section 9.1): all but the state stays, and "the rest of the packet" is unread (section 3.3.7)
 abbrev pub becomeClosed : Association → Step
-becomeClosed a = ending (accepted (withState a Closed) (event.Closed Aborted) [])
+becomeClosed a = ending (accepted (withState a Closed) (Down Aborted) [])
 
 -- ERROR in COOKIE-ECHOED (section 5.2.6): a cause 3 closes
 unfoldable pub readError : Association → List ℕ → Step
-readError a s = pick (isStale s) (accepted (withState a Closed) (event.Closed StaleCookie) []) (accepted a NoEvent [])
+readError a s = pick (staleIn s) (accepted (withState a Closed) (Down StaleCookie) []) (accepted a NoEvent [])
 
 unfoldable pub heardShutdown : Association → List ℕ → Answer
 heardShutdown a s = shutdownPoint railSizes (a .sending) (pointOf s)
@@ -62,8 +61,8 @@ reflectComplete a = owing a NoEvent Reflected
 
 -- SHUTDOWN ACK in SHUTDOWN-SENT and SHUTDOWN-ACK-SENT (section 9.2)
 abbrev pub sendComplete : Association → Step
-sendComplete a = owing (withState a Closed) (event.Closed ShutDown) Complete
+sendComplete a = owing (withState a Closed) (Down ShutDown) Complete
 
 -- SHUTDOWN COMPLETE in SHUTDOWN-ACK-SENT (section 9.2)
 abbrev pub becomeComplete : Association → Step
-becomeComplete a = accepted (withState a Closed) (event.Closed ShutDown) []
+becomeComplete a = accepted (withState a Closed) (Down ShutDown) []

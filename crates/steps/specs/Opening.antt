@@ -28,8 +28,7 @@ use Rattle.steps.specs.declared.lent.Lent.{Lent}
 use Rattle.steps.specs.declared.lent.Made.{Made}
 use Rattle.steps.specs.declared.lent.Echoed.{Echoed}
 use Rattle.steps.specs.declared.lent.Echoed.the-variants.{Bad, Stale, Good}
-use Rattle.steps.specs.declared.verdict.Event as event
-use Rattle.steps.specs.declared.verdict.Event.the-variants.{NoEvent, Up}
+use Rattle.steps.specs.declared.verdict.Event.the-variants.{NoEvent, Up, Down}
 use Rattle.steps.specs.declared.verdict.Reason.the-variants.{HostName}
 use Rattle.steps.specs.declared.verdict.Named.the-variants.{NoCall, ErrorStale}
 use Rattle.steps.specs.Verdict.{Step, accepted, refused, ending}
@@ -118,7 +117,7 @@ unfoldable pub takeInitAck : ℕ → Association → List ℕ → Step
 takeInitAck room a s =
     pick (isPoor (initOf s)) (refused a 8 NoCall)
     (pick (isOdd (valueOf COOKIE 4 s .len)) (refused a 8 NoCall)
-    (pick (isThere NAME s) (accepted (withState a Closed) (event.Closed HostName) (nameRefused s))
+    (pick (isThere NAME s) (accepted (withState a Closed) (Down HostName) (nameRefused s))
     (accepted (echoing a (initOf s) (kept (cookieOf s))) NoEvent
     (echoReply room (cookieEchoBytes (cookieOf s)) (errorParametersBytes s)))))
 

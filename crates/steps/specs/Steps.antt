@@ -10,7 +10,7 @@ use Rattle.states.specs.declared.rows.Row.the-variants.{Refused, ReadData, Read
 use Rattle.states.specs.Rows.{rowOf}
 use Rattle.association.specs.declared.ends.Association.{Association}
 use Rattle.association.specs.Fresh.{withState}
-use Rattle.steps.specs.declared.step.Beside.{Beside}
+use Rattle.steps.specs.declared.chunk.Beside.{Beside}
 use Rattle.steps.specs.declared.verdict.Event.the-variants.{NoEvent, Up}
 use Rattle.steps.specs.declared.verdict.Named.the-variants.{NoCall}
 use Rattle.steps.specs.Verdict.{Step, accepted, refused}

@@ -11,7 +11,7 @@ use Rattle.steps.specs.declared.verdict.Fate.the-variants.{Accepted, Ref
 use Rattle.steps.specs.declared.verdict.Named.{Named}
 use Rattle.steps.specs.declared.verdict.Named.the-variants.{NoCall, AbortNoData, AbortViolation, ErrorStream, ErrorStale}
 use Rattle.steps.specs.declared.verdict.Event.{Event}
-use Rattle.steps.specs.declared.verdict.Event.the-variants.{NoEvent, Up, Closed}
+use Rattle.steps.specs.declared.verdict.Event.the-variants.{NoEvent, Up, Down}
 use Rattle.steps.specs.declared.verdict.Owed.{Owed}
 use Rattle.steps.specs.declared.verdict.Owed.the-variants.{Nothing, Shutdown, Complete, Reflected}
 use Rattle.steps.specs.declared.verdict.Done.{Done}

@@ -17,7 +17,7 @@ ghost use Rattle.steps.specs.Closing.{becomeClosed, readError, heardShut
 pub fn become_closed(a: Association) -> Done
     ensures { λ r. ⌜ r ≡ doneWith 0 (becomeClosed a) ⌝ }
 {
-    Done::accepted(a.moved(State::Closed), Event::Closed(Reason::Aborted), 0).ending()
+    Done::accepted(a.moved(State::Closed), Event::Down(Reason::Aborted), 0).ending()
 }
 
 // An ERROR in COOKIE-ECHOED: a stale cookie ends the waiting.
@@ -27,7 +27,7 @@ pub fn read_error(a: Association, s: &[u8]) -> Done
     if parameters::stale::is_stale(s) {
         return Done::accepted(
             a.moved(State::Closed),
-            Event::Closed(Reason::StaleCookie),
+            Event::Down(Reason::StaleCookie),
             0,
         );
     }
@@ -105,7 +105,7 @@ pub fn send_complete(a: Association) -> Done
 {
     Done::owing(
         a.moved(State::Closed),
-        Event::Closed(Reason::ShutDown),
+        Event::Down(Reason::ShutDown),
         Owed::Complete,
     )
 }
@@ -114,5 +114,5 @@ pub fn send_complete(a: Association) -> Done
 pub fn become_complete(a: Association) -> Done
     ensures { λ r. ⌜ r ≡ doneWith 0 (becomeComplete a) ⌝ }
 {
-    Done::accepted(a.moved(State::Closed), Event::Closed(Reason::ShutDown), 0)
+    Done::accepted(a.moved(State::Closed), Event::Down(Reason::ShutDown), 0)
 }

@@ -3,15 +3,15 @@ pub mod carrying;
 pub mod closing;
 pub mod lent;
 pub mod opening;
-pub mod step;
+pub mod chunk;
 pub mod unknown;
 pub mod verdict;
 
 pub use crate::lent::Echoed;
 pub use crate::lent::Lent;
 pub use crate::lent::Made;
-pub use crate::step::Beside;
-pub use crate::step::step;
+pub use crate::chunk::Beside;
+pub use crate::chunk::step;
 pub use crate::verdict::Done;
 pub use crate::verdict::Event;
 pub use crate::verdict::Fate;

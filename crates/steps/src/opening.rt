@@ -16,6 +16,7 @@ use numbers::Rail;
 use numbers::Tsn;
 use states::State;
 ghost use mathlib.Core.Path.{_≡_};
+ghost use Prim.Native.Nat.{_≤_};
 ghost use lib.ListN.{length};
 ghost use Rattle.octets.specs.Writing.{wroteBytes};
 ghost use Rattle.steps.specs.Verdict.{doneIn, accepted, refused, ending};
@@ -158,7 +159,7 @@ pub fn take_init_ack(a: Association, s: &[u8], space: &mut [u8]) -> Done
         let from = h.at;
         let to = from + h.len;
         let n = chunks::cause::write_abort_address(space, false, &s[from..to]);
-        return Done::accepted(a.moved(State::Closed), Event::Closed(Reason::HostName), n);
+        return Done::accepted(a.moved(State::Closed), Event::Down(Reason::HostName), n);
     }
     let from = p.at;
     let to = from + p.len;

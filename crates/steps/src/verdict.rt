@@ -37,7 +37,7 @@ pub enum Reason {
 pub enum Event {
     NoEvent,
     Up,
-    Closed(Reason),
+    Down(Reason),
 }
 
 // What the whole reply owes because of the chunk: a SHUTDOWN behind all else, or a SHUTDOWN COMPLETE in place of all else.

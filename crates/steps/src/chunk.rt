@@ -31,11 +31,13 @@ pub fn step(a: Association, area: &mut [u8], b: Beside, cookie: &[u8], s: &[u8],
         × (now (space .exit) ≡ wroteBytes (now (space .entry)) (stepOf (length (now (space .entry))) a b (now (cookie .entry)) (now (s .entry)) .reply)) ⌝ }
 {
     let state = a.state;
+    let lent = b.lent;
+    let echoed = b.echoed;
     match states::row_for(chunks::kind::kind_of(s), b.first, state) {
         Row::Refused => Done::refused(a, 7, Named::NoCall),
-        Row::AnswerInit => opening::answer_init(a, b.lent, cookie, s, space),
+        Row::AnswerInit => opening::answer_init(a, lent, cookie, s, space),
         Row::TakeInitAck => opening::take_init_ack(a, s, space),
-        Row::ReadEcho => opening::read_echo(a, b.echoed, b.source, s, space),
+        Row::ReadEcho => opening::read_echo(a, echoed, b.source, s, space),
         Row::BecomeEstablished => Done::accepted(a.moved(State::Established), Event::Up, 0),
         Row::ReadData => carrying::read_data(a, area, s, false),
         Row::ReadLateData => carrying::read_data(a, area, s, true),

@@ -1,0 +1,58 @@
+use borrow.Author.Needs.{needs}
+use Rattle.steps.proofs.carrying.echo_heartbeat.Statement.{statement}
+use Rattle.steps.proofs.carrying.echo_heartbeat.Tie as tie
+use Rattle.steps.proofs.carrying.echo_heartbeat.Reads as reads
+use Rattle.steps.proofs.carrying.echo_heartbeat.Lts as lts
+use Rattle.chunks.proofs.heartbeat.info.Reads as info-reads
+use Rattle.chunks.proofs.heartbeat.write_heartbeat_ack.Reads as write-heartbeat-ack-reads
+use Rattle.steps.proofs.verdict.Done.accepted.Reads as accepted-reads
+
+-- src/carrying.rt:205:9
+info-requires : tie.Need-info-requires
+info-requires c κs = search needs
+
+-- src/carrying.rt:207:14
+add-to : tie.Need-add-to
+add-to c = search needs
+
+-- src/carrying.rt:208:59
+sub-write-heartbeat-ack : tie.Need-sub-write-heartbeat-ack
+sub-write-heartbeat-ack c = search needs
+
+-- src/carrying.rt:208:59
+part-write-heartbeat-ack-start : tie.Need-part-write-heartbeat-ack-start
+part-write-heartbeat-ack-start c = search needs
+
+-- src/carrying.rt:208:59
+part-write-heartbeat-ack-end : tie.Need-part-write-heartbeat-ack-end
+part-write-heartbeat-ack-end c = search needs
+
+-- src/carrying.rt:208:9
+write-heartbeat-ack-requires : tie.Need-write-heartbeat-ack-requires
+write-heartbeat-ack-requires c κs = search needs
+
+-- src/carrying.rt:209:5
+accepted-requires : tie.Need-accepted-requires
+accepted-requires c κs = search needs
+
+-- src/carrying.rt:202:1
+same-length : tie.Need-same-length
+same-length c = search needs
+
+-- src/carrying.rt:202:1
+returns : tie.Need-returns
+returns c = ?
+
+pub echo-heartbeat-spec : {M : Type 1} → statement M
+echo-heartbeat-spec =
+    tie.close
+    (tie.spec
+    info-requires
+    add-to
+    sub-write-heartbeat-ack
+    part-write-heartbeat-ack-start
+    part-write-heartbeat-ack-end
+    write-heartbeat-ack-requires
+    accepted-requires
+    same-length
+    returns)

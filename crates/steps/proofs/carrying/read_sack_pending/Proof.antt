@@ -1,0 +1,67 @@
+use borrow.Author.Needs.{needs}
+use Rattle.steps.proofs.carrying.read_sack_pending.Statement.{statement}
+use Rattle.steps.proofs.carrying.read_sack_pending.Tie as tie
+use Rattle.steps.proofs.carrying.read_sack_pending.Reads as reads
+use Rattle.steps.proofs.carrying.read_sack_pending.Lts as lts
+use Rattle.association.proofs.ends.Association.moved.Reads as moved-reads
+use Rattle.sending.proofs.sending.Sending.is_empty.Reads as is-empty-reads
+use Rattle.steps.proofs.carrying.hear_sack.Reads as hear-sack-reads
+use Rattle.steps.proofs.carrying.sack_call.Reads as sack-call-reads
+use Rattle.steps.proofs.verdict.Done.accepted.Reads as accepted-reads
+use Rattle.steps.proofs.verdict.Done.owing.Reads as owing-reads
+use Rattle.steps.proofs.verdict.Done.refused.Reads as refused-reads
+
+-- src/carrying.rt:168:9
+hear-sack-requires : tie.Need-hear-sack-requires
+hear-sack-requires c κs = search needs
+
+-- src/carrying.rt:172:12
+is-empty-requires : tie.Need-is-empty-requires
+is-empty-requires c κs = search needs
+
+-- src/carrying.rt:174:17
+moved-requires : tie.Need-moved-requires
+moved-requires c κs = search needs
+
+-- src/carrying.rt:173:13
+owing-requires : tie.Need-owing-requires
+owing-requires c κs = search needs
+
+-- src/carrying.rt:173:13
+returns : tie.Need-returns
+returns c = ?
+
+-- src/carrying.rt:179:9
+accepted-requires : tie.Need-accepted-requires
+accepted-requires c κs = search needs
+
+-- src/carrying.rt:179:9
+returns-2 : tie.Need-returns-2
+returns-2 c = ?
+
+-- src/carrying.rt:181:32
+sack-call-requires : tie.Need-sack-call-requires
+sack-call-requires c κs = search needs
+
+-- src/carrying.rt:181:5
+refused-requires : tie.Need-refused-requires
+refused-requires c κs = search needs
+
+-- src/carrying.rt:165:1
+returns-3 : tie.Need-returns-3
+returns-3 c = ?
+
+pub read-sack-pending-spec : {M : Type 1} → statement M
+read-sack-pending-spec =
+    tie.close
+    (tie.spec
+    hear-sack-requires
+    is-empty-requires
+    moved-requires
+    owing-requires
+    returns
+    accepted-requires
+    returns-2
+    sack-call-requires
+    refused-requires
+    returns-3)

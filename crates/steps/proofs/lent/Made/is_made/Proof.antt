@@ -1,0 +1,46 @@
+use borrow.Author.Needs.{needs}
+use Rattle.steps.proofs.lent.Made.is_made.Statement.{statement}
+use Rattle.steps.proofs.lent.Made.is_made.Tie as tie
+use Rattle.steps.proofs.lent.Made.is_made.Reads as reads
+use Rattle.steps.proofs.lent.Made.is_made.Lts as lts
+use Rattle.steps.proofs.lent.is_agreeable.Reads as is-agreeable-reads
+
+-- src/lent.rt:51:13
+returns : tie.Need-returns
+returns c = ?
+
+-- src/lent.rt:54:13
+returns-2 : tie.Need-returns-2
+returns-2 c = ?
+
+-- src/lent.rt:57:13
+returns-3 : tie.Need-returns-3
+returns-3 c = ?
+
+-- src/lent.rt:59:12
+is-agreeable-requires : tie.Need-is-agreeable-requires
+is-agreeable-requires c κs = search needs
+
+-- src/lent.rt:60:13
+is-agreeable-requires-2 : tie.Need-is-agreeable-requires-2
+is-agreeable-requires-2 c κs = search needs
+
+-- src/lent.rt:60:13
+returns-4 : tie.Need-returns-4
+returns-4 c = ?
+
+-- src/lent.rt:47:5
+returns-5 : tie.Need-returns-5
+returns-5 c = ?
+
+pub is-made-spec : {M : Type 1} → statement M
+is-made-spec =
+    tie.close
+    (tie.spec
+    returns
+    returns-2
+    returns-3
+    is-agreeable-requires
+    is-agreeable-requires-2
+    returns-4
+    returns-5)
