@@ -84,9 +84,8 @@ unfoldable pub arrivalOf : Association → List ℕ → Arrival
 arrivalOf a s =
     arrived (ring (2 ^ 32)) rail (a .receiving) (asHeld (chunkOf s) (length (payloadOf s))) (a .ends .«streams_in»)
 
-abbrev pub dataRead : Association → List ℕ → Arrival → Bool → Step
-dataRead a s o true = owing (withState (withReceiving a (o .receiving)) (ShutdownSent 0)) NoEvent Shutdown
-dataRead a s o false = record {
+unfoldable pub dataRead : Association → List ℕ → Arrival → Step
+dataRead a s o = record {
   association = withReceiving a (o .receiving);
   fate = fateOf (o .verdict);
   named = callOf (o .verdict) (chunkOf s .tsn) (chunkOf s .stream);
@@ -96,9 +95,15 @@ dataRead a s o false = record {
   reply = [];
 }
 
--- late: a chunk that is held in SHUTDOWN-SENT is answered by a SHUTDOWN (section 9.2), and the tries begin anew
-unfoldable pub readData : Association → List ℕ → Bool → Step
-readData a s late = dataRead a s (arrivalOf a s) (pick late (isKept (arrivalOf a s .verdict)) false)
+unfoldable pub readData : Association → List ℕ → Step
+readData a s = dataRead a s (arrivalOf a s)
+
+-- in SHUTDOWN-SENT a chunk that is held is answered by a SHUTDOWN (section 9.2), and the tries begin anew
+unfoldable pub readLateData : Association → List ℕ → Step
+readLateData a s =
+    pick (isKept (arrivalOf a s .verdict))
+    (owing (withState (withReceiving a (arrivalOf a s .receiving)) (ShutdownSent 0)) NoEvent Shutdown)
+    (dataRead a s (arrivalOf a s))
 
 unfoldable pub areaData : Association → List ℕ → List ℕ → List ℕ
 areaData a area s =

@@ -5,6 +5,7 @@ use crate::verdict::Fate;
 use crate::verdict::Named;
 use crate::verdict::Owed;
 use association::Association;
+use delivery::Arrival;
 use delivery::Verdict;
 use holding::Chunk;
 use numbers::StreamId;
@@ -15,7 +16,7 @@ use states::State;
 ghost use mathlib.Core.Path.{_≡_};
 ghost use Rattle.octets.specs.Writing.{wroteBytes};
 ghost use Rattle.steps.specs.Verdict.{doneIn, doneWith};
-ghost use Rattle.steps.specs.Carrying.{chunkOf, isKept, fateOf, callOf, readData, areaData, blocksOf, heardSack, sackCall, readSack, readSackPending, readSackReceived, echoHeartbeat, clearTries};
+ghost use Rattle.steps.specs.Carrying.{chunkOf, isKept, fateOf, callOf, arrivalOf, dataRead, readData, readLateData, areaData, blocksOf, heardSack, sackCall, readSack, readSackPending, readSackReceived, echoHeartbeat, clearTries};
 
 fn chunk_of(s: &[u8]) -> Chunk
     ensures { λ r. ⌜ r ≡ chunkOf (now (s .entry)) ⌝ }
@@ -77,9 +78,9 @@ fn is_kept(v: Verdict) -> bool
     }
 }
 
-// A DATA chunk where it is read. In SHUTDOWN-SENT (`late`) one that is held is answered by a SHUTDOWN, and the tries begin anew.
-pub fn read_data(mut a: Association, area: &mut [u8], s: &[u8], late: bool) -> Done
-    ensures { λ r. ⌜ (r ≡ doneWith 0 (readData a (now (s .entry)) late)) × (now (area .exit) ≡ areaData a (now (area .entry)) (now (s .entry))) ⌝ }
+// The receiver's answer to a DATA chunk.
+fn hear_data(a: Association, area: &mut [u8], s: &[u8]) -> Arrival
+    ensures { λ r. ⌜ (r ≡ arrivalOf a (now (s .entry))) × (now (area .exit) ≡ areaData a (now (area .entry)) (now (s .entry))) ⌝ }
 {
     let c = chunk_of(s);
     let p = chunks::data::payload(s);
@@ -87,21 +88,18 @@ pub fn read_data(mut a: Association, area: &mut [u8], s: &[u8], late: bool) -> D
     let to = from + p.len;
     let receiving = a.receiving;
     let ends = a.ends;
-    let o = receiving.arrive(area, c, &s[from..to], ends.streams_in);
+    receiving.arrive(area, c, &s[from..to], ends.streams_in)
+}
+
+fn data_read(mut a: Association, o: Arrival, s: &[u8]) -> Done
+    ensures { λ r. ⌜ r ≡ doneWith 0 (dataRead a (now (s .entry)) o) ⌝ }
+{
+    let c = chunk_of(s);
+    let tsn = c.tsn;
+    let stream = c.stream;
     let v = o.verdict;
     let after = o.receiving;
     a.receiving = after;
-    let tsn = c.tsn;
-    let stream = c.stream;
-    if late {
-        if is_kept(v) {
-            return Done::owing(
-                a.moved(State::ShutdownSent(0)),
-                Event::NoEvent,
-                Owed::Shutdown,
-            );
-        }
-    }
     Done {
         association: a,
         fate: fate_of(v),
@@ -111,6 +109,28 @@ pub fn read_data(mut a: Association, area: &mut [u8], s: &[u8], late: bool) -> D
         owed: Owed::Nothing,
         written: 0,
     }
+}
+
+// A DATA chunk in ESTABLISHED or SHUTDOWN-PENDING.
+pub fn read_data(a: Association, area: &mut [u8], s: &[u8]) -> Done
+    ensures { λ r. ⌜ (r ≡ doneWith 0 (readData a (now (s .entry)))) × (now (area .exit) ≡ areaData a (now (area .entry)) (now (s .entry))) ⌝ }
+{
+    let o = hear_data(a, area, s);
+    data_read(a, o, s)
+}
+
+// A DATA chunk in SHUTDOWN-SENT: one that is held is answered by a SHUTDOWN, and the tries begin anew.
+pub fn read_late_data(mut a: Association, area: &mut [u8], s: &[u8]) -> Done
+    ensures { λ r. ⌜ (r ≡ doneWith 0 (readLateData a (now (s .entry)))) × (now (area .exit) ≡ areaData a (now (area .entry)) (now (s .entry))) ⌝ }
+{
+    let o = hear_data(a, area, s);
+    let v = o.verdict;
+    if is_kept(v) {
+        let after = o.receiving;
+        a.receiving = after;
+        return Done::owing(a.moved(State::ShutdownSent(0)), Event::NoEvent, Owed::Shutdown);
+    }
+    data_read(a, o, s)
 }
 
 // The blocks of a SACK, with the count that it gives: more than 64 are never all valid.

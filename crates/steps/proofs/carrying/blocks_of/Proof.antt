@@ -1,3 +1,11 @@
+use borrow.Author.Tests.{lt-ltb, le-ltb, le-leb, lt-leb, eq-eqb, ne-eqb}
+use native.Mathlib.Omega.{arith}
+use mathlib.Core.Path.{sym, _∙_, ap}
+use Rattle.octets.specs.WritingLaws.{wrote-none}
+use Rattle.steps.specs.VerdictLaws.{quiet-done, quiet-space, part-bytes}
+use Rattle.steps.specs.Lent.{isMade}
+use Rattle.steps.specs.Opening.{isPoor, isPoorLent, ackOf, answerInit, echoing, takeInitAck, established, readEcho}
+use Rattle.steps.specs.Carrying.{chunkOf, arrivalOf, readData, areaData, blocksOf, heardSack, readSack, readSackPending, readSackReceived, echoHeartbeat, clearTries}
 use borrow.Author.Needs.{needs}
 use Rattle.steps.proofs.carrying.blocks_of.Statement.{statement}
 use Rattle.steps.proofs.carrying.blocks_of.Tie as tie
@@ -20,7 +28,8 @@ cast-t6 c = search needs
 
 -- src/carrying.rt:117:1
 returns : tie.Need-returns
-returns c = ?
+unfolding blocksOf
+returns c = rw (← c .before .before .before .before .read-sack .ensures, ← c .before .before .before .read-blocks .ensures)
 
 pub blocks-of-spec : {M : Type 1} → statement M
 blocks-of-spec = tie.close (tie.spec read-sack-requires read-blocks-requires cast-t6 returns)

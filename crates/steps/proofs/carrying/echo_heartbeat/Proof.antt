@@ -1,3 +1,11 @@
+use borrow.Author.Tests.{lt-ltb, le-ltb, le-leb, lt-leb, eq-eqb, ne-eqb}
+use native.Mathlib.Omega.{arith}
+use mathlib.Core.Path.{sym, _∙_, ap}
+use Rattle.octets.specs.WritingLaws.{wrote-none}
+use Rattle.steps.specs.VerdictLaws.{quiet-done, quiet-space, part-bytes}
+use Rattle.steps.specs.Lent.{isMade}
+use Rattle.steps.specs.Opening.{isPoor, isPoorLent, ackOf, answerInit, echoing, takeInitAck, established, readEcho}
+use Rattle.steps.specs.Carrying.{chunkOf, arrivalOf, readData, areaData, blocksOf, heardSack, readSack, readSackPending, readSackReceived, echoHeartbeat, clearTries}
 use borrow.Author.Needs.{needs}
 use Rattle.steps.proofs.carrying.echo_heartbeat.Statement.{statement}
 use Rattle.steps.proofs.carrying.echo_heartbeat.Tie as tie
@@ -41,7 +49,8 @@ same-length c = search needs
 
 -- src/carrying.rt:202:1
 returns : tie.Need-returns
-returns c = ?
+unfolding echoHeartbeat
+returns c = (rw (← c .before .before .before .before .before .before .before .info .ensures .0, ← part-bytes (c .before .before .before .before .before .before .before .info .result) (c .before .before .before .before .before .before .before .before .before .before .args .s .now), ← c .before .before .before .write-heartbeat-ack .ensures .count) (c .accepted .ensures), rw (← c .before .before .before .before .before .before .before .info .ensures .0, ← part-bytes (c .before .before .before .before .before .before .before .info .result) (c .before .before .before .before .before .before .before .before .before .before .args .s .now)) (c .before .before .before .write-heartbeat-ack .ensures .bytes))
 
 pub echo-heartbeat-spec : {M : Type 1} → statement M
 echo-heartbeat-spec =

@@ -1,3 +1,11 @@
+use borrow.Author.Tests.{lt-ltb, le-ltb, le-leb, lt-leb, eq-eqb, ne-eqb}
+use native.Mathlib.Omega.{arith}
+use mathlib.Core.Path.{sym, _∙_, ap}
+use Rattle.octets.specs.WritingLaws.{wrote-none}
+use Rattle.steps.specs.VerdictLaws.{quiet-done, quiet-space, part-bytes}
+use Rattle.steps.specs.Lent.{isMade}
+use Rattle.steps.specs.Opening.{isPoor, isPoorLent, ackOf, answerInit, echoing, takeInitAck, established, readEcho}
+use Rattle.steps.specs.Carrying.{chunkOf, arrivalOf, readData, areaData, blocksOf, heardSack, readSack, readSackPending, readSackReceived, echoHeartbeat, clearTries}
 use borrow.Author.Needs.{needs}
 use Rattle.steps.proofs.carrying.hear_sack.Statement.{statement}
 use Rattle.steps.proofs.carrying.hear_sack.Tie as tie
@@ -21,7 +29,8 @@ acknowledge-requires c κs = search needs
 
 -- src/carrying.rt:131:1
 returns : tie.Need-returns
-returns c = ?
+unfolding heardSack
+returns c = rw (← c .before .before .before .before .read-sack .ensures, ← c .before .before .before .blocks-of .ensures) (c .acknowledge .ensures)
 
 pub hear-sack-spec : {M : Type 1} → statement M
 hear-sack-spec =

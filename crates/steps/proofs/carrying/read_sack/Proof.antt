@@ -1,3 +1,11 @@
+use borrow.Author.Tests.{lt-ltb, le-ltb, le-leb, lt-leb, eq-eqb, ne-eqb}
+use native.Mathlib.Omega.{arith}
+use mathlib.Core.Path.{sym, _∙_, ap}
+use Rattle.octets.specs.WritingLaws.{wrote-none}
+use Rattle.steps.specs.VerdictLaws.{quiet-done, quiet-space, part-bytes}
+use Rattle.steps.specs.Lent.{isMade}
+use Rattle.steps.specs.Opening.{isPoor, isPoorLent, ackOf, answerInit, echoing, takeInitAck, established, readEcho}
+use Rattle.steps.specs.Carrying.{chunkOf, arrivalOf, readData, areaData, blocksOf, heardSack, readSack, readSackPending, readSackReceived, echoHeartbeat, clearTries}
 use borrow.Author.Needs.{needs}
 use Rattle.steps.proofs.carrying.read_sack.Statement.{statement}
 use Rattle.steps.proofs.carrying.read_sack.Tie as tie
@@ -18,7 +26,8 @@ accepted-requires c κs = search needs
 
 -- src/carrying.rt:159:9
 returns : tie.Need-returns
-returns c = ?
+unfolding readSack
+returns c = rw (← c .before .before .before .before .hear-sack .ensures, eq-eqb _ _ (c .before .before .if1 .taken)) (c .accepted .ensures)
 
 -- src/carrying.rt:161:32
 sack-call-requires : tie.Need-sack-call-requires
@@ -30,7 +39,8 @@ refused-requires c κs = search needs
 
 -- src/carrying.rt:152:1
 returns-2 : tie.Need-returns-2
-returns-2 c = ?
+unfolding readSack
+returns-2 c = rw (← c .before .before .before .before .hear-sack .ensures, ne-eqb _ _ (c .before .before .if1 .left), ← c .before .sack-call .ensures) (c .refused .ensures)
 
 pub read-sack-spec : {M : Type 1} → statement M
 read-sack-spec =

@@ -1,3 +1,11 @@
+use borrow.Author.Tests.{lt-ltb, le-ltb, le-leb, lt-leb, eq-eqb, ne-eqb}
+use native.Mathlib.Omega.{arith}
+use mathlib.Core.Path.{sym, _∙_, ap}
+use Rattle.octets.specs.WritingLaws.{wrote-none}
+use Rattle.steps.specs.VerdictLaws.{quiet-done, quiet-space, part-bytes}
+use Rattle.steps.specs.Lent.{isMade}
+use Rattle.steps.specs.Opening.{isPoor, isPoorLent, ackOf, answerInit, echoing, takeInitAck, established, readEcho}
+use Rattle.steps.specs.Carrying.{chunkOf, arrivalOf, readData, areaData, blocksOf, heardSack, readSack, readSackPending, readSackReceived, echoHeartbeat, clearTries}
 use borrow.Author.Needs.{needs}
 use Rattle.steps.proofs.carrying.read_sack_pending.Statement.{statement}
 use Rattle.steps.proofs.carrying.read_sack_pending.Tie as tie
@@ -29,7 +37,8 @@ owing-requires c κs = search needs
 
 -- src/carrying.rt:173:13
 returns : tie.Need-returns
-returns c = ?
+unfolding readSackPending
+returns c = rw (← c .before .before .before .before .before .before .before .hear-sack .ensures, eq-eqb _ _ (c .before .before .before .before .before .if1 .taken), ← c .before .before .before .is-empty .ensures, c .before .before .if2 .taken, ← c .before .moved .ensures) (c .owing .ensures)
 
 -- src/carrying.rt:179:9
 accepted-requires : tie.Need-accepted-requires
@@ -37,7 +46,8 @@ accepted-requires c κs = search needs
 
 -- src/carrying.rt:179:9
 returns-2 : tie.Need-returns-2
-returns-2 c = ?
+unfolding readSackPending
+returns-2 c = rw (← c .before .before .before .before .before .before .hear-sack .ensures, eq-eqb _ _ (c .before .before .before .before .if1 .taken), ← c .before .before .is-empty .ensures, c .before .if2 .left) (c .accepted .ensures)
 
 -- src/carrying.rt:181:32
 sack-call-requires : tie.Need-sack-call-requires
@@ -49,7 +59,8 @@ refused-requires c κs = search needs
 
 -- src/carrying.rt:165:1
 returns-3 : tie.Need-returns-3
-returns-3 c = ?
+unfolding readSackPending
+returns-3 c = rw (← c .before .before .before .before .hear-sack .ensures, ne-eqb _ _ (c .before .before .if1 .left), ← c .before .sack-call .ensures) (c .refused .ensures)
 
 pub read-sack-pending-spec : {M : Type 1} → statement M
 read-sack-pending-spec =

@@ -1,3 +1,11 @@
+use borrow.Author.Tests.{lt-ltb, le-ltb, le-leb, lt-leb, eq-eqb, ne-eqb}
+use native.Mathlib.Omega.{arith}
+use mathlib.Core.Path.{sym, _∙_, ap}
+use Rattle.octets.specs.WritingLaws.{wrote-none}
+use Rattle.steps.specs.VerdictLaws.{quiet-done, quiet-space, part-bytes}
+use Rattle.steps.specs.Lent.{isMade}
+use Rattle.steps.specs.Opening.{isPoor, isPoorLent, ackOf, answerInit, echoing, takeInitAck, established, readEcho}
+use Rattle.steps.specs.Carrying.{chunkOf, arrivalOf, readData, areaData, blocksOf, heardSack, readSack, readSackPending, readSackReceived, echoHeartbeat, clearTries}
 use borrow.Author.Needs.{needs}
 use Rattle.steps.proofs.carrying.read_sack_received.Statement.{statement}
 use Rattle.steps.proofs.carrying.read_sack_received.Tie as tie
@@ -37,7 +45,8 @@ same-length c = search needs
 
 -- src/carrying.rt:194:13
 returns : tie.Need-returns
-returns c = ?
+unfolding readSackReceived
+returns c = (rw (← c .before .before .before .before .before .before .before .before .before .before .before .hear-sack .ensures, eq-eqb _ _ (c .before .before .before .before .before .before .before .before .before .if1 .taken), ← c .before .before .before .before .before .before .before .is-empty .ensures, c .before .before .before .before .before .before .if2 .taken, ← c .before .moved .ensures, ← c .before .before .before .before .write-shutdown-ack .ensures .count) (c .accepted .ensures), rw (← c .before .before .before .before .before .before .before .before .before .before .before .hear-sack .ensures, eq-eqb _ _ (c .before .before .before .before .before .before .before .before .before .if1 .taken), ← c .before .before .before .before .before .before .before .is-empty .ensures, c .before .before .before .before .before .before .if2 .taken) (c .before .before .before .before .write-shutdown-ack .ensures .bytes))
 
 -- src/carrying.rt:196:9
 accepted-requires-2 : tie.Need-accepted-requires-2
@@ -45,7 +54,8 @@ accepted-requires-2 c κs = search needs
 
 -- src/carrying.rt:196:9
 returns-2 : tie.Need-returns-2
-returns-2 c = ?
+unfolding readSackReceived
+returns-2 c = (rw (← c .before .before .before .before .before .before .hear-sack .ensures, eq-eqb _ _ (c .before .before .before .before .if1 .taken), ← c .before .before .is-empty .ensures, c .before .if2 .left, ← wrote-none (c .before .before .before .before .before .before .before .before .before .args .space .now) .count) (c .accepted2 .ensures), rw (← c .before .before .before .before .before .before .hear-sack .ensures, eq-eqb _ _ (c .before .before .before .before .if1 .taken), ← c .before .before .is-empty .ensures, c .before .if2 .left) (wrote-none (c .before .before .before .before .before .before .before .before .before .args .space .now) .bytes))
 
 -- src/carrying.rt:198:32
 sack-call-requires : tie.Need-sack-call-requires
@@ -57,7 +67,8 @@ refused-requires c κs = search needs
 
 -- src/carrying.rt:185:1
 returns-3 : tie.Need-returns-3
-returns-3 c = ?
+unfolding readSackReceived
+returns-3 c = (rw (← c .before .before .before .before .hear-sack .ensures, ne-eqb _ _ (c .before .before .if1 .left), ← c .before .sack-call .ensures, ← wrote-none (c .before .before .before .before .before .before .before .args .space .now) .count) (c .refused .ensures), rw (← c .before .before .before .before .hear-sack .ensures, ne-eqb _ _ (c .before .before .if1 .left)) (wrote-none (c .before .before .before .before .before .before .before .args .space .now) .bytes))
 
 pub read-sack-received-spec : {M : Type 1} → statement M
 read-sack-received-spec =

@@ -1,3 +1,11 @@
+use borrow.Author.Tests.{lt-ltb, le-ltb, le-leb, lt-leb, eq-eqb, ne-eqb}
+use native.Mathlib.Omega.{arith}
+use mathlib.Core.Path.{sym, _∙_, ap}
+use Rattle.octets.specs.WritingLaws.{wrote-none}
+use Rattle.steps.specs.VerdictLaws.{quiet-done, quiet-space, part-bytes}
+use Rattle.steps.specs.Lent.{isMade}
+use Rattle.steps.specs.Opening.{isPoor, isPoorLent, ackOf, answerInit, echoing, takeInitAck, established, readEcho}
+use Rattle.steps.specs.Carrying.{chunkOf, arrivalOf, readData, areaData, blocksOf, heardSack, readSack, readSackPending, readSackReceived, echoHeartbeat, clearTries}
 use borrow.Author.Needs.{needs}
 use Rattle.steps.proofs.opening.ack_of.Statement.{statement}
 use Rattle.steps.proofs.opening.ack_of.Tie as tie
@@ -23,7 +31,8 @@ cast-t7 c = search needs
 
 -- src/opening.rt:74:1
 returns : tie.Need-returns
-returns c = ?
+unfolding ackOf
+returns c = rw (← c .before .lesser .ensures, ← c .lesser2 .ensures)
 
 pub ack-of-spec : {M : Type 1} → statement M
 ack-of-spec = tie.close (tie.spec cast-lesser lesser-requires lesser-requires-2 cast-t7 returns)

@@ -1,3 +1,11 @@
+use borrow.Author.Tests.{lt-ltb, le-ltb, le-leb, lt-leb, eq-eqb, ne-eqb}
+use native.Mathlib.Omega.{arith}
+use mathlib.Core.Path.{sym, _∙_, ap}
+use Rattle.octets.specs.WritingLaws.{wrote-none}
+use Rattle.steps.specs.VerdictLaws.{quiet-done, quiet-space, part-bytes}
+use Rattle.steps.specs.Lent.{isMade}
+use Rattle.steps.specs.Opening.{isPoor, isPoorLent, ackOf, answerInit, echoing, takeInitAck, established, readEcho}
+use Rattle.steps.specs.Carrying.{chunkOf, arrivalOf, readData, areaData, blocksOf, heardSack, readSack, readSackPending, readSackReceived, echoHeartbeat, clearTries}
 use borrow.Author.Needs.{needs}
 use Rattle.steps.proofs.opening.answer_init.Statement.{statement}
 use Rattle.steps.proofs.opening.answer_init.Tie as tie
@@ -24,7 +32,8 @@ refused-requires c κs = search needs
 
 -- src/opening.rt:92:9
 returns : tie.Need-returns
-returns c = ?
+unfolding answerInit
+returns c = (rw (← c .before .before .is-poor-lent .ensures, c .before .if1 .taken, ← wrote-none (c .before .before .before .before .before .before .args .space .now) .count) (c .refused .ensures), rw (← c .before .before .is-poor-lent .ensures, c .before .if1 .taken) (wrote-none (c .before .before .before .before .before .before .args .space .now) .bytes))
 
 -- src/opening.rt:94:9
 read-init-requires : tie.Need-read-init-requires
@@ -40,7 +49,8 @@ refused-requires-2 c κs = search needs
 
 -- src/opening.rt:96:9
 returns-2 : tie.Need-returns-2
-returns-2 c = ?
+unfolding answerInit
+returns-2 c = (rw (← c .before .before .before .before .before .is-poor-lent .ensures, c .before .before .before .before .if1 .left, ← c .before .before .before .read-init .ensures, ← c .before .before .is-poor .ensures, c .before .if2 .taken, ← wrote-none (c .before .before .before .before .before .before .before .before .before .args .space .now) .count) (c .refused2 .ensures), rw (← c .before .before .before .before .before .is-poor-lent .ensures, c .before .before .before .before .if1 .left, ← c .before .before .before .read-init .ensures, ← c .before .before .is-poor .ensures, c .before .if2 .taken) (wrote-none (c .before .before .before .before .before .before .before .before .before .args .space .now) .bytes))
 
 -- src/opening.rt:98:8
 has-host-name-requires : tie.Need-has-host-name-requires
@@ -80,7 +90,8 @@ same-length c = search needs
 
 -- src/opening.rt:103:9
 returns-3 : tie.Need-returns-3
-returns-3 c = ?
+unfolding answerInit
+returns-3 c = (rw (← c .before .before .before .before .before .before .before .before .before .before .before .before .before .before .is-poor-lent .ensures, c .before .before .before .before .before .before .before .before .before .before .before .before .before .if1 .left, ← c .before .before .before .before .before .before .before .before .before .before .before .before .read-init .ensures, ← c .before .before .before .before .before .before .before .before .before .before .before .is-poor .ensures, c .before .before .before .before .before .before .before .before .before .before .if2 .left, ← c .before .before .before .before .before .before .before .before .before .has-host-name .ensures, c .before .before .before .before .before .before .before .before .if3 .taken, ← c .before .before .before .before .before .before .before .host-name .ensures .0, ← part-bytes (c .before .before .before .before .before .before .before .host-name .result) (c .before .before .before .before .before .before .before .before .before .before .before .before .before .before .before .before .before .before .args .s .now), ← c .before .before .before .write-abort-address .ensures .count) (c .accepted .ensures), rw (← c .before .before .before .before .before .before .before .before .before .before .before .before .before .before .is-poor-lent .ensures, c .before .before .before .before .before .before .before .before .before .before .before .before .before .if1 .left, ← c .before .before .before .before .before .before .before .before .before .before .before .before .read-init .ensures, ← c .before .before .before .before .before .before .before .before .before .before .before .is-poor .ensures, c .before .before .before .before .before .before .before .before .before .before .if2 .left, ← c .before .before .before .before .before .before .before .before .before .has-host-name .ensures, c .before .before .before .before .before .before .before .before .if3 .taken, ← c .before .before .before .before .before .before .before .host-name .ensures .0, ← part-bytes (c .before .before .before .before .before .before .before .host-name .result) (c .before .before .before .before .before .before .before .before .before .before .before .before .before .before .before .before .before .before .args .s .now)) (c .before .before .before .write-abort-address .ensures .bytes))
 
 -- src/opening.rt:105:9
 ack-of-requires : tie.Need-ack-of-requires
@@ -100,7 +111,8 @@ same-length-2 c = search needs
 
 -- src/opening.rt:88:1
 returns-4 : tie.Need-returns-4
-returns-4 c = ?
+unfolding answerInit
+returns-4 c = (rw (← c .before .before .before .before .before .before .before .before .before .before .before .before .is-poor-lent .ensures, c .before .before .before .before .before .before .before .before .before .before .before .if1 .left, ← c .before .before .before .before .before .before .before .before .before .before .read-init .ensures, ← c .before .before .before .before .before .before .before .before .before .is-poor .ensures, c .before .before .before .before .before .before .before .before .if2 .left, ← c .before .before .before .before .before .before .before .has-host-name .ensures, c .before .before .before .before .before .before .if3 .left, ← c .before .before .before .before .before .ack-of .ensures, ← c .before .before .before .write-init-ack .ensures .count) (c .accepted2 .ensures), rw (← c .before .before .before .before .before .before .before .before .before .before .before .before .is-poor-lent .ensures, c .before .before .before .before .before .before .before .before .before .before .before .if1 .left, ← c .before .before .before .before .before .before .before .before .before .before .read-init .ensures, ← c .before .before .before .before .before .before .before .before .before .is-poor .ensures, c .before .before .before .before .before .before .before .before .if2 .left, ← c .before .before .before .before .before .before .before .has-host-name .ensures, c .before .before .before .before .before .before .if3 .left, ← c .before .before .before .before .before .ack-of .ensures) (c .before .before .before .write-init-ack .ensures .bytes))
 
 pub answer-init-spec : {M : Type 1} → statement M
 answer-init-spec =

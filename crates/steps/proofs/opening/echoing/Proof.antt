@@ -1,3 +1,11 @@
+use borrow.Author.Tests.{lt-ltb, le-ltb, le-leb, lt-leb, eq-eqb, ne-eqb}
+use native.Mathlib.Omega.{arith}
+use mathlib.Core.Path.{sym, _∙_, ap}
+use Rattle.octets.specs.WritingLaws.{wrote-none}
+use Rattle.steps.specs.VerdictLaws.{quiet-done, quiet-space, part-bytes}
+use Rattle.steps.specs.Lent.{isMade}
+use Rattle.steps.specs.Opening.{isPoor, isPoorLent, ackOf, answerInit, echoing, takeInitAck, established, readEcho}
+use Rattle.steps.specs.Carrying.{chunkOf, arrivalOf, readData, areaData, blocksOf, heardSack, readSack, readSackPending, readSackReceived, echoHeartbeat, clearTries}
 use borrow.Author.Needs.{needs}
 use Rattle.steps.proofs.opening.echoing.Statement.{statement}
 use Rattle.steps.proofs.opening.echoing.Tie as tie
@@ -24,7 +32,8 @@ lesser-requires-2 c κs = search needs
 
 -- src/opening.rt:124:1
 returns : tie.Need-returns
-returns c = ?
+unfolding echoing
+returns c = rw (← c .before .before .before .before .fresh .ensures, ← c .before .before .lesser .ensures, ← c .before .lesser2 .ensures)
 
 pub echoing-spec : {M : Type 1} → statement M
 echoing-spec =

@@ -1,3 +1,11 @@
+use borrow.Author.Tests.{lt-ltb, le-ltb, le-leb, lt-leb, eq-eqb, ne-eqb}
+use native.Mathlib.Omega.{arith}
+use mathlib.Core.Path.{sym, _∙_, ap}
+use Rattle.octets.specs.WritingLaws.{wrote-none}
+use Rattle.steps.specs.VerdictLaws.{quiet-done, quiet-space, part-bytes}
+use Rattle.steps.specs.Verdict.{unreadBy}
+use Rattle.steps.specs.Opening.{isPoor, isPoorLent, ackOf, answerInit, echoing, takeInitAck, established, readEcho}
+use Rattle.steps.specs.Carrying.{chunkOf, arrivalOf, readData, areaData, blocksOf, heardSack, readSack, readSackPending, readSackReceived, echoHeartbeat, clearTries}
 use borrow.Author.Needs.{needs}
 use Rattle.steps.proofs.opening.read_echo.Statement.{statement}
 use Rattle.steps.proofs.opening.read_echo.Tie as tie
@@ -29,7 +37,8 @@ ending-requires c κs = search needs
 
 -- src/opening.rt:195:9
 returns : tie.Need-returns
-returns c = ?
+unfolding readEcho
+returns c = (rw (← c .before .before .before .before .cookie .ensures .0, ← c .before .before .before .is-odd .ensures, c .before .before .if1 .taken, ← wrote-none (c .before .before .before .before .before .before .before .args .space .now) .count) (c .ending .ensures ∙ ap unreadBy (c .before .refused .ensures)), rw (← c .before .before .before .before .cookie .ensures .0, ← c .before .before .before .is-odd .ensures, c .before .before .if1 .taken) (wrote-none (c .before .before .before .before .before .before .before .args .space .now) .bytes))
 
 -- src/opening.rt:198:22
 enum-known-echoed : tie.Need-enum-known-echoed
@@ -77,15 +86,18 @@ same-length c = search needs
 
 -- src/opening.rt:190:1
 returns-2 : tie.Need-returns-2
-returns-2 c = ?
+unfolding readEcho
+returns-2 c = (rw (← c .before .before .before .before .before .before .before .before .before .before .before .cookie .ensures .0, ← c .before .before .before .before .before .before .before .before .before .before .is-odd .ensures, c .before .before .before .before .before .before .before .before .before .if1 .left, c .before .before .before .before .before .before .before .echoed .given .1, ← c .before .before .before .before .before .established .ensures, ← c .before .before .before .write-cookie-ack .ensures .count) (c .accepted .ensures), rw (← c .before .before .before .before .before .before .before .before .before .before .before .cookie .ensures .0, ← c .before .before .before .before .before .before .before .before .before .before .is-odd .ensures, c .before .before .before .before .before .before .before .before .before .if1 .left, c .before .before .before .before .before .before .before .echoed .given .1) (c .before .before .before .write-cookie-ack .ensures .bytes))
 
 -- src/opening.rt:190:1
 returns-3 : tie.Need-returns-3
-returns-3 c = ?
+unfolding readEcho
+returns-3 c = (rw (← c .before .before .before .before .before .before .cookie .ensures .0, ← c .before .before .before .before .before .is-odd .ensures, c .before .before .before .before .if1 .left, c .before .before .enum-told .given .1, ← wrote-none (c .before .before .before .before .before .before .before .before .before .args .space .now) .count) (c .ending2 .ensures ∙ ap unreadBy (c .before .refused2 .ensures)), rw (← c .before .before .before .before .before .before .cookie .ensures .0, ← c .before .before .before .before .before .is-odd .ensures, c .before .before .before .before .if1 .left, c .before .before .enum-told .given .1) (wrote-none (c .before .before .before .before .before .before .before .before .before .args .space .now) .bytes))
 
 -- src/opening.rt:190:1
 returns-4 : tie.Need-returns-4
-returns-4 c = ?
+unfolding readEcho
+returns-4 c = (rw (← c .before .before .before .before .before .before .cookie .ensures .0, ← c .before .before .before .before .before .is-odd .ensures, c .before .before .before .before .if1 .left, c .before .before .enum-told2 .given .1, ← wrote-none (c .before .before .before .before .before .before .before .before .before .args .space .now) .count) (c .ending3 .ensures ∙ ap unreadBy (c .before .refused3 .ensures)), rw (← c .before .before .before .before .before .before .cookie .ensures .0, ← c .before .before .before .before .before .is-odd .ensures, c .before .before .before .before .if1 .left, c .before .before .enum-told2 .given .1) (wrote-none (c .before .before .before .before .before .before .before .before .before .args .space .now) .bytes))
 
 pub read-echo-spec : {M : Type 1} → statement M
 read-echo-spec =

@@ -1,0 +1,29 @@
+use borrow.Author.Tests.{lt-ltb, le-ltb, eq-eqb, ne-eqb}
+use native.Mathlib.Omega.{arith}
+use mathlib.Core.Path.{sym, _∙_, ap}
+use Rattle.octets.specs.WritingLaws.{wrote-none}
+use Rattle.steps.specs.VerdictLaws.{part-bytes}
+use Rattle.steps.specs.Verdict.{unreadBy}
+use Rattle.steps.specs.Closing.{readError, heardShutdown, readShutdown, crossShutdown, repeatShutdownAck}
+use borrow.Author.Needs.{needs}
+use Rattle.steps.proofs.closing.become_complete.Statement.{statement}
+use Rattle.steps.proofs.closing.become_complete.Tie as tie
+use Rattle.steps.proofs.closing.become_complete.Reads as reads
+use Rattle.steps.proofs.closing.become_complete.Lts as lts
+use Rattle.association.proofs.ends.Association.moved.Reads as moved-reads
+use Rattle.steps.proofs.verdict.Done.accepted.Reads as accepted-reads
+
+-- src/closing.rt:117:20
+moved-requires : tie.Need-moved-requires
+moved-requires c κs = search needs
+
+-- src/closing.rt:117:5
+accepted-requires : tie.Need-accepted-requires
+accepted-requires c κs = search needs
+
+-- src/closing.rt:114:1
+returns : tie.Need-returns
+returns c = rw (← c .before .moved .ensures) (c .accepted .ensures)
+
+pub become-complete-spec : {M : Type 1} → statement M
+become-complete-spec = tie.close (tie.spec moved-requires accepted-requires returns)

@@ -1,0 +1,52 @@
+use borrow.Author.Tests.{lt-ltb, le-ltb, eq-eqb, ne-eqb}
+use native.Mathlib.Omega.{arith}
+use mathlib.Core.Path.{sym, _∙_, ap}
+use Rattle.octets.specs.WritingLaws.{wrote-none}
+use Rattle.steps.specs.VerdictLaws.{part-bytes}
+use Rattle.steps.specs.Verdict.{unreadBy}
+use Rattle.steps.specs.Closing.{readError, heardShutdown, readShutdown, crossShutdown, repeatShutdownAck}
+use borrow.Author.Needs.{needs}
+use Rattle.steps.proofs.closing.read_error.Statement.{statement}
+use Rattle.steps.proofs.closing.read_error.Tie as tie
+use Rattle.steps.proofs.closing.read_error.Reads as reads
+use Rattle.steps.proofs.closing.read_error.Lts as lts
+use Rattle.association.proofs.ends.Association.moved.Reads as moved-reads
+use Rattle.parameters.proofs.stale.is_stale.Reads as is-stale-reads
+use Rattle.steps.proofs.verdict.Done.accepted.Reads as accepted-reads
+
+-- src/closing.rt:27:8
+is-stale-requires : tie.Need-is-stale-requires
+is-stale-requires c κs = search needs
+
+-- src/closing.rt:29:13
+moved-requires : tie.Need-moved-requires
+moved-requires c κs = search needs
+
+-- src/closing.rt:28:9
+accepted-requires : tie.Need-accepted-requires
+accepted-requires c κs = search needs
+
+-- src/closing.rt:28:9
+returns : tie.Need-returns
+unfolding readError
+returns c = rw (← c .before .before .before .is-stale .ensures, c .before .before .if1 .taken, ← c .before .moved .ensures) (c .accepted .ensures)
+
+-- src/closing.rt:34:5
+accepted-requires-2 : tie.Need-accepted-requires-2
+accepted-requires-2 c κs = search needs
+
+-- src/closing.rt:24:1
+returns-2 : tie.Need-returns-2
+unfolding readError
+returns-2 c = rw (← c .before .before .is-stale .ensures, c .before .if1 .left) (c .accepted2 .ensures)
+
+pub read-error-spec : {M : Type 1} → statement M
+read-error-spec =
+    tie.close
+    (tie.spec
+    is-stale-requires
+    moved-requires
+    accepted-requires
+    returns
+    accepted-requires-2
+    returns-2)
