@@ -18,7 +18,7 @@ use Rattle.holding.specs.Held.{asHeld}
 use Rattle.delivery.specs.declared.arrival.Verdict.{Verdict}
 use Rattle.delivery.specs.declared.arrival.Verdict.the-variants.{Kept, Empty, Long, Duplicate, Wedged, Far, Stray}
 use Rattle.delivery.specs.declared.arrival.Arrival.{Arrival}
-use Rattle.delivery.specs.Arrival.{numberOf, arrived, areaAfter}
+use Rattle.delivery.specs.Arrival.{arrived, areaAfter}
 use Rattle.places.specs.declared.blocks.Blocks.{Blocks}
 use Rattle.sending.specs.declared.acknowledging.Answer.{Answer}
 use Rattle.sending.specs.Acknowledge as sender

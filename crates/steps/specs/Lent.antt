@@ -1,6 +1,6 @@
 -- What the host lends beside a packet.
 use Prim.Native.Nat.{ℕ}
-use mathlib.Core.Bool.{Bool, true, false}
+use mathlib.Core.Bool.{Bool, false}
 use lib.Dec.{ltb, leb, eqb}
 use Rattle.scans.specs.Scan.{pick}
 use Rattle.steps.specs.declared.lent.Made.{Made}

@@ -1,35 +1,25 @@
 -- The chunks that open an association: INIT, INIT ACK, COOKIE ECHO, COOKIE ACK (RFC 9260 section 5.1).
-use Prim.Native.Nat.{ℕ, _+_, _^_}
-use mathlib.Core.Bool.{Bool, true, false}
-use mathlib.Core.List.{List, [], _++_}
+use Prim.Native.Nat.{ℕ}
+use mathlib.Core.Bool.{Bool, true}
+use mathlib.Core.List.{List, []}
 use lib.Dec.{ltb, eqb}
-use lib.ListN.{length, take, drop, replicate}
+use lib.ListN.{length, take, drop}
 use Rattle.scans.specs.Scan.{pick}
-use Rattle.numbers.specs.Numbering.{ring}
-use Rattle.numbers.specs.Profile.{rail}
-use Rattle.octets.specs.Bytes.{laid}
 use Rattle.chunks.specs.declared.frame.Part.{Part}
 use Rattle.chunks.specs.declared.init.Init.{Init}
 use Rattle.chunks.specs.Frame.{framed, partFrom}
 use Rattle.chunks.specs.InitChunk.{initOf}
 use Rattle.chunks.specs.Cause.{caused}
-use Rattle.chunks.specs.CookieChunk.{cookieEchoBytes}
-use Rattle.parameters.specs.Parameter.{valueOf, isThere, COOKIE, NAME}
-use Rattle.parameters.specs.Report.{initAckBytes, errorParametersBytes}
-use Rattle.delivery.specs.Receiving as receiver
-use Rattle.sending.specs.declared.sending.Sending.{Sending}
-use Rattle.states.specs.declared.state.State.{State}
-use Rattle.states.specs.declared.state.State.the-variants.{Closed, CookieEchoed, Established}
+use Rattle.parameters.specs.Parameter.{valueOf, isThere, NAME}
+use Rattle.parameters.specs.Report.{initAckBytes}
+use Rattle.states.specs.declared.state.State.the-variants.{Established}
 use Rattle.association.specs.declared.ends.Association.{Association}
-use Rattle.association.specs.declared.ends.Cookie.{Cookie}
-use Rattle.association.specs.declared.ends.Ends.{Ends}
-use Rattle.association.specs.Fresh.{started, withState}
+use Rattle.association.specs.Fresh.{started}
 use Rattle.steps.specs.declared.lent.Lent.{Lent}
 use Rattle.steps.specs.declared.lent.Made.{Made}
 use Rattle.steps.specs.declared.lent.Echoed.{Echoed}
 use Rattle.steps.specs.declared.lent.Echoed.the-variants.{Bad, Stale, Good}
-use Rattle.steps.specs.declared.verdict.Event.the-variants.{NoEvent, Up, Down}
-use Rattle.steps.specs.declared.verdict.Reason.the-variants.{HostName}
+use Rattle.steps.specs.declared.verdict.Event.the-variants.{NoEvent, Up}
 use Rattle.steps.specs.declared.verdict.Named.the-variants.{NoCall, ErrorStale}
 use Rattle.steps.specs.Verdict.{Step, accepted, refused, ending}
 
@@ -73,53 +63,6 @@ answerInit a l cookie s =
     (pick (isPoor (initOf s)) (refused a 8 NoCall)
     (pick (isThere NAME s) (accepted a NoEvent (nameRefused s))
     (accepted a NoEvent (initAckBytes (ackOf l (initOf s)) cookie s))))
-
-abbrev pub kept : List ℕ → Cookie
-kept cookie = record { bytes = laid (replicate 256 0) 0 cookie; len = length cookie }
-
-abbrev pub withWindow : Sending → ℕ → Sending
-withWindow s w = record {
-  acked = s .acked;
-  «next_tsn» = s .«next_tsn»;
-  advertised = w;
-  oldest = s .oldest;
-  places = s .places;
-  next = s .next;
-  path = s .path;
-}
-
--- "after our own INIT, the INIT ACK sets its point", and tag, window, streams and cookie with it (section 5.1 C)
-unfoldable pub echoing : Association → Init → Cookie → Association
-echoing a v cookie = record {
-  state = CookieEchoed 0;
-  ends = record {
-    «local_port» = a .ends .«local_port»;
-    «peer_port» = a .ends .«peer_port»;
-    «my_tag» = a .ends .«my_tag»;
-    «peer_tag» = v .tag;
-    «streams_in» = lesser 128 (v .outs);
-    «streams_out» = lesser (a .ends .«streams_out») (v .ins);
-  };
-  cookie = cookie;
-  receiving = receiver.fresh (ring (2 ^ 32)) rail (v .tsn);
-  sending = withWindow (a .sending) (v .window);
-}
-
-abbrev pub cookieOf : List ℕ → List ℕ
-cookieOf s = bytesOf (valueOf COOKIE 4 s) s
-
--- COOKIE ECHO, and the report of unknown parameters behind it where there is room for both
-abbrev pub echoReply : ℕ → List ℕ → List ℕ → List ℕ
-echoReply room echo report = pick (ltb room (length echo + length report)) echo (echo ++ report)
-
--- an INIT ACK in COOKIE-WAIT (section 5.1 C)
-unfoldable pub takeInitAck : ℕ → Association → List ℕ → Step
-takeInitAck room a s =
-    pick (isPoor (initOf s)) (refused a 8 NoCall)
-    (pick (isOdd (valueOf COOKIE 4 s .len)) (refused a 8 NoCall)
-    (pick (isThere NAME s) (accepted (withState a Closed) (Down HostName) (nameRefused s))
-    (accepted (echoing a (initOf s) (kept (cookieOf s))) NoEvent
-    (echoReply room (cookieEchoBytes (cookieOf s)) (errorParametersBytes s)))))
 
 -- "A good echo … starts from a fresh record" (section 5.1.5)
 unfoldable pub established : Association → ℕ → Made → Association

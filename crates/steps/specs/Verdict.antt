@@ -2,8 +2,6 @@
 use Prim.Native.Nat.{ℕ}
 use mathlib.Core.Bool.{Bool, true, false}
 use mathlib.Core.List.{List, []}
-use Rattle.numbers.specs.declared.circle.Tsn.{Tsn}
-use Rattle.numbers.specs.declared.circle.StreamId.{StreamId}
 use Rattle.octets.specs.Writing.{wroteCount}
 use Rattle.association.specs.declared.ends.Association.{Association}
 use Rattle.steps.specs.declared.verdict.Fate.{Fate}
@@ -11,9 +9,9 @@ use Rattle.steps.specs.declared.verdict.Fate.the-variants.{Accepted, Ref
 use Rattle.steps.specs.declared.verdict.Named.{Named}
 use Rattle.steps.specs.declared.verdict.Named.the-variants.{NoCall, AbortNoData, AbortViolation, ErrorStream, ErrorStale}
 use Rattle.steps.specs.declared.verdict.Event.{Event}
-use Rattle.steps.specs.declared.verdict.Event.the-variants.{NoEvent, Up, Down}
+use Rattle.steps.specs.declared.verdict.Event.the-variants.{NoEvent}
 use Rattle.steps.specs.declared.verdict.Owed.{Owed}
-use Rattle.steps.specs.declared.verdict.Owed.the-variants.{Nothing, Shutdown, Complete, Reflected}
+use Rattle.steps.specs.declared.verdict.Owed.the-variants.{Nothing}
 use Rattle.steps.specs.declared.verdict.Done.{Done}
 
 -- the number of document 01 for a fate

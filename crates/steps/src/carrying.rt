@@ -128,7 +128,11 @@ pub fn read_late_data(mut a: Association, area: &mut [u8], s: &[u8]) -> Done
     if is_kept(v) {
         let after = o.receiving;
         a.receiving = after;
-        return Done::owing(a.moved(State::ShutdownSent(0)), Event::NoEvent, Owed::Shutdown);
+        return Done::owing(
+            a.moved(State::ShutdownSent(0)),
+            Event::NoEvent,
+            Owed::Shutdown,
+        );
     }
     data_read(a, o, s)
 }

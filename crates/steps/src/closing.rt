@@ -25,11 +25,7 @@ pub fn read_error(a: Association, s: &[u8]) -> Done
     ensures { λ r. ⌜ r ≡ doneWith 0 (readError a (now (s .entry))) ⌝ }
 {
     if parameters::stale::is_stale(s) {
-        return Done::accepted(
-            a.moved(State::Closed),
-            Event::Down(Reason::StaleCookie),
-            0,
-        );
+        return Done::accepted(a.moved(State::Closed), Event::Down(Reason::StaleCookie), 0);
     }
     Done::accepted(a, Event::NoEvent, 0)
 }

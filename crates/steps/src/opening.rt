@@ -6,21 +6,16 @@ use crate::lent::Made;
 use crate::verdict::Done;
 use crate::verdict::Event;
 use crate::verdict::Named;
-use crate::verdict::Reason;
 use association::Association;
-use association::Cookie;
 use association::Ends;
 use chunks::init::Init;
-use delivery::Receiving;
 use numbers::Rail;
 use numbers::Tsn;
 use states::State;
 ghost use mathlib.Core.Path.{_≡_};
-ghost use Prim.Native.Nat.{_≤_};
-ghost use lib.ListN.{length};
 ghost use Rattle.octets.specs.Writing.{wroteBytes};
-ghost use Rattle.steps.specs.Verdict.{doneIn, accepted, refused, ending};
-ghost use Rattle.steps.specs.Opening.{isPoor, isOdd, isPoorLent, lesser, ackOf, answerInit, kept, echoing, takeInitAck, established, readEcho};
+ghost use Rattle.steps.specs.Verdict.{doneIn};
+ghost use Rattle.steps.specs.Opening.{isPoor, isOdd, isPoorLent, lesser, ackOf, answerInit, established, readEcho};
 
 // What is sent as our window: all places free.
 const WINDOW: u32 = 65536;
@@ -106,70 +101,6 @@ pub fn answer_init(a: Association, lent: Lent, cookie: &[u8], s: &[u8], space: &
     let k = ack_of(lent, v);
     let n = parameters::report::write_init_ack(space, k, cookie, s);
     Done::accepted(a, Event::NoEvent, n)
-}
-
-// The cookie, for T1's resends.
-fn keep(cookie: &[u8]) -> Cookie
-    requires { ⌜ length (now cookie) ≤ 256 ⌝ }
-    ensures { λ r. ⌜ r ≡ kept (now (cookie .entry)) ⌝ }
-{
-    let mut bytes = [0u8; 256];
-    octets::put_all(&mut bytes, 0, cookie);
-    Cookie {
-        bytes,
-        len: cookie.len() as u16,
-    }
-}
-
-// The record once the INIT ACK is taken in.
-fn echoing(mut a: Association, v: Init, cookie: Cookie) -> Association
-    ensures { λ r. ⌜ r ≡ echoing a v cookie ⌝ }
-{
-    let theirs = v.tsn;
-    let receiving = Receiving::fresh(theirs);
-    let mut ends = a.ends;
-    ends.peer_tag = v.tag;
-    ends.streams_in = lesser(Rail::STREAMS as u16, v.outs);
-    ends.streams_out = lesser(ends.streams_out, v.ins);
-    let mut sending = a.sending;
-    sending.advertised = v.window;
-    Association {
-        state: State::CookieEchoed(0),
-        ends,
-        cookie,
-        receiving,
-        sending,
-    }
-}
-
-// An INIT ACK in COOKIE-WAIT.
-pub fn take_init_ack(a: Association, s: &[u8], space: &mut [u8]) -> Done
-    ensures { λ r. ⌜ (r ≡ doneIn (now (space .entry)) (takeInitAck (length (now (space .entry))) a (now (s .entry)))) × (now (space .exit) ≡ wroteBytes (now (space .entry)) (takeInitAck (length (now (space .entry))) a (now (s .entry)) .reply)) ⌝ }
-{
-    let v = chunks::init::read_init(s);
-    if is_poor(v) {
-        return Done::refused(a, 8, Named::NoCall);
-    }
-    let p = parameters::parameter::cookie(s);
-    if is_odd(p.len) {
-        return Done::refused(a, 8, Named::NoCall);
-    }
-    if parameters::parameter::has_host_name(s) {
-        let h = parameters::parameter::host_name(s);
-        let from = h.at;
-        let to = from + h.len;
-        let n = chunks::cause::write_abort_address(space, false, &s[from..to]);
-        return Done::accepted(a.moved(State::Closed), Event::Down(Reason::HostName), n);
-    }
-    let from = p.at;
-    let to = from + p.len;
-    let b = echoing(a, v, keep(&s[from..to]));
-    let n = chunks::cookie::write_cookie_echo(space, &s[from..to]);
-    if n == 0 {
-        return Done::accepted(b, Event::NoEvent, 0);
-    }
-    let m = parameters::report::write_error_parameters(&mut space[n..], s);
-    Done::accepted(b, Event::NoEvent, n + m)
 }
 
 fn established(a: Association, source: u16, m: Made) -> Association

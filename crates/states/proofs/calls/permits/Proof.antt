@@ -1,7 +1,4 @@
-use borrow.Author.Tests.{lt-ltb, le-ltb}
 use Rattle.states.specs.Calls.{permitted}
-use Rattle.states.specs.Rows.{rowOf}
-use Rattle.states.specs.Tries.{triedAgain}
 use borrow.Author.Needs.{needs}
 use Rattle.states.proofs.calls.permits.Statement.{statement}
 use Rattle.states.proofs.calls.permits.Tie as tie

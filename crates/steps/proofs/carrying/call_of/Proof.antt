@@ -1,11 +1,3 @@
-use borrow.Author.Tests.{lt-ltb, le-ltb, le-leb, lt-leb, eq-eqb, ne-eqb}
-use native.Mathlib.Omega.{arith}
-use mathlib.Core.Path.{sym, _∙_, ap}
-use Rattle.octets.specs.WritingLaws.{wrote-none}
-use Rattle.steps.specs.VerdictLaws.{quiet-done, quiet-space, part-bytes}
-use Rattle.steps.specs.Lent.{isMade}
-use Rattle.steps.specs.Opening.{isPoor, isPoorLent, ackOf, answerInit, echoing, takeInitAck, established, readEcho}
-use Rattle.steps.specs.Carrying.{chunkOf, arrivalOf, readData, areaData, blocksOf, heardSack, readSack, readSackPending, readSackReceived, echoHeartbeat, clearTries}
 use borrow.Author.Needs.{needs}
 use Rattle.steps.proofs.carrying.call_of.Statement.{statement}
 use Rattle.steps.proofs.carrying.call_of.Tie as tie

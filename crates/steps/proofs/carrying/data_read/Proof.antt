@@ -1,3 +1,4 @@
+use Rattle.steps.specs.Carrying.{dataRead}
 use borrow.Author.Needs.{needs}
 use Rattle.steps.proofs.carrying.data_read.Statement.{statement}
 use Rattle.steps.proofs.carrying.data_read.Tie as tie
@@ -21,7 +22,8 @@ call-of-requires c κs = search needs
 
 -- src/carrying.rt:94:1
 returns : tie.Need-returns
-returns c = ?
+unfolding dataRead
+returns c = rw (← c .before .before .before .before .before .chunk-of .ensures, ← c .before .fate-of .ensures, ← c .call-of .ensures)
 
 pub data-read-spec : {M : Type 1} → statement M
 data-read-spec = tie.close (tie.spec chunk-of-requires fate-of-requires call-of-requires returns)

@@ -1,3 +1,5 @@
+use Rattle.steps.specs.VerdictLaws.{part-bytes}
+use Rattle.steps.specs.Carrying.{arrivalOf, areaData}
 use borrow.Author.Needs.{needs}
 use Rattle.steps.proofs.carrying.hear_data.Statement.{statement}
 use Rattle.steps.proofs.carrying.hear_data.Tie as tie
@@ -41,7 +43,8 @@ same-length c = search needs
 
 -- src/carrying.rt:82:1
 returns : tie.Need-returns
-returns c = ?
+unfolding arrivalOf areaData
+returns c = (rw (← c .before .before .before .before .before .before .before .before .before .chunk-of .ensures, ← c .before .before .before .before .before .before .before .before .payload .ensures .0, ← part-bytes (c .before .before .before .before .before .before .before .before .payload .result) (c .before .before .before .before .before .before .before .before .before .before .before .before .args .s .now)) (c .before .before .arrive .ensures .0), rw (← c .before .before .before .before .before .before .before .before .before .chunk-of .ensures, ← c .before .before .before .before .before .before .before .before .payload .ensures .0, ← part-bytes (c .before .before .before .before .before .before .before .before .payload .result) (c .before .before .before .before .before .before .before .before .before .before .before .before .args .s .now)) (c .before .before .arrive .ensures .1))
 
 pub hear-data-spec : {M : Type 1} → statement M
 hear-data-spec =

@@ -1,3 +1,4 @@
+use Rattle.steps.specs.Carrying.{readLateData}
 use borrow.Author.Needs.{needs}
 use Rattle.steps.proofs.carrying.read_late_data.Statement.{statement}
 use Rattle.steps.proofs.carrying.read_late_data.Tie as tie
@@ -31,7 +32,8 @@ same-length c = search needs
 
 -- src/carrying.rt:131:9
 returns : tie.Need-returns
-returns c = ?
+unfolding readLateData
+returns c = (rw (← c .before .before .before .before .before .before .before .hear-data .ensures .0, ← c .before .before .before .before .is-kept .ensures, c .before .before .before .if1 .taken, ← c .before .moved .ensures) (c .owing .ensures), c .before .before .before .before .before .before .before .hear-data .ensures .1)
 
 -- src/carrying.rt:133:5
 data-read-requires : tie.Need-data-read-requires
@@ -43,7 +45,8 @@ same-length-2 c = search needs
 
 -- src/carrying.rt:123:1
 returns-2 : tie.Need-returns-2
-returns-2 c = ?
+unfolding readLateData
+returns-2 c = (rw (← c .before .before .before .before .before .hear-data .ensures .0, ← c .before .before .is-kept .ensures, c .before .if1 .left) (c .data-read .ensures), c .before .before .before .before .before .hear-data .ensures .1)
 
 pub read-late-data-spec : {M : Type 1} → statement M
 read-late-data-spec =

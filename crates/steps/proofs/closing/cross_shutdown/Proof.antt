@@ -1,10 +1,6 @@
-use borrow.Author.Tests.{lt-ltb, le-ltb, eq-eqb, ne-eqb}
-use native.Mathlib.Omega.{arith}
-use mathlib.Core.Path.{sym, _∙_, ap}
+use borrow.Author.Tests.{eq-eqb, ne-eqb}
 use Rattle.octets.specs.WritingLaws.{wrote-none}
-use Rattle.steps.specs.VerdictLaws.{part-bytes}
-use Rattle.steps.specs.Verdict.{unreadBy}
-use Rattle.steps.specs.Closing.{readError, heardShutdown, readShutdown, crossShutdown, repeatShutdownAck}
+use Rattle.steps.specs.Closing.{crossShutdown}
 use borrow.Author.Needs.{needs}
 use Rattle.steps.proofs.closing.cross_shutdown.Statement.{statement}
 use Rattle.steps.proofs.closing.cross_shutdown.Tie as tie
