@@ -1,2 +1,5 @@
 pub mod Reduce
 pub mod Agree
+pub mod Sender
+pub mod Count
+pub mod Chosen
