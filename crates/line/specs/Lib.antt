@@ -3,3 +3,6 @@ pub mod Agree
 pub mod Sender
 pub mod Count
 pub mod Chosen
+pub mod Sound
+pub mod Arrives
+pub mod Takes
