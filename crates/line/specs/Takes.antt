@@ -24,8 +24,11 @@ use Rattle.holding.specs.declared.held.Chunk.{Chunk}
 use Rattle.holding.specs.declared.held.Held.{Held}
 use Rattle.holding.specs.Held.{noHeld, ssn0, asHeld, holds, holds-is, is-held}
 use Rattle.holding.specs.Message.{Run, broken, whole, Choice, none, one, isLeftEnd, isExpected, opens, follow, better, chosen, chunksAt}
-use Rattle.holding.specs.Taking.{emptied, advanced, firstOf, lengthOf, tookBy, took}
+use Rattle.holding.specs.Taking.{emptied, advanced, firstOf, lengthOf, messageOf, tookBy, took}
+use Rattle.holding.specs.declared.taking.Answer.{Answer}
+use Rattle.holding.specs.declared.taking.Answer.the-variants.{Taken, Nothing, Short}
 use Rattle.delivery.specs.declared.receiving.Receiving.{Receiving}
+use Rattle.delivery.specs.declared.receiving.Taken.{Taken as Left}
 use Rattle.delivery.specs.Receiving.{takenBy, taken}
 use Rattle.line.specs.Count.{bit-lt, bit-ge, copies, copies-nil, below, isBelow, below-suc, below-run, below-mono, below-le, count-empty, place-of}
 use Rattle.line.specs.Sender.{Sender, agreed-few, starts, starts-at, ordinal, ordinal-lt}
@@ -428,3 +431,164 @@ module _ {P : Profile} {base streams : ℕ} {chunk : ℕ → Chunk} {size : ℕ 
               go true e = taken-upper n e
               go false e = omega (arith, ap bit e, s .upper n (omega (arith, ap bit e)), l .high)
 
+-- ---- the record
+
+-- the message that a take gives is an ordered one of stream q
+abbrev pub isNextOf : ℕ → Answer → Bool
+isNextOf q (Taken m) = pick (m .unordered) false (eqb (m .stream .0) q)
+isNextOf q Nothing = false
+isNextOf q (Short n) = false
+
+abbrev pub ssnOf : Answer → ℕ
+ssnOf (Taken m) = m .ssn .0
+ssnOf Nothing = 0
+ssnOf (Short n) = 0
+
+-- the chunks that a take into so many bytes gives, none where it gives no message
+abbrev pub handedBy : List Held → ℕ → Choice → List Held
+handedBy hs room none = []
+handedBy hs room (one k is) = pick (ltb room (lengthOf hs is)) [] (chunksAt hs is)
+
+unfoldable pub handed : Numbering → Profile → Receiving → ℕ → List Held
+handed T P r room = handedBy (r .held) room (chosen T P (r .held) (r .next) (r .keeping .point .0))
+
+-- the places `is` hold a whole message of the sender, the lowest that can be taken
+pub record Picks (P : Profile) (base : ℕ) (chunk : ℕ → Chunk) (size : ℕ → ℕ) (hs : List Held) (next : List Ssn) (is : List ℕ) : Type 0 where
+  pub at : ℕ
+  pub low : base ≤ at
+  pub span : Spanning chunk hs at is
+  pub opening : chunk at .begin ≡ true
+  pub due : chunk at .unordered ≡ false → chunk at .ssn .0 ≡ getD next (chunk at .stream .0) ssn0 .0
+  pub head : firstOf (chunksAt hs is) ≡ asHeld (chunk at) (size at)
+  pub lowest : (i : ℕ) (js : List ℕ) → i < length hs → Ready P hs next i js → at ≤ getD hs i noHeld .tsn .0
+
+-- the record after a take is sound; what is gone is what was and what the take gave; and of an ordered message, the take gave the next expected
+pub record TakenSound (P : Profile) (base : ℕ) (chunk : ℕ → Chunk) (size : ℕ → ℕ) (gone : ℕ → ℕ) (next : List Ssn) (cs : List Held) (t : Left) : Type 0 where
+  pub now : ℕ → ℕ
+  pub least : ℕ
+  pub sound : SoundOf P base chunk size (t .receiving) now least
+  pub more : (n : ℕ) → now n ≡ gone n + copies cs n
+  pub ahead : (q : ℕ) → getD (t .receiving .next) q ssn0 .0 ≡ getD next q ssn0 .0 + bit (isNextOf q (t .answer))
+  pub given : (q : ℕ) → isNextOf q (t .answer) ≡ true → ssnOf (t .answer) ≡ getD next q ssn0 .0
+
+module _ {P : Profile} {base streams : ℕ} {chunk : ℕ → Chunk} {size : ℕ → ℕ} {gone : ℕ → ℕ} {least : ℕ} (send : Sender P base streams chunk)
+    (r : Receiving) (s : SoundOf P base chunk size r gone least) where
+  abbrev hs : List Held
+  hs = r .held
+
+  pub picks : (l : ℕ) (is : List ℕ) → chosen line P hs (r .next) (r .keeping .point .0) ≡ one l is → Picks P base chunk size hs (r .next) is
+  unfolding chosen
+  picks l is e =
+      subst (λ (ks : List ℕ). Picks P base chunk size hs (r .next) ks) (sym (v .1)) (record {
+        at = f;
+        low = real .0;
+        span = v .2;
+        opening = opened .1;
+        due = opened .2;
+        head = real .1;
+        lowest = lowest;
+      })
+    where
+      w : Chosen P hs (r .next) (one l is)
+      w = subst (Chosen P hs (r .next)) e (chosen-won P base streams chunk size send hs (s .real) (r .next) (r .keeping .point .0))
+
+      i : ℕ
+      i = w .0
+
+      f : ℕ
+      f = getD hs i noHeld .tsn .0
+
+      here : holds f (getD hs i noHeld) ≡ true
+      here = holds-is f (getD hs i noHeld) (opens-is P (r .next) (getD hs i noHeld) (w .2 .0) .0) refl
+
+      real : (base ≤ f) × (getD hs i noHeld ≡ asHeld (chunk f) (size f))
+      real = real-at P base streams chunk size send hs (s .real) i f here
+
+      opened : (asHeld (chunk f) (size f) .used ≡ true) × (chunk f .begin ≡ true) × (chunk f .unordered ≡ false → chunk f .ssn .0 ≡ getD (r .next) (chunk f .stream .0) ssn0 .0)
+      opened = opens-is P (r .next) (asHeld (chunk f) (size f)) (subst (λ (x : Held). opens P (r .next) x ≡ true) (real .1) (w .2 .0))
+
+      v : (js : List ℕ) × (is ≡ i ∷ js) × Spanning chunk hs f (i ∷ js)
+      v = follow-whole P base streams chunk size send hs (s .real) (getD hs i noHeld) (P .places) f i is here (w .2 .1)
+
+      lowest : (j : ℕ) (js : List ℕ) → j < length hs → Ready P hs (r .next) j js → f ≤ getD hs j noHeld .tsn .0
+      lowest j js m q =
+          let a : l ≤ getD hs j noHeld .tsn .0
+          = subst (AtMost (getD hs j noHeld .tsn .0)) e (chosen-least P base streams chunk size send hs (s .real) (r .next) (r .keeping .point .0) j js m q) in
+          omega (arith, w .1)
+
+  -- what a take leaves of a message whose first chunk is y
+  abbrev leaves : List ℕ → Held → Left
+  leaves is y = record {
+    answer = Taken (messageOf (lengthOf hs is) y);
+    receiving = record { keeping = r .keeping; held = emptied hs is; next = advanced line (r .next) y };
+  }
+
+  taken-one : (is : List ℕ) → Picks P base chunk size hs (r .next) is
+      → TakenSound P base chunk size gone (r .next) (chunksAt hs is) (leaves is (firstOf (chunksAt hs is)))
+  taken-one is w =
+      subst (λ (y : Held). TakenSound P base chunk size gone (r .next) (chunksAt hs is) (leaves is y)) (sym (w .head))
+      (record {
+        now = gone' send s f is (w .span) (w .low) (w .opening) (w .due);
+        least = n .at;
+        sound = taken-is send s f is (w .span) (w .low) (w .opening) (w .due) n (w .lowest);
+        more = λ n. ap (λ (x : ℕ). gone n + x) (sym (copies-chunks chunk hs f is n (w .span)));
+        ahead = ahead';
+        given = given';
+      })
+    where
+      f : ℕ
+      f = w .at
+
+      n : Least (gone' send s f is (w .span) (w .low) (w .opening) (w .due)) least
+      n = next-least send s f is (w .span) (w .low) (w .opening) (w .due)
+
+      ahead' : (q : ℕ) → getD (advanced line (r .next) (asHeld (chunk f) (size f))) q ssn0 .0
+          ≡ getD (r .next) q ssn0 .0 + bit (pick (chunk f .unordered) false (eqb (chunk f .stream .0) q))
+      ahead' q = go (chunk f .unordered) refl
+        where
+          go : (t : Bool) → chunk f .unordered ≡ t
+              → getD (advanced line (r .next) (asHeld (chunk f) (size f))) q ssn0 .0 ≡ getD (r .next) q ssn0 .0 + bit (pick t false (eqb (chunk f .stream .0) q))
+          go true t = omega (arith, kept-all send s f is (w .span) (w .low) (w .opening) (w .due) t q)
+          go false t = here (ℕ-discrete q (chunk f .stream .0))
+            where
+              here : Dec (q ≡ chunk f .stream .0)
+                  → getD (advanced line (r .next) (asHeld (chunk f) (size f))) q ssn0 .0 ≡ getD (r .next) q ssn0 .0 + bit (eqb (chunk f .stream .0) q)
+              here (yes e) =
+                  rw (eq-eqb (chunk f .stream .0) q (sym e))
+                  (subst (λ (y : ℕ). getD (advanced line (r .next) (asHeld (chunk f) (size f))) y ssn0 .0 ≡ getD (r .next) y ssn0 .0 + 1) (sym e)
+                  (one-more send s f is (w .span) (w .low) (w .opening) (w .due) t))
+              here (no e) =
+                  rw (ne-eqb (chunk f .stream .0) q (λ z. e (sym z)))
+                  (omega (arith, kept-other send s f is (w .span) (w .low) (w .opening) (w .due) t q e))
+
+      given' : (q : ℕ) → pick (chunk f .unordered) false (eqb (chunk f .stream .0) q) ≡ true → chunk f .ssn .0 ≡ getD (r .next) q ssn0 .0
+      given' q e = go (chunk f .unordered) refl e
+        where
+          go : (t : Bool) → chunk f .unordered ≡ t → pick t false (eqb (chunk f .stream .0) q) ≡ true → chunk f .ssn .0 ≡ getD (r .next) q ssn0 .0
+          go true t e = clash e
+          go false t e = w .due t ∙ ap (λ (y : ℕ). getD (r .next) y ssn0 .0) (eqb-true (chunk f .stream .0) q e)
+
+  -- a take that gives no message leaves all
+  taken-none : (a : Answer) → ((q : ℕ) → isNextOf q a ≡ false) → TakenSound P base chunk size gone (r .next) [] (record { answer = a; receiving = r })
+  taken-none a never = record {
+    now = gone;
+    least = least;
+    sound = s;
+    more = λ n. omega (arith, copies-nil n);
+    ahead = λ q. omega (arith, ap bit (never q));
+    given = λ q z. clash (sym (never q) ∙ z);
+  }
+
+  pub taken-sound : (room : ℕ) → TakenSound P base chunk size gone (r .next) (handed line P r room) (taken line line P r room)
+  unfolding taken took handed
+  taken-sound room = go (chosen line P hs (r .next) (r .keeping .point .0)) refl
+    where
+      go : (c : Choice) → chosen line P hs (r .next) (r .keeping .point .0) ≡ c
+          → TakenSound P base chunk size gone (r .next) (handedBy hs room c) (takenBy r (tookBy line hs (r .next) room c))
+      go none e = taken-none Nothing (λ q. refl)
+      go (one l is) e = fits (ltb room (lengthOf hs is))
+        where
+          fits : (t : Bool)
+              → TakenSound P base chunk size gone (r .next) (pick t [] (chunksAt hs is)) (takenBy r (pick t (record { answer = Short (lengthOf hs is); held = hs; next = r .next }) (record { answer = Taken (messageOf (lengthOf hs is) (firstOf (chunksAt hs is))); held = emptied hs is; next = advanced line (r .next) (firstOf (chunksAt hs is)) })))
+          fits true = taken-none (Short (lengthOf hs is)) (λ q. refl)
+          fits false = taken-one is (picks l is e)
