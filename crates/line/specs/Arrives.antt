@@ -38,10 +38,11 @@ use Rattle.delivery.specs.Receiving.{lowOf}
 use Rattle.delivery.specs.Arrival as arrival
 use Rattle.delivery.specs.Arrival.{numberOf, isOld, isBeyond, isRepeat, isWedged, isAgreed, judgementOf, verdictOf, noted, keptIn, after, arrived}
 use Rattle.delivery.specs.ArrivalLaws.{kept-coming}
-use Rattle.line.specs.Count.{copies, below, isBelow, below-suc, below-span, below-le, full-below, count-set, copies-set}
+use Rattle.line.specs.Runs.{copies, came}
+use Rattle.line.specs.Count.{below, isBelow, below-suc, below-span, below-le, full-below, count-set, copies-set}
 use Rattle.line.specs.Sender.{Sender}
 use Rattle.line.specs.Chosen.{Real, holds-eqb}
-use Rattle.line.specs.Sound.{Sound, came, came-before, came-past, came-ahead, came-room, low-below, offset-line, come-ahead}
+use Rattle.line.specs.Sound.{Sound, came-before, came-past, came-ahead, came-room, low-below, offset-line, come-ahead}
 
 -- ---- what has come, before and after
 

@@ -26,7 +26,8 @@ use Rattle.holding.specs.declared.held.Held.{Held}
 use Rattle.holding.specs.Held.{noHeld, asHeld, holds, holds-is, is-held}
 use Rattle.holding.specs.Message.{Run, broken, whole, Choice, none, one, isOfOne, continues, led, onward, follow, opens, ranked, better, chosen, chunksAt}
 use Rattle.holding.specs.Taking.{emptied}
-use Rattle.line.specs.Count.{copies-cons, copies-nil, copies-set, copies, copies-at, place-of, holds-none}
+use Rattle.line.specs.Runs.{copies}
+use Rattle.line.specs.Count.{copies-cons, copies-nil, copies-set, copies-at, place-of, holds-none}
 use Rattle.line.specs.Sender.{Sender}
 
 -- ---- small things

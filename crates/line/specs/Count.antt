@@ -16,6 +16,7 @@ use Rattle.scans.specs.declared.Found.the-variants.{At, Nothing}
 use Rattle.scans.specs.Scan.{pick, tick, count, findFrom, bit-le}
 use Rattle.scans.specs.Each.{All, clash}
 use Rattle.holding.specs.declared.held.Held.{Held}
+use Rattle.line.specs.Runs.{copies}
 use Rattle.holding.specs.Held.{noHeld, isFree, holds, holds-is, is-held}
 
 pub tick-bit : (t : Bool) (n : ℕ) → tick t n ≡ bit t + n
@@ -35,10 +36,6 @@ bit-ge a b e = go (ltb a b) refl
     go : (t : Bool) → ltb a b ≡ t → b ≤ a
     go true q = absurd (omega (arith, sym (ap bit q) ∙ e))
     go false q = ltb-false a b q
-
--- in how many places the number is held
-unfoldable pub copies : List Held → ℕ → ℕ
-copies hs n = count (holds n) hs
 
 abbrev pub isBelow : ℕ → Held → Bool
 isBelow a x = pick (x .used) (ltb (x .tsn .0) a) false

@@ -1,6 +1,7 @@
 pub mod Reduce
-pub mod Agree
+pub mod Runs
 pub mod Sender
+pub mod Agree
 pub mod Count
 pub mod Chosen
 pub mod Sound

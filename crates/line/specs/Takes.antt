@@ -30,10 +30,11 @@ use Rattle.holding.specs.declared.taking.Answer.the-variants.{Taken, Nothing, S
 use Rattle.delivery.specs.declared.receiving.Receiving.{Receiving}
 use Rattle.delivery.specs.declared.receiving.Taken.{Taken as Left}
 use Rattle.delivery.specs.Receiving.{takenBy, taken}
-use Rattle.line.specs.Count.{bit-lt, bit-ge, copies, copies-nil, below, isBelow, below-suc, below-run, below-mono, below-le, count-empty, place-of}
+use Rattle.line.specs.Runs.{copies, came, handedBy, handed, isOrderedIn, ssnOf}
+use Rattle.line.specs.Count.{bit-lt, bit-ge, copies-nil, below, isBelow, below-suc, below-run, below-mono, below-le, count-empty, place-of}
 use Rattle.line.specs.Sender.{Sender, agreed-few, starts, starts-at, ordinal, ordinal-lt}
 use Rattle.line.specs.Chosen.{Real, Spanning, inside, inside-yes, inside-under, inside-over, inside-is, copies-emptied, copies-chunks, spanning-at, spanning-some, Ready, Chosen, AtMost, real-at, follow-whole, follow-broken, Lacks, Of, chosen-won, chosen-least}
-use Rattle.line.specs.Sound.{Sound, came, came-past, came-within, came-room, held-within, expected-least}
+use Rattle.line.specs.Sound.{Sound, came-past, came-within, came-room, held-within, expected-least}
 use Rattle.line.specs.Arrives.{SoundOf}
 
 -- the least number from `from` on of which g is 0
@@ -433,25 +434,6 @@ module _ {P : Profile} {base streams : ℕ} {chunk : ℕ → Chunk} {size : ℕ 
 
 -- ---- the record
 
--- the message that a take gives is an ordered one of stream q
-abbrev pub isNextOf : ℕ → Answer → Bool
-isNextOf q (Taken m) = pick (m .unordered) false (eqb (m .stream .0) q)
-isNextOf q Nothing = false
-isNextOf q (Short n) = false
-
-abbrev pub ssnOf : Answer → ℕ
-ssnOf (Taken m) = m .ssn .0
-ssnOf Nothing = 0
-ssnOf (Short n) = 0
-
--- the chunks that a take into so many bytes gives, none where it gives no message
-abbrev pub handedBy : List Held → ℕ → Choice → List Held
-handedBy hs room none = []
-handedBy hs room (one k is) = pick (ltb room (lengthOf hs is)) [] (chunksAt hs is)
-
-unfoldable pub handed : Numbering → Profile → Receiving → ℕ → List Held
-handed T P r room = handedBy (r .held) room (chosen T P (r .held) (r .next) (r .keeping .point .0))
-
 -- the places `is` hold a whole message of the sender, the lowest that can be taken
 pub record Picks (P : Profile) (base : ℕ) (chunk : ℕ → Chunk) (size : ℕ → ℕ) (hs : List Held) (next : List Ssn) (is : List ℕ) : Type 0 where
   pub at : ℕ
@@ -468,8 +450,8 @@ pub record TakenSound (P : Profile) (base : ℕ) (chunk : ℕ → Chunk) (size :
   pub least : ℕ
   pub sound : SoundOf P base chunk size (t .receiving) now least
   pub more : (n : ℕ) → now n ≡ gone n + copies cs n
-  pub ahead : (q : ℕ) → getD (t .receiving .next) q ssn0 .0 ≡ getD next q ssn0 .0 + bit (isNextOf q (t .answer))
-  pub given : (q : ℕ) → isNextOf q (t .answer) ≡ true → ssnOf (t .answer) ≡ getD next q ssn0 .0
+  pub ahead : (q : ℕ) → getD (t .receiving .next) q ssn0 .0 ≡ getD next q ssn0 .0 + bit (isOrderedIn q (t .answer))
+  pub given : (q : ℕ) → isOrderedIn q (t .answer) ≡ true → ssnOf (t .answer) ≡ getD next q ssn0 .0
 
 module _ {P : Profile} {base streams : ℕ} {chunk : ℕ → Chunk} {size : ℕ → ℕ} {gone : ℕ → ℕ} {least : ℕ} (send : Sender P base streams chunk)
     (r : Receiving) (s : SoundOf P base chunk size r gone least) where
@@ -569,7 +551,7 @@ module _ {P : Profile} {base streams : ℕ} {chunk : ℕ → Chunk} {size : ℕ 
           go false t e = w .due t ∙ ap (λ (y : ℕ). getD (r .next) y ssn0 .0) (eqb-true (chunk f .stream .0) q e)
 
   -- a take that gives no message leaves all
-  taken-none : (a : Answer) → ((q : ℕ) → isNextOf q a ≡ false) → TakenSound P base chunk size gone (r .next) [] (record { answer = a; receiving = r })
+  taken-none : (a : Answer) → ((q : ℕ) → isOrderedIn q a ≡ false) → TakenSound P base chunk size gone (r .next) [] (record { answer = a; receiving = r })
   taken-none a never = record {
     now = gone;
     least = least;
