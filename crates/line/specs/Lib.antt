@@ -7,3 +7,4 @@ pub mod Chosen
 pub mod Sound
 pub mod Arrives
 pub mod Takes
+pub mod Sequence
