@@ -9,8 +9,8 @@ use native.Mathlib.Omega.{arith}
 use native.Mathlib.Decide.{decLt}
 use borrow.Author.Tests.{le-ltb}
 use lib.ListN.{length, getD, replicate, length-replicate}
-use lib.Dec.{ltb}
-use Rattle.scans.specs.Scan.{pick, count, bit-le}
+use lib.Dec.{eqb, ltb}
+use Rattle.scans.specs.Scan.{pick, count, findFrom}
 use Rattle.scans.specs.Each.{All, clash}
 use Rattle.numbers.specs.declared.circle.Tsn.{Tsn}
 use Rattle.numbers.specs.declared.circle.Ssn.{Ssn}
@@ -22,7 +22,8 @@ use Rattle.numbers.specs.KeepingLaws.{told-point}
 use Rattle.holding.specs.declared.held.Chunk.{Chunk}
 use Rattle.holding.specs.declared.held.Held.{Held}
 use Rattle.holding.specs.declared.taking.Answer.{Answer as Taking}
-use Rattle.holding.specs.Held.{noHeld, ssn0, asHeld, holds}
+use Rattle.holding.specs.declared.taking.Answer.the-variants.{Taken, Nothing as None, Short}
+use Rattle.holding.specs.Held.{noHeld, ssn0, asHeld, holds, isFree}
 use Rattle.holding.specs.Taking.{firstOf, written}
 use Rattle.delivery.specs.declared.receiving.Receiving.{Receiving}
 use Rattle.delivery.specs.declared.receiving.Taken.{Taken as Left}
@@ -41,7 +42,7 @@ use Rattle.line.specs.Reduce.{reduceHeld, reduceSsn, reduce, reduceTaken
 use Rattle.line.specs.Runs.{Event, arrive, take, sack, Answer, judges, gives, tells, Lent, Turn, turn, start, answers, finally, reduceEvent, reduceAnswer, reduceLent, Fair, copies, came, handed, handedOver, joinedAll, isOrderedIn, ssnOf, orderGiven, upFrom}
 use Rattle.line.specs.Sender.{Sender}
 use Rattle.line.specs.Agree.{Near, fresh-law, arrived-law, area-law, taken-law, written-law, sack-law}
-use Rattle.line.specs.Count.{copies-nil, copies-cons, below}
+use Rattle.line.specs.Count.{tick-bit, holds-none, copies-nil, copies-cons}
 use Rattle.line.specs.Chosen.{Real}
 use Rattle.line.specs.Sound.{Sound, Wide, came-before, came-ahead, near}
 use Rattle.line.specs.Arrives.{SoundOf, arrived-sound}
@@ -196,3 +197,132 @@ module _ {P : Profile} {base streams : ℕ} {chunk : ℕ → Chunk} (payload : �
     agree-from (sack ∷ es) l s f =
         then P h k streams l sack es (sack-alike P h k streams l)
         (agree-from es (turn line line P streams l sack .lent) (acknowledged-sound (l .receiving) s) f)
+
+-- ---- given once, and in order
+
+pub copies-append : (xs ys : List Held) (n : ℕ) → copies (xs ++ ys) n ≡ copies xs n + copies ys n
+copies-append [] ys n = omega (arith, copies-nil n)
+copies-append (x ∷ xs) ys n = omega (arith, copies-cons x (xs ++ ys) n, copies-cons x xs n, copies-append xs ys n)
+
+after-next : (P : Profile) (r : Receiving) (c : Held) (v : Verdict) → after line P r c v .next ≡ r .next
+unfolding noted passed arrival.kept
+after-next P r c Kept = place (findFrom isFree 0 (r .held))
+  where
+    place : (f : Found) → keptIn line P r c f .next ≡ r .next
+    place (At i) = refl
+    place Nothing = refl
+after-next P r c Empty = refl
+after-next P r c Long = refl
+after-next P r c Duplicate = refl
+after-next P r c Wedged = refl
+after-next P r c Far = refl
+after-next P r c Stray = refl
+
+arrive-next : (P : Profile) (r : Receiving) (c : Held) (streams : ℕ) → arrived line P r c streams .receiving .next ≡ r .next
+unfolding arrived
+arrive-next P r c streams = after-next P r c (verdictOf line P r c streams)
+
+sack-next : (P : Profile) (r : Receiving) → acknowledged P r .receiving .next ≡ r .next
+unfolding acknowledged told
+sack-next P r = refl
+
+module _ {P : Profile} {base streams : ℕ} {chunk : ℕ → Chunk} (payload : ℕ → List ℕ) (send : Sender P base streams chunk) (h : ℕ) where
+  abbrev next : Lent → Event → Lent
+  next l e = turn line line P streams l e .lent
+
+  abbrev SoundHere : Lent → (ℕ → ℕ) → ℕ → Type 0
+  SoundHere l gone least = SoundOf P base chunk (λ n. length (payload n)) (l .receiving) gone least
+
+  -- after any sequence the line receiver is sound
+  pub sound-from : (es : List Event) (l : Lent) {gone : ℕ → ℕ} {least : ℕ} → SoundHere l gone least → Fair P h base chunk payload streams l es
+      → (now : ℕ → ℕ) × (low : ℕ) × SoundHere (finally line line P streams l es) now low
+  unfolding finally
+  sound-from [] l {gone} {least} s f = (gone, least, s)
+  sound-from (arrive c bytes ∷ es) l s f =
+      let x = f .0 in
+      sound-from es (next l (arrive c bytes)) (arrive-sound payload send (l .receiving) s (x .0) (x .1) c bytes (x .2) (x .3)) (f .1)
+  sound-from (take out ∷ es) l s f = sound-from es (next l (take out)) (taken-sound send (l .receiving) s (length out) .sound) f
+  sound-from (sack ∷ es) l s f = sound-from es (next l sack) (acknowledged-sound (l .receiving) s) f
+
+  pub once-from : (es : List Event) (l : Lent) {gone : ℕ → ℕ} {least : ℕ} → SoundHere l gone least → Fair P h base chunk payload streams l es
+      → (n : ℕ) → gone n + copies (joinedAll (handedOver P streams l es)) n + copies (finally line line P streams l es .receiving .held) n
+      ≡ bit (came base (finally line line P streams l es .receiving .keeping .point .0) (finally line line P streams l es .receiving .keeping .come) n)
+  unfolding finally
+  once-from [] l s f n = omega (arith, s .once n, copies-nil n)
+  once-from (arrive c bytes ∷ es) l s f n =
+      let x = f .0 in
+      once-from es (next l (arrive c bytes)) (arrive-sound payload send (l .receiving) s (x .0) (x .1) c bytes (x .2) (x .3)) (f .1) n
+  once-from (take out ∷ es) l s f n =
+      let w = taken-sound send (l .receiving) s (length out) in
+      omega
+      (arith, copies-append (handed line P (l .receiving) (length out)) (joinedAll (handedOver P streams (next l (take out)) es)) n, w .more n, once-from es (next l (take out)) (w .sound) f n)
+  once-from (sack ∷ es) l s f n = once-from es (next l sack) (acknowledged-sound (l .receiving) s) f n
+
+  abbrev Orderly : ℕ → Lent → List Event → Type 0
+  Orderly q l es =
+      orderGiven q (answers line line P streams l es) ≡ upFrom (getD (l .receiving .next) q ssn0 .0) (length (orderGiven q (answers line line P streams l es)))
+
+  -- an event that changes no next expected number
+  orderly-as : (q : ℕ) (l m : Lent) (es : List Event) → m .receiving .next ≡ l .receiving .next → Orderly q m es
+      → orderGiven q (answers line line P streams m es) ≡ upFrom (getD (l .receiving .next) q ssn0 .0) (length (orderGiven q (answers line line P streams m es)))
+  orderly-as q l m es e o = o ∙ ap (λ (x : List Ssn). upFrom (getD x q ssn0 .0) (length (orderGiven q (answers line line P streams m es)))) e
+
+  pub order-from : (q : ℕ) (es : List Event) (l : Lent) {gone : ℕ → ℕ} {least : ℕ} → SoundHere l gone least → Fair P h base chunk payload streams l es
+      → Orderly q l es
+  unfolding answers
+  order-from q [] l s f = refl
+  order-from q (arrive c bytes ∷ es) l s f =
+      let x = f .0 in
+      orderly-as q l (next l (arrive c bytes)) es (arrive-next P (l .receiving) (asHeld c (length bytes)) streams)
+      (order-from q es (next l (arrive c bytes)) (arrive-sound payload send (l .receiving) s (x .0) (x .1) c bytes (x .2) (x .3)) (f .1))
+  order-from q (take out ∷ es) l {gone} s f = go (isOrderedIn q (t .answer)) refl (order-from q es (next l (take out)) (w .sound) f)
+    where
+      t : Left
+      t = taken line line P (l .receiving) (length out)
+
+      w : TakenSound P base chunk (λ n. length (payload n)) gone (l .receiving .next) (handed line P (l .receiving) (length out)) t
+      w = taken-sound send (l .receiving) s (length out)
+
+      rest : List ℕ
+      rest = orderGiven q (answers line line P streams (next l (take out)) es)
+
+      go : (b : Bool) → isOrderedIn q (t .answer) ≡ b → rest ≡ upFrom (getD (t .receiving .next) q ssn0 .0) (length rest)
+          → pick b (ssnOf (t .answer) ∷ rest) rest ≡ upFrom (getD (l .receiving .next) q ssn0 .0) (length (pick b (ssnOf (t .answer) ∷ rest) rest))
+      go true e ih =
+          let a : getD (t .receiving .next) q ssn0 .0 ≡ getD (l .receiving .next) q ssn0 .0 + 1 = w .ahead q ∙ ap (λ (b : Bool). getD (l .receiving .next) q ssn0 .0 + bit b) e in
+          ap (λ (x : ℕ). x ∷ rest) (w .given q e)
+          ∙ ap (λ (x : List ℕ). getD (l .receiving .next) q ssn0 .0 ∷ x) (ih ∙ ap (λ (x : ℕ). upFrom x (length rest)) a)
+      go false e ih =
+          let a : getD (t .receiving .next) q ssn0 .0 ≡ getD (l .receiving .next) q ssn0 .0 = omega (arith, w .ahead q, ap bit e) in
+          ih ∙ ap (λ (x : ℕ). upFrom x (length rest)) a
+  order-from q (sack ∷ es) l s f =
+      orderly-as q l (next l sack) es (sack-next P (l .receiving)) (order-from q es (next l sack) (acknowledged-sound (l .receiving) s) f)
+
+-- the same of the circle's answers
+pub order-reduced : (n m q : ℕ) (zs : List Answer) → orderGiven q (map (reduceAnswer n m) zs) ≡ map (λ (x : ℕ). x % m) (orderGiven q zs)
+order-reduced n m q [] = refl
+order-reduced n m q (judges v ∷ zs) = order-reduced n m q zs
+order-reduced n m q (gives t out ∷ zs) = go t (orderGiven q (map (reduceAnswer n m) zs)) (orderGiven q zs) (order-reduced n m q zs)
+  where
+    both : (b : Bool) (x : ℕ) (cs bs : List ℕ) → cs ≡ map (λ (y : ℕ). y % m) bs → pick b (x % m ∷ cs) cs ≡ map (λ (y : ℕ). y % m) (pick b (x ∷ bs) bs)
+    both true x cs bs e = ap (λ (l : List ℕ). x % m ∷ l) e
+    both false x cs bs e = e
+
+    go : (t : Taking) (cs bs : List ℕ) → cs ≡ map (λ (y : ℕ). y % m) bs
+        → pick (isOrderedIn q (reduceTaken m t)) (ssnOf (reduceTaken m t) ∷ cs) cs ≡ map (λ (y : ℕ). y % m) (pick (isOrderedIn q t) (ssnOf t ∷ bs) bs)
+    go (Taken x) cs bs e = both (pick (x .unordered) false (eqb (x .stream .0) q)) (x .ssn .0) cs bs e
+    go None cs bs e = e
+    go (Short x) cs bs e = e
+order-reduced n m q (tells s ∷ zs) = order-reduced n m q zs
+
+-- a message given more than once would have its first chunk given more than once
+pub firsts-copies : (css : List (List Held)) (n : ℕ) → count (λ (cs : List Held). holds n (firstOf cs)) css ≤ copies (joinedAll css) n
+firsts-copies [] n = omega (arith, copies-nil n)
+firsts-copies (cs ∷ css) n = one cs (firsts-copies css n)
+  where
+    one : (cs : List Held) → count (λ (xs : List Held). holds n (firstOf xs)) css ≤ copies (joinedAll css) n
+        → count (λ (xs : List Held). holds n (firstOf xs)) (cs ∷ css) ≤ copies (cs ++ joinedAll css) n
+    one [] ih = rw (holds-none n) ih
+    one (x ∷ xs) ih =
+        omega
+        (arith, tick-bit (holds n x) (count (λ (ys : List Held). holds n (firstOf ys)) css), copies-append (x ∷ xs) (joinedAll css) n, copies-cons x xs n, ih)
