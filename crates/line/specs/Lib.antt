@@ -8,3 +8,4 @@ pub mod Sound
 pub mod Arrives
 pub mod Takes
 pub mod Sequence
+pub mod Payloads

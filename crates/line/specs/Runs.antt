@@ -5,7 +5,7 @@ use Prim.Native.Nat.{ℕ, zero, suc, _+_, _*_, _-_, _<_, _≤_}
 use mathlib.Core.Path.{_≡_}
 use mathlib.Core.Bool.{Bool, true, false}
 use mathlib.Core.List.{List, [], _∷_, _++_, map}
-use lib.ListN.{length, getD}
+use lib.ListN.{length, drop, getD}
 use lib.Dec.{eqb, ltb, leb}
 use Rattle.scans.specs.Scan.{pick, count}
 use Rattle.numbers.specs.declared.circle.Tsn.{Tsn}
@@ -190,3 +190,25 @@ messageFrom chunk payload f k = record {
   ssn = chunk f .ssn;
   ppid = chunk f .ppid;
 }
+
+-- the message m that a take gave is one that the sender cut, its bytes stand first in the output, and the rest of it stays
+pub record Gave (first : ℕ) (chunk : ℕ → Chunk) (payload : ℕ → List ℕ) (out : List ℕ) (given : List Held) (m : Message) (now : List ℕ) : Type 0 where
+  pub at : ℕ
+  pub count : ℕ
+  pub cut : Cut first chunk at count
+  pub told : m ≡ messageFrom chunk payload at count
+  pub given-is : given ≡ chunksFrom chunk (λ (n : ℕ). length (payload n)) at count
+  pub written-is : now ≡ bytesFrom payload at count ++ drop (length (bytesFrom payload at count)) out
+
+-- a message that the sender cut needs n bytes
+pub record Needs (first : ℕ) (chunk : ℕ → Chunk) (payload : ℕ → List ℕ) (n : ℕ) : Type 0 where
+  pub at : ℕ
+  pub count : ℕ
+  pub cut : Cut first chunk at count
+  pub long : n ≡ length (bytesFrom payload at count)
+
+-- an answer to a take into `out`: a refusal leaves the output and gives no chunk
+abbrev pub Genuine : ℕ → (ℕ → Chunk) → (ℕ → List ℕ) → List ℕ → List Held → Taking → List ℕ → Type 0
+Genuine first chunk payload out given (Taken m) now = Gave first chunk payload out given m now
+Genuine first chunk payload out given Nothing now = (given ≡ []) × (now ≡ out)
+Genuine first chunk payload out given (Short n) now = (given ≡ []) × (now ≡ out) × Needs first chunk payload n

@@ -162,7 +162,7 @@ module _ (P : Profile) (chunk : ℕ → Chunk) (size : ℕ → ℕ) (t : Tsn) (s
   unfolding fresh
   fresh-next q = ap (λ (x : Ssn). x .0) (same-at (P .streams) q ssn0)
 
-acknowledged-sound : {P : Profile} {base : ℕ} {chunk : ℕ → Chunk} {size : ℕ → ℕ} {gone : ℕ → ℕ} {least : ℕ} (r : Receiving)
+pub acknowledged-sound : {P : Profile} {base : ℕ} {chunk : ℕ → Chunk} {size : ℕ → ℕ} {gone : ℕ → ℕ} {least : ℕ} (r : Receiving)
     → SoundOf P base chunk size r gone least → SoundOf P base chunk size (acknowledged P r .receiving) gone least
 unfolding acknowledged told
 acknowledged-sound {P} {base} {chunk} {size} {gone} {least} r s =
@@ -174,7 +174,7 @@ module _ {P : Profile} {base streams : ℕ} {chunk : ℕ → Chunk} (payload : �
   abbrev size : ℕ → ℕ
   size n = length (payload n)
 
-  arrive-sound : {gone : ℕ → ℕ} {least : ℕ} (r : Receiving) → SoundOf P base chunk size r gone least → (n : ℕ) → base ≤ n
+  pub arrive-sound : {gone : ℕ → ℕ} {least : ℕ} (r : Receiving) → SoundOf P base chunk size r gone least → (n : ℕ) → base ≤ n
       → (c : Chunk) (bytes : List ℕ) → c ≡ chunk n → bytes ≡ payload n
       → SoundOf P base chunk size (arrived line P r (asHeld c (length bytes)) streams .receiving) gone least
   arrive-sound {gone} {least} r s n l c bytes e b =
