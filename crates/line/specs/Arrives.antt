@@ -38,11 +38,11 @@ use Rattle.delivery.specs.Receiving.{lowOf}
 use Rattle.delivery.specs.Arrival as arrival
 use Rattle.delivery.specs.Arrival.{numberOf, isOld, isBeyond, isRepeat, isWedged, isAgreed, judgementOf, verdictOf, noted, keptIn, after, arrived}
 use Rattle.delivery.specs.ArrivalLaws.{kept-coming}
-use Rattle.line.specs.Runs.{copies, came}
+use Rattle.line.specs.Runs.{copies}
 use Rattle.line.specs.Count.{below, isBelow, below-suc, below-span, below-le, full-below, count-set, copies-set}
 use Rattle.line.specs.Sender.{Sender}
 use Rattle.line.specs.Chosen.{Real, holds-eqb}
-use Rattle.line.specs.Sound.{Sound, came-before, came-past, came-ahead, came-room, low-below, offset-line, come-ahead}
+use Rattle.line.specs.Sound.{Sound, came, came-before, came-past, came-ahead, came-room, low-below, offset-line, come-ahead}
 
 -- ---- what has come, before and after
 
@@ -225,13 +225,14 @@ module _ {P : Profile} {base streams : ℕ} {chunk : ℕ → Chunk} {size : ℕ 
   abbrev c : Held
   c = asHeld (chunk n) (size n)
 
-  keep-case : verdictOf line P r c streams ≡ Kept → SoundOf P base chunk size (after line P r c Kept) gone least
+  -- it is held once
+  keep-case : verdictOf line P r c streams ≡ Kept → SoundOf P base chunk size (after line P r c Kept) gone least × (copies (after line P r c Kept .held) n ≡ 1)
   unfolding isRepeat judgementOf settled on lowOf arrival.kept
   keep-case e =
       let v = kept-coming line P r c streams e .0 in
       let low : ℕ = lowOf line r in
       let o = judged-within (judgementOf line P r t) (P .places - low) (offsetOf line (r .keeping) t) (judged-offset line (r .keeping) (P .places - low) t (judgementOf line P r t) refl) (v .new) (v .near) in
-      let b = not-come (isCome line (r .keeping) t) (any (holds t) (r .held)) (v .first) in
+      let b = clear (isCome line (r .keeping) t) (any (holds t) (r .held)) (v .first) in
       let lt : pt < t = omega (arith, offset-line (r .keeping) t, o) in
       let f : getD (r .keeping .come) (n - suc pt) false ≡ false
       = ap (λ (x : ℕ). getD (r .keeping .come) (x - suc pt) false) (sym (send .number n)) ∙ (sym (come-ahead (r .keeping) t lt) ∙ b) in
@@ -239,9 +240,9 @@ module _ {P : Profile} {base streams : ℕ} {chunk : ℕ → Chunk} {size : ℕ 
       = omega (arith, o, send .number n, offset-line (r .keeping) t, low-below send s (r .keeping) refl refl) in
       go (marked-is P (r .keeping) t (o .0) (omega (arith, o))) (omega (arith, send .number n)) f fits (findFrom isFree 0 (r .held)) refl
     where
-      not-come : (x y : Bool) → pick x true y ≡ false → x ≡ false
-      not-come true y q = clash (sym q)
-      not-come false y q = refl
+      clear : (x y : Bool) → pick x true y ≡ false → x ≡ false
+      clear true y q = clash (sym q)
+      clear false y q = refl
 
       q : offsetOf line (r .keeping) t - 1 ≡ n - suc pt
       q = omega (arith, send .number n, offset-line (r .keeping) t)
@@ -251,13 +252,15 @@ module _ {P : Profile} {base streams : ℕ} {chunk : ℕ → Chunk} {size : ℕ 
 
       go : marked line P (r .keeping) t ≡ settled line (r .keeping) come → pt < n → getD (r .keeping .come) (n - suc pt) false ≡ false → n - pt ≤ P .places - below (r .held) (suc pt)
           → (f : Found) → findFrom isFree 0 (r .held) ≡ f
-          → SoundOf P base chunk size (keptIn line P r c f) gone least
+          → SoundOf P base chunk size (keptIn line P r c f) gone least × (copies (keptIn line P r c f .held) n ≡ 1)
       go m lp fl fits Nothing e = absurd (has-place send s n lb lp fl fits e)
-      go m lp fl fits (At i) e =
-          subst (λ (y : Keeping). Sound P base chunk size (y .point .0) (y .come) (set (r .held) i c) (r .next) gone least) (sym m)
-          (subst
-          (λ (x : ℕ). Sound P base chunk size (pt + run (set (r .keeping .come) x true)) (shift (run (set (r .keeping .come) x true)) (set (r .keeping .come) x true)) (set (r .held) i c) (r .next) gone least)
-          (sym q) (kept send s n lb lp fl fits i e))
+      go m lp fl fits (At i) e = (
+        subst (λ (y : Keeping). Sound P base chunk size (y .point .0) (y .come) (set (r .held) i c) (r .next) gone least) (sym m)
+            (subst
+            (λ (x : ℕ). Sound P base chunk size (pt + run (set (r .keeping .come) x true)) (shift (run (set (r .keeping .come) x true)) (set (r .keeping .come) x true)) (set (r .held) i c) (r .next) gone least)
+            (sym q) (kept send s n lb lp fl fits i e)),
+        omega (arith, copies' send s n lb lp fl fits i e n, not-come send s n lb lp fl fits, ap bit (eq-eqb n n refl)),
+      )
 
   dup-case : SoundOf P base chunk size (after line P r c Duplicate) gone least
   unfolding noted
@@ -273,7 +276,7 @@ module _ {P : Profile} {base streams : ℕ} {chunk : ℕ → Chunk} {size : ℕ 
       (isWedged line P (lowOf line r) (r .held) (r .next) pt) (isBeyond (judgementOf line P r t)) (rw (send .agreed n lb) at e)
 
   after-case : (v : Verdict) → verdictOf line P r c streams ≡ v → SoundOf P base chunk size (after line P r c v) gone least
-  after-case Kept e = keep-case e
+  after-case Kept e = keep-case e .0
   after-case Empty e = s
   after-case Long e = s
   after-case Duplicate e = dup-case
@@ -284,3 +287,7 @@ module _ {P : Profile} {base streams : ℕ} {chunk : ℕ → Chunk} {size : ℕ 
   pub arrived-sound : SoundOf P base chunk size (arrived line P r c streams .receiving) gone least
   unfolding arrived
   arrived-sound = after-case (verdictOf line P r c streams) refl
+
+  pub kept-once : verdictOf line P r c streams ≡ Kept → copies (arrived line P r c streams .receiving .held) n ≡ 1
+  unfolding arrived
+  kept-once e = ap (λ (v : Verdict). copies (after line P r c v .held) n) e ∙ keep-case e .1

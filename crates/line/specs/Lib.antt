@@ -1,6 +1,7 @@
-pub mod Reduce
+pub mod Agreement
 pub mod Runs
 pub mod Sender
+pub mod Reduce
 pub mod Agree
 pub mod Count
 pub mod Chosen

@@ -15,6 +15,7 @@ use Rattle.scans.specs.declared.Found.the-variants.{At, Nothing}
 use Rattle.scans.specs.Scan.{pick, findFrom, find-within}
 use Rattle.scans.specs.Each.{All, clash}
 use Rattle.numbers.specs.declared.circle.Ssn.{Ssn}
+use Rattle.numbers.specs.declared.circle.Tsn.{Tsn}
 use Rattle.numbers.specs.Numbering.{line}
 use Rattle.numbers.specs.Profile.{Profile}
 use Rattle.octets.specs.Bytes.{laid}
@@ -40,7 +41,7 @@ use Rattle.line.specs.Count.{holds-none}
 use Rattle.line.specs.Chosen.{Real, Spanning, real-at, spanning-at, spanning-some}
 use Rattle.line.specs.Arrives.{SoundOf}
 use Rattle.line.specs.Takes.{Picks, picks, taken-sound}
-use Rattle.line.specs.Sequence.{arrive-sound, acknowledged-sound}
+use Rattle.line.specs.Sequence.{same-at, arrive-sound, acknowledged-sound}
 
 -- ---- bytes laid beside others
 
@@ -68,6 +69,10 @@ pub record Lodged (P : Profile) (payload : ℕ → List ℕ) (area : List ℕ) (
   pub long : P .payload * P .places ≤ length area
   pub there : (i n : ℕ) → holds n (getD hs i noHeld) ≡ true
       → (length (payload n) ≤ P .payload) × (first (length (payload n)) (drop (P .payload * i) area) ≡ payload n)
+
+pub lodged-fresh : (P : Profile) (payload : ℕ → List ℕ) (area : List ℕ) (t : Tsn) → P .payload * P .places ≤ length area → Lodged P payload area (fresh line P t .held)
+unfolding fresh
+lodged-fresh P payload area t l = record { long = l; there = λ i n e. clash (sym (ap (holds n) (same-at (P .places) i noHeld) ∙ holds-none n) ∙ e) }
 
 module _ {P : Profile} {payload : ℕ → List ℕ} {area : List ℕ} {hs : List Held} (w : Lodged P payload area hs) where
   lodged-put : (i n : ℕ) (c : Chunk) → c .tsn .0 ≡ n → i < length hs → length hs ≡ P .places → length (payload n) ≤ P .payload

@@ -5,12 +5,13 @@ use Prim.Native.Nat.{ℕ, zero, suc, _+_, _*_, _-_, _<_, _≤_}
 use mathlib.Core.Path.{_≡_}
 use mathlib.Core.Bool.{Bool, true, false}
 use mathlib.Core.List.{List, [], _∷_, _++_, map}
-use lib.ListN.{length, drop, getD}
+use lib.ListN.{length, drop}
 use lib.Dec.{eqb, ltb, leb}
-use Rattle.scans.specs.Scan.{pick, count}
+use Rattle.scans.specs.Scan.{pick, count, any}
 use Rattle.numbers.specs.declared.circle.Tsn.{Tsn}
 use Rattle.numbers.specs.Numbering.{Numbering, line, Within}
 use Rattle.numbers.specs.Profile.{Profile}
+use Rattle.numbers.specs.BlocksLaws.{has, listedIn}
 use Rattle.holding.specs.declared.held.Chunk.{Chunk}
 use Rattle.holding.specs.declared.held.Held.{Held}
 use Rattle.holding.specs.declared.taking.Message.{Message}
@@ -115,9 +116,10 @@ Fair P h first chunk payload streams l (sack ∷ es) = Fair P h first chunk payl
 unfoldable pub copies : List Held → ℕ → ℕ
 copies hs n = count (holds n) hs
 
--- whether number n has come: from the first to the point, and at the flags above it
-unfoldable pub came : ℕ → ℕ → List Bool → ℕ → Bool
-came first point come n = pick (ltb n first) false (pick (leb n point) true (getD come (n - suc point) false))
+-- whether a SACK of the line tells that number n has come: it lies from the first to the point, or in one of the blocks
+unfoldable pub acknowledges : ℕ → Sack → ℕ → Bool
+acknowledges first s n =
+    pick (ltb n first) false (pick (leb n (s .point .0)) true (any (has (n - s .point .0)) (listedIn (s .blocks))))
 
 -- the chunks of the message that a take into so many bytes gives, none where it gives no message
 abbrev pub handedBy : List Held → ℕ → Choice → List Held

@@ -7,11 +7,11 @@ use mathlib.Core.List.{List, [], _∷_, _++_, map}
 use mir.Val.{boolByte as bit}
 use native.Mathlib.Omega.{arith}
 use native.Mathlib.Decide.{decLt}
-use borrow.Author.Tests.{le-ltb}
+use borrow.Author.Tests.{le-ltb, leb-false}
 use lib.ListN.{length, getD, replicate, length-replicate}
-use lib.Dec.{eqb, ltb}
-use Rattle.scans.specs.Scan.{pick, count, findFrom}
-use Rattle.scans.specs.Each.{All, clash}
+use lib.Dec.{eqb, leb, ltb}
+use Rattle.scans.specs.Scan.{pick, count, any, findFrom}
+use Rattle.scans.specs.Each.{All, if-not, clash}
 use Rattle.numbers.specs.declared.circle.Tsn.{Tsn}
 use Rattle.numbers.specs.declared.circle.Ssn.{Ssn}
 use Rattle.numbers.specs.Numbering.{ring, line, before, Within}
@@ -19,6 +19,8 @@ use Rattle.numbers.specs.Profile.{Profile}
 use Rattle.numbers.specs.Keeping as keeping
 use Rattle.numbers.specs.KeepingLine.{reduceTsn}
 use Rattle.numbers.specs.KeepingLaws.{told-point}
+use Rattle.numbers.specs.Blocks.{blocksOf}
+use Rattle.numbers.specs.BlocksLaws.{has, listedIn, blocks-have, blocks-listed}
 use Rattle.holding.specs.declared.held.Chunk.{Chunk}
 use Rattle.holding.specs.declared.held.Held.{Held}
 use Rattle.holding.specs.declared.taking.Answer.{Answer as Taking}
@@ -39,12 +41,12 @@ use Rattle.delivery.specs.Arrival as arrival
 use Rattle.delivery.specs.Arrival.{verdictOf, noted, passed, keptIn, after, arrived, areaAfter}
 use Rattle.delivery.specs.Acknowledging.{sackOf, told, acknowledged}
 use Rattle.line.specs.Reduce.{reduceHeld, reduceSsn, reduce, reduceTaken, reduceSack}
-use Rattle.line.specs.Runs.{Event, arrive, take, sack, Answer, judges, gives, tells, Lent, Turn, turn, start, answers, finally, reduceEvent, reduceAnswer, reduceLent, Fair, copies, came, handed, handedOver, joinedAll, isOrderedIn, ssnOf, orderGiven, upFrom}
+use Rattle.line.specs.Runs.{Event, arrive, take, sack, Answer, judges, gives, tells, Lent, Turn, turn, start, answers, finally, reduceEvent, reduceAnswer, reduceLent, Fair, copies, handed, handedOver, joinedAll, isOrderedIn, ssnOf, orderGiven, upFrom, acknowledges}
 use Rattle.line.specs.Sender.{Sender}
 use Rattle.line.specs.Agree.{Near, fresh-law, arrived-law, area-law, taken-law, written-law, sack-law}
 use Rattle.line.specs.Count.{tick-bit, holds-none, copies-nil, copies-cons}
 use Rattle.line.specs.Chosen.{Real}
-use Rattle.line.specs.Sound.{Sound, Wide, came-before, came-ahead, near}
+use Rattle.line.specs.Sound.{Sound, came, Wide, came-before, came-ahead, near}
 use Rattle.line.specs.Arrives.{SoundOf, arrived-sound}
 use Rattle.line.specs.Takes.{TakenSound, taken-sound}
 
@@ -113,7 +115,7 @@ unfolding copies holds
 none-copies zero n = refl
 none-copies (suc k) n = none-copies k n
 
-same-at : {A : Type 0} (k i : ℕ) (a : A) → getD (replicate k a) i a ≡ a
+pub same-at : {A : Type 0} (k i : ℕ) (a : A) → getD (replicate k a) i a ≡ a
 same-at zero i a = refl
 same-at (suc k) zero a = refl
 same-at (suc k) (suc i) a = same-at k i a
@@ -326,3 +328,17 @@ firsts-copies (cs ∷ css) n = one cs (firsts-copies css n)
     one (x ∷ xs) ih =
         omega
         (arith, tick-bit (holds n x) (count (λ (ys : List Held). holds n (firstOf ys)) css), copies-append (x ∷ xs) (joinedAll css) n, copies-cons x xs n, ih)
+
+-- what a SACK tells is what has come
+pub told-come : (P : Profile) (r : Receiving) (base n : ℕ) → acknowledges base (acknowledged P r .sack) n ≡ came base (r .keeping .point .0) (r .keeping .come) n
+unfolding acknowledges acknowledged sackOf came
+told-come P r base n = if-not false (ltb n base) (λ _. if-not true (leb n p) (λ e. blocks (leb-false n p e)))
+  where
+    p : ℕ
+    p = r .keeping .point .0
+
+    blocks : p < n → any (has (n - p)) (listedIn (blocksOf P (r .keeping))) ≡ getD (r .keeping .come) (n - suc p) false
+    blocks l =
+        let e : n - p - 1 ≡ n - suc p = omega arith in
+        ap (any (has (n - p))) (blocks-listed P (r .keeping))
+        ∙ (blocks-have (r .keeping .come) (n - p) ∙ rw (le-ltb (n - p) 1 (omega arith), e))

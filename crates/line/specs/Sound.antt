@@ -27,7 +27,7 @@ use Rattle.holding.specs.declared.held.Chunk.{Chunk}
 use Rattle.holding.specs.declared.held.Held.{Held}
 use Rattle.holding.specs.Held.{noHeld, ssn0, asHeld, holds, isFree}
 use Rattle.delivery.specs.Receiving.{isLow}
-use Rattle.line.specs.Runs.{copies, came}
+use Rattle.line.specs.Runs.{copies}
 use Rattle.line.specs.Count.{bit-lt, bit-ge, below, isBelow, below-suc, below-run, below-mono, below-le, copies-at, all-held}
 use Rattle.line.specs.Sender.{Sender, starts, starts-is, ordinal-zero, ordinal, ordinal-suc, ordinal-slow, ordinal-lt, starts-at}
 use Rattle.line.specs.Chosen.{Real}
@@ -38,6 +38,10 @@ abbrev pub Wide : Profile → ℕ → Type 0
 Wide P h = 3 * P .places < h
 
 -- ---- what has come
+
+-- whether number n has come: from the first to the point, and at the flags above it
+unfoldable pub came : ℕ → ℕ → List Bool → ℕ → Bool
+came base p come n = pick (ltb n base) false (pick (leb n p) true (getD come (n - suc p) false))
 
 module _ (base p : ℕ) (come : List Bool) (n : ℕ) where
   pub came-before : n < base → came base p come n ≡ false

@@ -30,11 +30,11 @@ use Rattle.holding.specs.declared.taking.Answer.the-variants.{Taken, Nothing, S
 use Rattle.delivery.specs.declared.receiving.Receiving.{Receiving}
 use Rattle.delivery.specs.declared.receiving.Taken.{Taken as Left}
 use Rattle.delivery.specs.Receiving.{takenBy, taken}
-use Rattle.line.specs.Runs.{copies, came, handedBy, handed, isOrderedIn, ssnOf}
+use Rattle.line.specs.Runs.{copies, handedBy, handed, isOrderedIn, ssnOf}
 use Rattle.line.specs.Count.{bit-lt, bit-ge, copies-nil, below, isBelow, below-suc, below-run, below-mono, below-le, count-empty, place-of}
 use Rattle.line.specs.Sender.{Sender, agreed-few, starts, starts-at, ordinal, ordinal-lt}
 use Rattle.line.specs.Chosen.{Real, Spanning, inside, inside-yes, inside-under, inside-over, inside-is, copies-emptied, copies-chunks, spanning-at, spanning-some, Ready, Chosen, AtMost, real-at, follow-whole, follow-broken, Lacks, Of, chosen-won, chosen-least}
-use Rattle.line.specs.Sound.{Sound, came-past, came-within, came-room, held-within, expected-least}
+use Rattle.line.specs.Sound.{Sound, came, came-past, came-within, came-room, held-within, expected-least}
 use Rattle.line.specs.Arrives.{SoundOf}
 
 -- the least number from `from` on of which g is 0
