@@ -1,7 +1,7 @@
 -- The circle answers as the line does, as long as what is held is near: each number within half a circle of the point, and each ordered
 -- one's sequence number within half its circle of the next expected of its stream. Once for every size of the two circles and every profile.
 -- Assumes nothing.
-use Prim.Native.Nat.{ℕ, zero, suc, _+_, _-_, _*_, _%_, _<_, _≤_}
+use Prim.Native.Nat.{ℕ, zero, suc, _+_, _-_, _%_, _<_, _≤_}
 use mathlib.Core.Path.{_≡_, refl, sym, ap, _∙_}
 use mathlib.Core.Bool.{Bool, true, false, not, Bool·beq}
 use mathlib.Core.List.{List, [], _∷_, map}
@@ -9,20 +9,17 @@ use native.Mathlib.Nat.{zero-mod}
 use native.Mathlib.Omega.{arith}
 use native.Mathlib.Decide.{decLe}
 use borrow.Author.Tests.{not-false, eqb-true, le-leb, lt-leb}
-use lib.ListN.{length, set, replicate, getD, List·getD-map}
+use lib.ListN.{set, replicate, getD, List·getD-map}
 use lib.Dec.{eqb, leb, ltb}
 use Rattle.scans.specs.declared.Found.{Found}
 use Rattle.scans.specs.declared.Found.the-variants.{At, Nothing}
-use Rattle.scans.specs.Scan.{pick, count, findFrom, any, foldFrom, total}
+use Rattle.scans.specs.Scan.{pick, findFrom, foldFrom}
 use Rattle.scans.specs.Each.{All, all-map, all-at, all-of, count-map, find-map, any-map, set-map, if-not, if-so, clash, found-at}
 use Rattle.numbers.specs.declared.circle.Tsn.{Tsn}
 use Rattle.numbers.specs.declared.circle.Ssn.{Ssn}
-use Rattle.numbers.specs.declared.circle.Judgement.{Judgement}
-use Rattle.numbers.specs.declared.keeping.Keeping.{Keeping}
-use Rattle.numbers.specs.Numbering.{Numbering, ring, line, on, far, key, Within, far-law, on-law, same-law, key-law, key-line}
+use Rattle.numbers.specs.Numbering.{ring, line, on, key, Within, far-law, on-law, same-law, key-law, key-line}
 use Rattle.numbers.specs.Profile.{Profile}
-use Rattle.numbers.specs.Judgement.{judged, judgedBy}
-use Rattle.numbers.specs.Keeping.{isCome, marked}
+use Rattle.numbers.specs.Judgement.{judged}
 use Rattle.numbers.specs.KeepingLine as kept
 use Rattle.numbers.specs.KeepingLine.{reduceTsn, reduceKeeping}
 use Rattle.octets.specs.Bytes.{laid}
@@ -33,16 +30,13 @@ use Rattle.holding.specs.Held.{noHeld, ssn0, isFree, holds, is-held}
 use Rattle.holding.specs.Message.{Run, broken, whole, Choice, none, one, isOfOne, continues, led, onward, follow, isLeftEnd, isExpected, opens, ranked, better, chosen, isOne, chunksAt}
 use Rattle.holding.specs.Taking.{firstOf, lenAt, lengthOf, payloadAt, copied, emptied, advanced, messageOf, tookBy, took, writtenBy, written}
 use Rattle.delivery.specs.declared.receiving.Receiving.{Receiving}
-use Rattle.delivery.specs.declared.receiving.Taken as delivery
 use Rattle.delivery.specs.declared.arrival.Verdict.{Verdict}
 use Rattle.delivery.specs.declared.arrival.Verdict.the-variants.{Kept, Empty, Long, Duplicate, Wedged, Far, Stray}
-use Rattle.delivery.specs.declared.arrival.Arrival.{Arrival}
-use Rattle.delivery.specs.declared.acknowledging.Acknowledged.{Acknowledged}
 use Rattle.delivery.specs.Receiving.{fresh, isLow, lowOf, takenBy, taken}
-use Rattle.delivery.specs.Arrival.{isOld, isBeyond, isRepeat, isWedged, isAgreed, judgementOf, verdictOf, noted, passed, keptIn, after, arrived, stored, storedBy, areaAfter}
+use Rattle.delivery.specs.Arrival.{isRepeat, isWedged, judgementOf, verdictOf, noted, passed, keptIn, after, arrived, storedBy, areaAfter}
 use Rattle.delivery.specs.Arrival as arrival
 use Rattle.delivery.specs.Acknowledging.{sackOf, told, acknowledged}
-use Rattle.line.specs.Reduce.{reduceSsn, reduceHeld, reduce, reduceMessage, reduceTaken, reduceSack}
+use Rattle.line.specs.Reduce.{reduceSsn, reduceHeld, reduce, reduceTaken, reduceSack}
 
 -- what is held in this place is near the point and, if ordered, near the next expected of its stream
 pub record NearHeld (h k : ℕ) (p : ℕ) (next : List Ssn) (c : Held) : Type 0 where

@@ -4,7 +4,7 @@
 -- that each chunk arrives less than half a circle from the point (`Fair`). The circles are of any even size that is wide enough for the places, and
 -- the profile is any: the rail's circles of 2^32 and 2^16 are the instance at the end.
 use Prim.Native.Nat.{ℕ, _+_, _*_, _^_, _%_, _<_, _≤_}
-use mathlib.Core.Path.{_≡_, refl, sym, ap, _∙_}
+use mathlib.Core.Path.{_≡_, ap, _∙_}
 use mathlib.Core.List.{List, map}
 use mir.Val.{boolByte as bit}
 use native.Mathlib.Omega.{arith}
@@ -18,12 +18,10 @@ use Rattle.holding.specs.declared.held.Chunk.{Chunk}
 use Rattle.holding.specs.declared.held.Held.{Held}
 use Rattle.holding.specs.Held.{asHeld, holds}
 use Rattle.holding.specs.Taking.{firstOf, written}
-use Rattle.delivery.specs.declared.receiving.Receiving.{Receiving}
 use Rattle.delivery.specs.declared.arrival.Verdict.the-variants.{Kept}
 use Rattle.delivery.specs.Receiving.{taken}
-use Rattle.delivery.specs.Arrival.{arrived, verdictOf}
+use Rattle.delivery.specs.Arrival.{verdictOf}
 use Rattle.delivery.specs.Acknowledging.{acknowledged}
-use Rattle.line.specs.Reduce.{reduce}
 use Rattle.line.specs.Runs.{Event, arrive, take, sack, Answer, Lent, Turn, turn, start, answers, finally, reduceEvent, reduceAnswer, reduceLent, Fair, copies, handed, handedOver, joinedAll, acknowledges, orderGiven, upFrom, Genuine}
 use Rattle.line.specs.Sender.{Sender}
 use Rattle.line.specs.Agree.{fresh-law}
@@ -35,7 +33,6 @@ use Rattle.line.specs.Payloads.{lodged-fresh, lodged-from, genuine}
 -- the premises: a profile, a first number, a sender, and a sequence of events
 module _ (P : Profile) (h : ℕ) (t : Tsn) (some : 0 < t .0) (streams : ℕ) (area : List ℕ) (chunk : ℕ → Chunk) (payload : ℕ → List ℕ)
     (send : Sender P (t .0) streams chunk) (es : List Event) (fair : Fair P h (t .0) chunk payload streams (start line P t area) es) where
-
   -- what the line receiver answers, and what it then has
   abbrev said : List Answer
   said = answers line line P streams (start line P t area) es

@@ -1,29 +1,28 @@
 -- An arrival keeps the line receiver sound.
 -- Assumes nothing.
-use Prim.Native.Nat.{ℕ, zero, suc, _+_, _-_, _<_, _≤_}
+use Prim.Native.Nat.{ℕ, suc, _+_, _-_, _<_, _≤_}
 use mathlib.Core.Path.{_≡_, refl, sym, ap, _∙_, subst}
-use mathlib.Core.Bool.{Bool, true, false, not}
-use mathlib.Core.List.{List, [], _∷_}
-use native.Mathlib.Nat.{add-suc, add-zero, zero-add}
+use mathlib.Core.Bool.{Bool, true, false}
+use mathlib.Core.List.{List}
+use native.Mathlib.Nat.{zero-add}
 use native.Mathlib.Omega.{arith}
 use native.Mathlib.Decide.{decLt, decLe, ℕ-discrete}
-use borrow.Author.Tests.{lt-ltb, le-ltb, le-leb, lt-leb, eq-eqb, ne-eqb, eqb-true, ltb-true, ltb-false, leb-true, leb-false, not-true}
+use borrow.Author.Tests.{le-ltb, eq-eqb, ne-eqb, not-true}
 use lib.ListN.{length, set, getD, length-set}
 use lib.Seq.{getD-set-same, getD-set-other}
-use lib.Dec.{eqb, leb, ltb}
+use lib.Dec.{eqb, ltb}
 use mir.Val.{boolByte as bit}
 use Rattle.scans.specs.declared.Found.{Found}
 use Rattle.scans.specs.declared.Found.the-variants.{At, Nothing}
 use Rattle.scans.specs.Scan.{pick, any, findFrom, bit-le, find-within}
-use Rattle.scans.specs.Each.{All, all-set, clash, found-at}
+use Rattle.scans.specs.Each.{all-set, clash, found-at}
 use Rattle.numbers.specs.declared.circle.Tsn.{Tsn}
 use Rattle.numbers.specs.declared.circle.Ssn.{Ssn}
 use Rattle.numbers.specs.declared.circle.Judgement.{Judgement}
 use Rattle.numbers.specs.declared.circle.Judgement.the-variants.{AtOrBehind, AheadWithin, AheadBeyond, AtOpposite}
 use Rattle.numbers.specs.declared.keeping.Keeping.{Keeping}
-use Rattle.numbers.specs.Numbering.{Numbering, line, on}
+use Rattle.numbers.specs.Numbering.{line, on}
 use Rattle.numbers.specs.Profile.{Profile}
-use Rattle.numbers.specs.Judgement.{judged}
 use Rattle.numbers.specs.Come.{run, shift}
 use Rattle.numbers.specs.ComeLaws.{run-at, shift-at, length-shift}
 use Rattle.numbers.specs.Keeping.{offsetOf, isCome, settled, marked, listed}
@@ -36,7 +35,7 @@ use Rattle.delivery.specs.declared.arrival.Verdict.{Verdict}
 use Rattle.delivery.specs.declared.arrival.Verdict.the-variants.{Kept, Empty, Long, Duplicate, Wedged, Far, Stray}
 use Rattle.delivery.specs.Receiving.{lowOf}
 use Rattle.delivery.specs.Arrival as arrival
-use Rattle.delivery.specs.Arrival.{numberOf, isOld, isBeyond, isRepeat, isWedged, isAgreed, judgementOf, verdictOf, noted, keptIn, after, arrived}
+use Rattle.delivery.specs.Arrival.{numberOf, isOld, isBeyond, isRepeat, isWedged, judgementOf, verdictOf, noted, keptIn, after, arrived}
 use Rattle.delivery.specs.ArrivalLaws.{kept-coming}
 use Rattle.line.specs.Runs.{copies}
 use Rattle.line.specs.Count.{below, isBelow, below-suc, below-span, below-le, full-below, count-set, copies-set}
@@ -271,7 +270,7 @@ module _ {P : Profile} {base streams : ℕ} {chunk : ℕ → Chunk} {size : ℕ 
 
   stray-case : verdictOf line P r c streams ≡ Stray → ⊥
   unfolding verdictOf
-  stray-case e = 
+  stray-case e =
       never-stray (ltb (size n) 1) (ltb (P .payload) (size n)) (isOld (judgementOf line P r t)) (isRepeat line (r .keeping) (r .held) t)
       (isWedged line P (lowOf line r) (r .held) (r .next) pt) (isBeyond (judgementOf line P r t)) (rw (send .agreed n lb) at e)
 

@@ -1,30 +1,30 @@
 -- What the line receiver's choice of a message is, where what it holds is a sender's: a whole message, the least that can be taken; and where
 -- a held beginning has no whole message, a chunk of that message is not held. Assumes nothing.
-use Prim.Native.Nat.{ℕ, zero, suc, _+_, _-_, _<_, _≤_}
+use Prim.Native.Nat.{ℕ, zero, suc, _+_, _<_, _≤_}
 use mathlib.Core.Path.{_≡_, refl, sym, ap, _∙_, subst}
 use mathlib.Core.Bool.{Bool, true, false, not, Bool·beq}
 use mathlib.Core.List.{List, [], _∷_}
 use mathlib.Core.Logic.{_⊎_, inl, inr}
-use native.Mathlib.Nat.{add-suc, add-zero}
+use native.Mathlib.Nat.{add-zero}
 use native.Mathlib.Numerals.{add-one}
 use native.Mathlib.Omega.{arith}
-use native.Mathlib.Decide.{decLt, decLe, ℕ-discrete}
-use borrow.Author.Tests.{eq-eqb, ne-eqb, eqb-true, leb-true, leb-false, le-leb, lt-leb, lt-ltb, le-ltb, ltb-true}
+use native.Mathlib.Decide.{decLt, ℕ-discrete}
+use borrow.Author.Tests.{eq-eqb, ne-eqb, leb-true, leb-false, le-leb, lt-leb, lt-ltb, le-ltb, ltb-true}
 use lib.Seq.{getD-set-other}
 use lib.ListN.{length, set, getD}
 use lib.Dec.{eqb, leb, ltb}
 use mir.Val.{boolByte as bit}
 use Rattle.scans.specs.declared.Found.{Found}
 use Rattle.scans.specs.declared.Found.the-variants.{At, Nothing}
-use Rattle.scans.specs.Scan.{pick, count, findFrom, foldFrom}
+use Rattle.scans.specs.Scan.{pick, findFrom, foldFrom}
 use Rattle.scans.specs.Each.{All, all-at, clash, found-at}
 use Rattle.numbers.specs.declared.circle.Ssn.{Ssn}
-use Rattle.numbers.specs.Numbering.{Numbering, line, on, key, key-line}
+use Rattle.numbers.specs.Numbering.{line, on, key, key-line}
 use Rattle.numbers.specs.Profile.{Profile}
 use Rattle.holding.specs.declared.held.Chunk.{Chunk}
 use Rattle.holding.specs.declared.held.Held.{Held}
 use Rattle.holding.specs.Held.{noHeld, asHeld, holds, holds-is, is-held}
-use Rattle.holding.specs.Message.{Run, broken, whole, Choice, none, one, isOfOne, continues, led, onward, follow, opens, ranked, better, chosen, chunksAt}
+use Rattle.holding.specs.Message.{Run, broken, whole, Choice, none, one, isOfOne, continues, led, onward, follow, opens, ranked, better, chunksAt}
 use Rattle.holding.specs.Taking.{emptied}
 use Rattle.line.specs.Runs.{copies}
 use Rattle.line.specs.Count.{copies-cons, copies-nil, copies-set, copies-at, place-of, holds-none}

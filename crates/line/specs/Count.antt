@@ -1,23 +1,22 @@
 -- How often a number is held, how many held numbers are below a bound, and what putting a chunk in a place or emptying it does to both.
 -- Assumes nothing.
-use Prim.Native.Nat.{ℕ, zero, suc, _+_, _-_, _<_, _≤_, zero-le, suc-le-suc}
-use mathlib.Core.Path.{_≡_, refl, sym, ap, _∙_, subst}
-use mathlib.Core.Bool.{Bool, true, false, not}
+use Prim.Native.Nat.{ℕ, zero, suc, _+_, _-_, _<_, _≤_, zero-le}
+use mathlib.Core.Path.{_≡_, refl, sym, ap, _∙_}
+use mathlib.Core.Bool.{Bool, true, false}
 use mathlib.Core.List.{List, [], _∷_}
 use native.Mathlib.Nat.{add-suc, add-zero}
 use native.Mathlib.Omega.{arith}
-use native.Mathlib.Decide.{decLt, decLe, ℕ-discrete}
-use borrow.Author.Tests.{lt-ltb, le-ltb, eq-eqb, ne-eqb, eqb-true, eqb-false, ltb-true, ltb-false}
+use native.Mathlib.Decide.{decLt, ℕ-discrete}
+use borrow.Author.Tests.{lt-ltb, le-ltb, eq-eqb, ne-eqb, ltb-true, ltb-false}
 use lib.ListN.{length, set, getD}
 use lib.Dec.{eqb, ltb}
 use mir.Val.{boolByte as bit}
-use Rattle.scans.specs.declared.Found.{Found}
 use Rattle.scans.specs.declared.Found.the-variants.{At, Nothing}
 use Rattle.scans.specs.Scan.{pick, tick, count, findFrom, bit-le}
 use Rattle.scans.specs.Each.{All, clash}
 use Rattle.holding.specs.declared.held.Held.{Held}
 use Rattle.line.specs.Runs.{copies}
-use Rattle.holding.specs.Held.{noHeld, isFree, holds, holds-is, is-held}
+use Rattle.holding.specs.Held.{noHeld, isFree, holds, holds-is}
 
 pub tick-bit : (t : Bool) (n : ℕ) → tick t n ≡ bit t + n
 tick-bit true n = omega arith

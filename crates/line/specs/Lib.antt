@@ -10,3 +10,4 @@ pub mod Arrives
 pub mod Takes
 pub mod Sequence
 pub mod Payloads
+pub mod Example

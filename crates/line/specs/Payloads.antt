@@ -3,26 +3,25 @@ use Prim.Native.Nat.{ℕ, zero, suc, _+_, _-_, _*_, _<_, _≤_}
 use mathlib.Core.Path.{_≡_, refl, sym, ap, _∙_, subst}
 use mathlib.Core.Bool.{Bool, true, false}
 use mathlib.Core.List.{List, [], _∷_, _++_, append-nil, append-assoc}
-use native.Mathlib.Nat.{zero-add, add-zero, mul-suc, mul-le-mul-left}
+use native.Mathlib.Nat.{zero-add, mul-suc, mul-le-mul-left}
 use native.Mathlib.Omega.{arith}
 use native.Mathlib.Decide.{decLt, ℕ-discrete}
 use borrow.Author.Tests.{ltb-false}
 use lib.ListN.{length, take as first, drop, set, getD, length-append}
 use lib.Seq.{getD-set-same, getD-set-other, drop-set-lt, drop-set-add, take-set-le, take-append-seam, length-take-le, drop-at}
-use lib.Dec.{eqb, ltb}
+use lib.Dec.{ltb}
 use Rattle.scans.specs.declared.Found.{Found}
 use Rattle.scans.specs.declared.Found.the-variants.{At, Nothing}
 use Rattle.scans.specs.Scan.{pick, findFrom, find-within}
 use Rattle.scans.specs.Each.{All, clash}
-use Rattle.numbers.specs.declared.circle.Ssn.{Ssn}
 use Rattle.numbers.specs.declared.circle.Tsn.{Tsn}
 use Rattle.numbers.specs.Numbering.{line}
 use Rattle.numbers.specs.Profile.{Profile}
 use Rattle.octets.specs.Bytes.{laid}
-use Rattle.octets.specs.BytesLaws.{laid-is, laid-more, laid-nil, length-laid}
+use Rattle.octets.specs.BytesLaws.{laid-is, laid-more, length-laid}
 use Rattle.holding.specs.declared.held.Chunk.{Chunk}
 use Rattle.holding.specs.declared.held.Held.{Held}
-use Rattle.holding.specs.declared.taking.Answer.the-variants.{Taken, Nothing as None, Short}
+use Rattle.holding.specs.declared.taking.Answer.the-variants.{Taken, Short}
 use Rattle.holding.specs.declared.taking.Took.{Took}
 use Rattle.holding.specs.Held.{noHeld, asHeld, holds, is-held, isFree}
 use Rattle.holding.specs.Message.{Choice, none, one, chosen, chunksAt}
@@ -35,7 +34,7 @@ use Rattle.delivery.specs.Arrival as arrival
 use Rattle.delivery.specs.Arrival.{verdictOf, noted, passed, keptIn, after, arrived, stored, storedBy, areaAfter}
 use Rattle.delivery.specs.ArrivalLaws.{kept-coming}
 use Rattle.delivery.specs.Acknowledging.{told, acknowledged}
-use Rattle.line.specs.Runs.{Event, arrive, take, sack, Lent, turn, finally, Fair, copies, handedBy, handed, Cut, bytesFrom, chunksFrom, messageFrom, Gave, Needs, Genuine}
+use Rattle.line.specs.Runs.{Event, arrive, take, sack, Lent, turn, finally, Fair, handedBy, handed, Cut, bytesFrom, chunksFrom, Genuine}
 use Rattle.line.specs.Sender.{Sender}
 use Rattle.line.specs.Count.{holds-none}
 use Rattle.line.specs.Chosen.{Real, Spanning, real-at, spanning-at, spanning-some}

@@ -1,6 +1,6 @@
 -- What the line has, as the circles have it: every TSN modulo n, every SSN modulo m, and nothing else changed.
 use Prim.Native.Nat.{ℕ, _%_}
-use mathlib.Core.List.{List, map}
+use mathlib.Core.List.{map}
 use Rattle.numbers.specs.declared.circle.Ssn.{Ssn}
 use Rattle.numbers.specs.KeepingLine.{reduceTsn, reduceKeeping}
 use Rattle.holding.specs.declared.held.Chunk.{Chunk}

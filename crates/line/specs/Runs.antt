@@ -1,10 +1,10 @@
 -- What a receiver answers to a sequence of arrivals, takes and acknowledgements, once over two numberings: T of chunks, S of the ordered messages
 -- of a stream. `ring (2 ^ 32)` and `ring (2 ^ 16)` give the receiver that the code is; `line` and `line` give the line receiver. Each turn is what
 -- the promises of `Receiving::arrive`, `take` and `sack` cite.
-use Prim.Native.Nat.{ℕ, zero, suc, _+_, _*_, _-_, _<_, _≤_}
+use Prim.Native.Nat.{ℕ, zero, suc, _+_, _-_, _<_, _≤_}
 use mathlib.Core.Path.{_≡_}
 use mathlib.Core.Bool.{Bool, true, false}
-use mathlib.Core.List.{List, [], _∷_, _++_, map}
+use mathlib.Core.List.{List, [], _∷_, _++_}
 use lib.ListN.{length, drop}
 use lib.Dec.{eqb, ltb, leb}
 use Rattle.scans.specs.Scan.{pick, count, any}

@@ -1,7 +1,7 @@
 -- The sender, on the line: the chunk of each number from the first on, cut from messages one after the other. A chunk is a function of its
 -- number, so a repeat is unchanged.
 use Prim.Native.Nat.{ℕ, zero, suc, _+_, _-_, _<_, _≤_}
-use mathlib.Core.Path.{_≡_, refl, sym, ap, _∙_}
+use mathlib.Core.Path.{_≡_, refl}
 use mathlib.Core.Bool.{Bool, true, false, not}
 use mir.Val.{boolByte as bit}
 use native.Mathlib.Nat.{add-suc, add-zero}

@@ -17,7 +17,6 @@ use Rattle.numbers.specs.declared.circle.Ssn.{Ssn}
 use Rattle.numbers.specs.Numbering.{ring, line, before, Within}
 use Rattle.numbers.specs.Profile.{Profile}
 use Rattle.numbers.specs.Keeping as keeping
-use Rattle.numbers.specs.KeepingLine.{reduceTsn}
 use Rattle.numbers.specs.KeepingLaws.{told-point}
 use Rattle.numbers.specs.Blocks.{blocksOf}
 use Rattle.numbers.specs.BlocksLaws.{has, listedIn, blocks-have, blocks-listed}
@@ -33,17 +32,16 @@ use Rattle.delivery.specs.declared.arrival.Arrival.{Arrival}
 use Rattle.delivery.specs.declared.arrival.Verdict.{Verdict}
 use Rattle.delivery.specs.declared.arrival.Verdict.the-variants.{Kept, Empty, Long, Duplicate, Wedged, Far, Stray}
 use Rattle.delivery.specs.declared.acknowledging.Acknowledged.{Acknowledged}
-use Rattle.delivery.specs.declared.acknowledging.Sack.{Sack}
 use Rattle.scans.specs.declared.Found.{Found}
 use Rattle.scans.specs.declared.Found.the-variants.{At, Nothing}
 use Rattle.delivery.specs.Receiving.{fresh, taken}
 use Rattle.delivery.specs.Arrival as arrival
 use Rattle.delivery.specs.Arrival.{verdictOf, noted, passed, keptIn, after, arrived, areaAfter}
 use Rattle.delivery.specs.Acknowledging.{sackOf, told, acknowledged}
-use Rattle.line.specs.Reduce.{reduceHeld, reduceSsn, reduce, reduceTaken, reduceSack}
+use Rattle.line.specs.Reduce.{reduceHeld, reduceSsn, reduce, reduceTaken}
 use Rattle.line.specs.Runs.{Event, arrive, take, sack, Answer, judges, gives, tells, Lent, Turn, turn, start, answers, finally, reduceEvent, reduceAnswer, reduceLent, Fair, copies, handed, handedOver, joinedAll, isOrderedIn, ssnOf, orderGiven, upFrom, acknowledges}
 use Rattle.line.specs.Sender.{Sender}
-use Rattle.line.specs.Agree.{Near, fresh-law, arrived-law, area-law, taken-law, written-law, sack-law}
+use Rattle.line.specs.Agree.{Near, arrived-law, area-law, taken-law, written-law, sack-law}
 use Rattle.line.specs.Count.{tick-bit, holds-none, copies-nil, copies-cons}
 use Rattle.line.specs.Chosen.{Real}
 use Rattle.line.specs.Sound.{Sound, came, Wide, came-before, came-ahead, near}

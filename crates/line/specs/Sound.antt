@@ -2,34 +2,30 @@
 -- whole messages, in each stream the first ones; and nothing gone is as many as the places or more above the least that is not. So what is held is near.
 -- Assumes nothing.
 use Prim.Native.Nat.{ℕ, zero, suc, _+_, _-_, _*_, _<_, _≤_}
-use mathlib.Core.Path.{_≡_, refl, sym, ap, _∙_, subst}
+use mathlib.Core.Path.{_≡_, refl, sym, ap, _∙_}
 use mathlib.Core.Bool.{Bool, true, false, not}
 use mathlib.Core.List.{List, [], _∷_}
-use mathlib.Core.Logic.{_⊎_, inl, inr}
-use native.Mathlib.Nat.{add-suc, add-zero}
+use native.Mathlib.Nat.{add-suc}
 use native.Mathlib.Omega.{arith}
-use native.Mathlib.Decide.{decLt, decLe, ℕ-discrete}
-use borrow.Author.Tests.{lt-ltb, le-ltb, le-leb, lt-leb, eq-eqb, ne-eqb, eqb-true, ltb-true, ltb-false, leb-true, leb-false}
-use lib.ListN.{length, set, getD, length-set, List·getD-eq-default}
-use lib.Seq.{getD-set-same, getD-set-other}
-use lib.Dec.{eqb, leb, ltb}
+use native.Mathlib.Decide.{decLt, decLe}
+use borrow.Author.Tests.{lt-ltb, le-ltb, le-leb, lt-leb}
+use lib.ListN.{length, getD, List·getD-eq-default}
+use lib.Dec.{leb, ltb}
 use mir.Val.{boolByte as bit}
-use Rattle.scans.specs.declared.Found.{Found}
-use Rattle.scans.specs.declared.Found.the-variants.{At, Nothing}
-use Rattle.scans.specs.Scan.{pick, count, findFrom, bit-le}
-use Rattle.scans.specs.Each.{All, all-map, all-at, all-set, if-so, clash, found-at}
+use Rattle.scans.specs.Scan.{pick, count, bit-le}
+use Rattle.scans.specs.Each.{All, if-so}
 use Rattle.numbers.specs.declared.circle.Ssn.{Ssn}
 use Rattle.numbers.specs.declared.keeping.Keeping.{Keeping}
-use Rattle.numbers.specs.Numbering.{Numbering, line, on, far, Within}
+use Rattle.numbers.specs.Numbering.{line, far, Within}
 use Rattle.numbers.specs.Profile.{Profile}
 use Rattle.numbers.specs.Keeping.{offsetOf, isCome}
 use Rattle.holding.specs.declared.held.Chunk.{Chunk}
 use Rattle.holding.specs.declared.held.Held.{Held}
-use Rattle.holding.specs.Held.{noHeld, ssn0, asHeld, holds, isFree}
+use Rattle.holding.specs.Held.{ssn0, asHeld}
 use Rattle.delivery.specs.Receiving.{isLow}
 use Rattle.line.specs.Runs.{copies}
-use Rattle.line.specs.Count.{bit-lt, bit-ge, below, isBelow, below-suc, below-run, below-mono, below-le, copies-at, all-held}
-use Rattle.line.specs.Sender.{Sender, starts, starts-is, ordinal-zero, ordinal, ordinal-suc, ordinal-slow, ordinal-lt, starts-at}
+use Rattle.line.specs.Count.{bit-lt, bit-ge, below, isBelow, below-run, below-le, all-held}
+use Rattle.line.specs.Sender.{Sender, starts, starts-is, ordinal-zero, ordinal, ordinal-suc, ordinal-slow}
 use Rattle.line.specs.Chosen.{Real}
 use Rattle.line.specs.Agree.{NearHeld}
 

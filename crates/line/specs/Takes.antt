@@ -3,27 +3,26 @@
 -- Assumes nothing.
 use Prim.Native.Nat.{ℕ, zero, suc, _+_, _-_, _<_, _≤_}
 use mathlib.Core.Path.{_≡_, refl, sym, ap, _∙_, subst}
-use mathlib.Core.Bool.{Bool, true, false, not}
+use mathlib.Core.Bool.{Bool, true, false}
 use mathlib.Core.List.{List, [], _∷_}
 use mathlib.Core.Logic.{_⊎_, inl, inr}
-use native.Mathlib.Nat.{add-suc, add-zero, zero-add}
-use native.Mathlib.Numerals.{add-one}
+use native.Mathlib.Nat.{add-suc, add-zero}
 use native.Mathlib.Omega.{arith}
 use native.Mathlib.Decide.{decLt, decLe, ℕ-discrete}
-use borrow.Author.Tests.{lt-ltb, le-ltb, eq-eqb, ne-eqb, eqb-true, eqb-false, ltb-true, ltb-false}
+use borrow.Author.Tests.{lt-ltb, le-ltb, eq-eqb, ne-eqb, eqb-true, eqb-false}
 use lib.ListN.{length, set, getD, length-set}
 use lib.Seq.{getD-set-same, getD-set-other}
-use lib.Dec.{eqb, leb, ltb}
+use lib.Dec.{eqb, ltb}
 use mir.Val.{boolByte as bit}
-use Rattle.scans.specs.Scan.{pick, count, foldFrom, bit-le}
+use Rattle.scans.specs.Scan.{pick, count, bit-le}
 use Rattle.scans.specs.Each.{All, all-set, clash}
 use Rattle.numbers.specs.declared.circle.Ssn.{Ssn}
-use Rattle.numbers.specs.Numbering.{Numbering, line, on}
+use Rattle.numbers.specs.Numbering.{line, on}
 use Rattle.numbers.specs.Profile.{Profile}
 use Rattle.holding.specs.declared.held.Chunk.{Chunk}
 use Rattle.holding.specs.declared.held.Held.{Held}
 use Rattle.holding.specs.Held.{noHeld, ssn0, asHeld, holds, holds-is, is-held}
-use Rattle.holding.specs.Message.{Run, broken, whole, Choice, none, one, isLeftEnd, isExpected, opens, follow, better, chosen, chunksAt}
+use Rattle.holding.specs.Message.{Run, broken, whole, Choice, none, one, isLeftEnd, isExpected, opens, follow, chosen, chunksAt}
 use Rattle.holding.specs.Taking.{emptied, advanced, firstOf, lengthOf, messageOf, tookBy, took}
 use Rattle.holding.specs.declared.taking.Answer.{Answer}
 use Rattle.holding.specs.declared.taking.Answer.the-variants.{Taken, Nothing, Short}
@@ -31,7 +30,7 @@ use Rattle.delivery.specs.declared.receiving.Receiving.{Receiving}
 use Rattle.delivery.specs.declared.receiving.Taken.{Taken as Left}
 use Rattle.delivery.specs.Receiving.{takenBy, taken}
 use Rattle.line.specs.Runs.{copies, handedBy, handed, isOrderedIn, ssnOf}
-use Rattle.line.specs.Count.{bit-lt, bit-ge, copies-nil, below, isBelow, below-suc, below-run, below-mono, below-le, count-empty, place-of}
+use Rattle.line.specs.Count.{bit-ge, copies-nil, below, isBelow, below-suc, below-run, below-mono, below-le, count-empty, place-of}
 use Rattle.line.specs.Sender.{Sender, agreed-few, starts, starts-at, ordinal, ordinal-lt}
 use Rattle.line.specs.Chosen.{Real, Spanning, inside, inside-yes, inside-under, inside-over, inside-is, copies-emptied, copies-chunks, spanning-at, spanning-some, Ready, Chosen, AtMost, real-at, follow-whole, follow-broken, Lacks, Of, chosen-won, chosen-least}
 use Rattle.line.specs.Sound.{Sound, came, came-past, came-within, came-room, held-within, expected-least}
