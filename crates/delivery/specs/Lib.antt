@@ -3,3 +3,6 @@ pub mod Receiving
 pub mod Arrival
 pub mod ArrivalLaws
 pub mod Acknowledging
+pub mod Bounds
+pub mod BoundsLaws
+pub mod Laws

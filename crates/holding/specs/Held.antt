@@ -3,7 +3,7 @@ use Prim.Native.Nat.{ℕ}
 use mathlib.Core.Path.{_≡_, refl}
 use mathlib.Core.Bool.{Bool, true, false, not}
 use mathlib.Core.List.{List}
-use borrow.Author.Tests.{eq-eqb, eqb-true}
+use borrow.Author.Tests.{eq-eqb, ne-eqb, eqb-true}
 use lib.ListN.{set}
 use lib.Dec.{eqb}
 use Rattle.numbers.specs.declared.circle.Tsn.{Tsn}
@@ -11,7 +11,7 @@ use Rattle.numbers.specs.declared.circle.StreamId.{StreamId}
 use Rattle.numbers.specs.declared.circle.Ssn.{Ssn}
 use Rattle.scans.specs.declared.Found.{Found}
 use Rattle.scans.specs.declared.Found.the-variants.{At, Nothing}
-use Rattle.scans.specs.Scan.{pick}
+use Rattle.scans.specs.Scan.{pick, any, count}
 use Rattle.scans.specs.Each.{clash}
 use Rattle.holding.specs.declared.held.Chunk.{Chunk}
 use Rattle.holding.specs.declared.held.Held.{Held}
@@ -76,3 +76,21 @@ is-held t h e = go (h .used) refl
 pub holds-unused : (t : ℕ) (h : Held) → h .used ≡ false → holds t h ≡ false
 unfolding holds
 holds-unused t h u = rw u
+
+-- a number is held where it is one of the numbers that are used
+pub any-holds : (t : ℕ) (hs : List Held) → any (holds t) hs ≡ any (λ (h : Held). pick (h .used) (eqb (h .tsn .0) t) false) hs
+unfolding holds
+any-holds t hs = refl
+
+pub count-holds : (t : ℕ) (hs : List Held) → count (holds t) hs ≡ count (λ (h : Held). pick (h .used) (eqb (h .tsn .0) t) false) hs
+unfolding holds
+count-holds t hs = refl
+
+-- a chunk of one number holds no other
+pub holds-other : (t : ℕ) (h : Held) → (h .tsn .0 ≡ t → ⊥) → holds t h ≡ false
+unfolding holds
+holds-other t h n = go (h .used)
+  where
+    go : (u : Bool) → pick u (eqb (h .tsn .0) t) false ≡ false
+    go true = ne-eqb (h .tsn .0) t n
+    go false = refl

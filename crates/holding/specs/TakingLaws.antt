@@ -25,10 +25,11 @@ use Rattle.holding.specs.declared.taking.Answer.{Answer}
 use Rattle.holding.specs.declared.taking.Answer.the-variants.{Taken, Short}
 use Rattle.holding.specs.declared.taking.Answer.the-variants as answer
 use Rattle.holding.specs.declared.taking.Took.{Took}
-use Rattle.holding.specs.Held.{noHeld}
+use Rattle.holding.specs.declared.taking.Message.{Message}
+use Rattle.holding.specs.Held.{noHeld, ssn0}
 use Rattle.holding.specs.Message.{Run, broken, whole, led, onward, continues, follow, Choice, none, one, ranked, better, chosen, chunksAt, opens}
 use Rattle.holding.specs.MessageLaws.{runOf, headOf, bestOf, Heads, follow-heads}
-use Rattle.holding.specs.Taking.{firstOf, lenAt, lengthOf, payloadAt, copied, emptied, advanced, messageOf, took, written}
+use Rattle.holding.specs.Taking.{firstOf, lenAt, lengthOf, payloadAt, copied, emptied, advanced, messageOf, numberOf, tookBy, took, writtenBy, written}
 
 -- the places of p are places
 pub record Within (p : Places) : Type 0 where
@@ -272,3 +273,56 @@ module _ (T : Numbering) (P : Profile) (hs : List Held) (next : List Ssn) (point
   pub written-none : (area out : List ℕ) → out ≡ written T P hs next point area out
   unfolding written
   written-none area out = rw e
+
+-- ---- what a take leaves, for those above
+
+pub advanced-long : (S : Numbering) (next : List Ssn) (h : Held) → length (advanced S next h) ≡ length next
+unfolding advanced
+advanced-long S next h = go (h .unordered)
+  where
+    go : (t : Bool) → length (pick t next (set next (h .stream .0) (record { 0 = on S (getD next (h .stream .0) ssn0 .0) 1 }))) ≡ length next
+    go true = refl
+    go false = length-set next (h .stream .0) _
+
+-- the places and streams as they were, or those of a message freed and its stream one on
+pub data Leaves (S : Numbering) (hs : List Held) (next : List Ssn) : Took → Type 0 where
+  same : (a : Answer) → Leaves S hs next (record { answer = a; held = hs; next = next })
+  less : (m : Message) (is : List ℕ) (first : Held)
+      → Leaves S hs next (record { answer = Taken m; held = emptied hs is; next = advanced S next first })
+
+pub took-leaves : (T S : Numbering) (P : Profile) (hs : List Held) (next : List Ssn) (point room : ℕ) → Leaves S hs next (took T S P hs next point room)
+unfolding took
+took-leaves T S P hs next point room = go (chosen T P hs next point)
+  where
+    go : (c : Choice) → Leaves S hs next (tookBy S hs next room c)
+    go none = same answer.Nothing
+    go (one k is) = side (ltb room (lengthOf hs is))
+      where
+        side : (t : Bool)
+            → Leaves S hs next (pick t (record { answer = Short (lengthOf hs is); held = hs; next = next }) (record { answer = Taken (messageOf (lengthOf hs is) (firstOf (chunksAt hs is))); held = emptied hs is; next = advanced S next (firstOf (chunksAt hs is)) }))
+        side true = same (Short (lengthOf hs is))
+        side false = less (messageOf (lengthOf hs is) (firstOf (chunksAt hs is))) is (firstOf (chunksAt hs is))
+
+-- a refused take leaves places, streams and output as they were
+pub record Left (hs : List Held) (next : List Ssn) (out : List ℕ) (t : Took) (filled : List ℕ) : Type 0 where
+  pub held : t .held ≡ hs
+  pub streams : t .next ≡ next
+  pub output : filled ≡ out
+
+pub took-refused : (T S : Numbering) (P : Profile) (hs : List Held) (next : List Ssn) (point : ℕ) (area out : List ℕ)
+    → 0 < numberOf (took T S P hs next point (length out) .answer)
+    → Left hs next out (took T S P hs next point (length out)) (written T P hs next point area out)
+unfolding took written
+took-refused T S P hs next point area out h = go (chosen T P hs next point) h
+  where
+    go : (c : Choice) → 0 < numberOf (tookBy S hs next (length out) c .answer) → Left hs next out (tookBy S hs next (length out) c) (writtenBy P hs area out c)
+    go none h = record { held = refl; streams = refl; output = refl }
+    go (one k is) h = side (decLt (length out) (lengthOf hs is)) h
+      where
+        side : Dec (length out < lengthOf hs is) → 0 < numberOf (tookBy S hs next (length out) (one k is) .answer)
+            → Left hs next out (tookBy S hs next (length out) (one k is)) (writtenBy P hs area out (one k is))
+        side (yes l) h = rw (lt-ltb (length out) (lengthOf hs is) l) (record { held = refl; streams = refl; output = refl })
+        side (no l) h =
+            let m : lengthOf hs is ≤ length out = omega arith in
+            let z : 0 < 0 = rw (le-ltb (length out) (lengthOf hs is) m) at h in
+            absurd (omega arith)
