@@ -4,7 +4,7 @@
 -- that each chunk arrives less than half a circle from the point (`Fair`). The circles are of any even size that is wide enough for the places, and
 -- the profile is any: the rail's circles of 2^32 and 2^16 are the instance at the end.
 use Prim.Native.Nat.{ℕ, _+_, _*_, _^_, _%_, _<_, _≤_}
-use mathlib.Core.Path.{_≡_, ap, _∙_}
+use mathlib.Core.Path.{_≡_, refl, ap, _∙_}
 use mathlib.Core.List.{List, map}
 use mir.Val.{boolByte as bit}
 use native.Mathlib.Omega.{arith}
@@ -19,10 +19,11 @@ use Rattle.holding.specs.declared.held.Held.{Held}
 use Rattle.holding.specs.Held.{asHeld, holds}
 use Rattle.holding.specs.Taking.{firstOf, written}
 use Rattle.delivery.specs.declared.arrival.Verdict.the-variants.{Kept}
+use Rattle.delivery.specs.declared.acknowledging.Sack.{Sack}
 use Rattle.delivery.specs.Receiving.{taken}
 use Rattle.delivery.specs.Arrival.{verdictOf}
 use Rattle.delivery.specs.Acknowledging.{acknowledged}
-use Rattle.line.specs.Runs.{Event, arrive, take, sack, Answer, Lent, Turn, turn, start, answers, finally, reduceEvent, reduceAnswer, reduceLent, Fair, copies, handed, handedOver, joinedAll, acknowledges, orderGiven, upFrom, Genuine}
+use Rattle.line.specs.Runs.{Event, arrive, take, sack, Answer, tells, Lent, Turn, turn, start, answers, finally, reduceEvent, reduceAnswer, reduceLent, Fair, copies, handed, handedOver, joinedAll, acknowledges, orderGiven, upFrom, Genuine}
 use Rattle.line.specs.Sender.{Sender}
 use Rattle.line.specs.Agree.{fresh-law}
 use Rattle.line.specs.Sound.{Wide, near}
@@ -48,15 +49,18 @@ module _ (P : Profile) (h : ℕ) (t : Tsn) (some : 0 < t .0) (streams : ℕ) (ar
       rw (fresh-law P h k t (omega arith) some) (agree-from payload send h k wh wk es (start line P t area) (fresh-sound P chunk (λ n. length (payload n)) t some) fair)
 
   -- every number that a SACK then tells as come was given once or is held once, and no other was or is
-  pub none-lost : (n : ℕ) → copies (joinedAll (handedOver P streams (start line P t area) es)) n + copies (last .receiving .held) n
-      ≡ bit (acknowledges (t .0) (acknowledged P (last .receiving) .sack) n)
-  none-lost n =
+  pub none-lost : (s : Sack) → turn line line P streams last sack .answer ≡ tells s
+      → (n : ℕ) → copies (joinedAll (handedOver P streams (start line P t area) es)) n + copies (last .receiving .held) n ≡ bit (acknowledges (t .0) s n)
+  none-lost s e n =
+      let q : acknowledged P (last .receiving) .sack ≡ s = cc in
       omega
-      (arith, once-from payload send h es (start line P t area) (fresh-sound P chunk (λ n. length (payload n)) t some) fair n, ap bit (told-come P (last .receiving) (t .0) n))
+      (arith, once-from payload send h es (start line P t area) (fresh-sound P chunk (λ n. length (payload n)) t some) fair n, ap bit (told-come P (last .receiving) (t .0) n), ap (λ (x : Sack). bit (acknowledges (t .0) x n)) q)
 
   -- no chunk is given twice
   pub none-twice : (n : ℕ) → copies (joinedAll (handedOver P streams (start line P t area) es)) n ≤ 1
-  none-twice n = omega (arith, none-lost n, bit-le (acknowledges (t .0) (acknowledged P (last .receiving) .sack) n))
+  none-twice n =
+      let s : Sack = acknowledged P (last .receiving) .sack in
+      omega (arith, none-lost s refl n, bit-le (acknowledges (t .0) s n))
 
   -- and no message, ordered or not: there is at most one take whose message begins with number n
   pub no-message-twice : (n : ℕ) → count (λ (cs : List Held). holds n (firstOf cs)) (handedOver P streams (start line P t area) es) ≤ 1
