@@ -488,6 +488,24 @@ struct Both {
     receiving: Receiving,
     line: Line,
     differ: u32,
+    seen: [bool; 32],
+}
+
+fn number_taken(a: Answer) -> u8 {
+    match a {
+        Answer::Taken(_) => 0,
+        Answer::Nothing => 17,
+        Answer::Short(_) => 18,
+    }
+}
+
+// The number was answered.
+fn noted(mut seen: [bool; 32], number: u8) -> [bool; 32] {
+    let k = number as usize;
+    if k < 32 {
+        seen[k] = true;
+    }
+    seen
 }
 
 fn tallied(same: bool, differ: u32) -> u32 {
@@ -506,12 +524,15 @@ fn arrive(b: Both, area: &mut [u8], status: &mut [u8], i: u32) -> Both {
     let a = r.arrive(area, chunk(i), &p[0..n], 2);
     let should = judge(status, line, i);
     let verdict = a.verdict;
-    let same = number_of(verdict) == should;
+    let number = number_of(verdict);
+    let same = number == should;
     let receiving = a.receiving;
+    let seen = b.seen;
     Both {
         receiving,
         line: arrived(status, line, i, should),
         differ: tallied(same, b.differ),
+        seen: noted(seen, number),
     }
 }
 
@@ -532,10 +553,12 @@ fn take(b: Both, area: &[u8], status: &mut [u8], room: usize) -> Both
     let answer = t.answer;
     let same = same_take(answer, &out, i, room as u32);
     let receiving = t.receiving;
+    let seen = b.seen;
     Both {
         receiving,
         line: taken(status, line, i, room as u32),
         differ: tallied(same, b.differ),
+        seen: noted(seen, number_taken(answer)),
     }
 }
 
@@ -551,10 +574,12 @@ fn sack(b: Both, status: &[u8]) -> Both {
     let s = a.sack;
     let same = same_sack(status, line, s);
     let receiving = a.receiving;
+    let seen = b.seen;
     Both {
         receiving,
         line: told(line),
         differ: tallied(same, b.differ),
+        seen,
     }
 }
 
@@ -599,6 +624,7 @@ fn fresh() -> Both {
             listed: 0,
         },
         differ: 0,
+        seen: [false; 32],
     }
 }
 
@@ -612,6 +638,18 @@ fn said(name: &[u8], yes: bool) {
         text(b" yes\n");
     } else {
         text(b" no\n");
+    }
+}
+
+// The numbers that were answered.
+fn print_seen(seen: [bool; 32]) {
+    let mut k: usize = 0;
+    while k < 32 {
+        if seen[k] {
+            text(b" ");
+            io::print_decimal(STDOUT_FILENO, k as u64);
+        }
+        k += 1;
     }
 }
 
@@ -636,6 +674,10 @@ fn plan(seed: u64) {
     text(b": differences ");
     io::print_decimal(STDOUT_FILENO, b.differ as u64);
     text(b" | 0\n");
+    text(b"  answered:");
+    let seen = b.seen;
+    print_seen(seen);
+    text(b" | 0 11 13 17 18\n");
     said(b"  past the end of the TSNs:", 50 < b.line.point);
     said(b"  past the end of the SSNs:", 65536 < b.line.next0);
 }
