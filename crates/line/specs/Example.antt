@@ -18,7 +18,6 @@ use Rattle.numbers.specs.Judgement.{judged}
 use Rattle.numbers.specs.Keeping as keeping
 use Rattle.numbers.specs.Keeping.{offsetOf, isCome, settled, marked, listed}
 use Rattle.numbers.specs.Blocks.{runs, laidOut, blocksOf}
-use Rattle.numbers.specs.KeepingLine.{reduceTsn}
 use Rattle.octets.specs.Bytes.{laid}
 use Rattle.holding.specs.declared.held.Chunk.{Chunk}
 use Rattle.holding.specs.declared.taking.Message.{Message}
@@ -37,8 +36,11 @@ use Rattle.line.specs.Runs.{Event, arrive, take, sack, judges, gives, te
 use Rattle.line.specs.Agreement.{rail-agrees}
 
 -- the last number of the circle; on the line, one turn further
+abbrev last : ℕ
+last = 2 ^ 32 - 1
+
 abbrev first : ℕ
-first = 2 ^ 33 - 1
+first = last + 2 ^ 32
 
 abbrev initial : Tsn
 initial = record { 0 = first }
@@ -121,7 +123,7 @@ blockAt2 = record { count = 1; starts = 2 ∷ replicate 63 0; ends = 2 ∷ repli
 abbrev message : ℕ → Message
 message n = record { length = 2; stream = record { 0 = 0 }; unordered = false; ssn = record { 0 = n }; ppid = 7 }
 
-circle-says : answers (ring (2 ^ 32)) (ring (2 ^ 16)) rail 1 (start (ring (2 ^ 32)) rail (reduceTsn (2 ^ 32) initial) area) (map (reduceEvent (2 ^ 32) (2 ^ 16)) events)
+circle-says : answers (ring (2 ^ 32)) (ring (2 ^ 16)) rail 1 (start (ring (2 ^ 32)) rail (record { 0 = last }) area) (map (reduceEvent (2 ^ 32) (2 ^ 16)) events)
     ≡ judges Kept
     ∷ (tells (sackAt 4294967294 65024 blockAt2 [] 0)
     ∷ (judges Kept
@@ -137,6 +139,6 @@ unfolding answers fresh keeping.fresh before on far onCircle judged offsetOf isC
 circle-says = refl
 
 -- as the theorem says, with both sides of it computed
-holds-here : answers (ring (2 ^ 32)) (ring (2 ^ 16)) rail 1 (start (ring (2 ^ 32)) rail (reduceTsn (2 ^ 32) initial) area) (map (reduceEvent (2 ^ 32) (2 ^ 16)) events)
+holds-here : answers (ring (2 ^ 32)) (ring (2 ^ 16)) rail 1 (start (ring (2 ^ 32)) rail (record { 0 = last }) area) (map (reduceEvent (2 ^ 32) (2 ^ 16)) events)
     ≡ map (reduceAnswer (2 ^ 32) (2 ^ 16)) (answers line line rail 1 (start line rail initial area) events)
-holds-here = rail-agrees initial (omega arith) 1 area chunk payload honest events fair
+holds-here = rail-agrees last (omega arith) 1 area chunk payload honest events fair
