@@ -126,10 +126,15 @@ module _ (x : ℕ) (small : x < 2 ^ 32) where
   initial : reduceTsn (2 ^ 32) first ≡ record { 0 = x }
   initial = ap (λ (y : ℕ). record { 0 = y }) (add-mod-right x (2 ^ 32) ∙ mod-eq-of-lt small)
 
+  abbrev TSNs : ℕ
+  TSNs = 2 ^ 32
+
+  abbrev SSNs : ℕ
+  SSNs = 2 ^ 16
+
   pub rail-agrees : (streams : ℕ) (area : List ℕ) (chunk : ℕ → Chunk) (payload : ℕ → List ℕ) → Sender rail (x + 2 ^ 32) streams chunk
       → (es : List Event) → Fair rail (2 ^ 31) (x + 2 ^ 32) chunk payload streams (start line rail first area) es
-      → answers (ring (2 ^ 32)) (ring (2 ^ 16)) rail streams (start (ring (2 ^ 32)) rail (record { 0 = x }) area) (map (reduceEvent (2 ^ 32) (2 ^ 16)) es)
-      ≡ map (reduceAnswer (2 ^ 32) (2 ^ 16)) (answers line line rail streams (start line rail first area) es)
+      → (answers (ring TSNs) (ring SSNs) rail streams (start (ring TSNs) rail (record { 0 = x }) area) (map (reduceEvent TSNs SSNs) es) ≡ map (reduceAnswer TSNs SSNs) (answers line line rail streams (start line rail first area) es))
+      × (finally (ring TSNs) (ring SSNs) rail streams (start (ring TSNs) rail (record { 0 = x }) area) (map (reduceEvent TSNs SSNs) es) ≡ reduceLent TSNs SSNs (finally line line rail streams (start line rail first area) es))
   rail-agrees streams area chunk payload send es fair =
-      ap (λ (y : Tsn). answers (ring (2 ^ 32)) (ring (2 ^ 16)) rail streams (start (ring (2 ^ 32)) rail y area) (map (reduceEvent (2 ^ 32) (2 ^ 16)) es)) (sym initial)
-      ∙ agrees rail (2 ^ 31) first (omega arith) streams area chunk payload send es fair (2 ^ 15) (omega arith) (omega arith) .0
+      rw (← initial) (agrees rail (2 ^ 31) first (omega arith) streams area chunk payload send es fair (2 ^ 15) (omega arith) (omega arith))

@@ -81,7 +81,7 @@ counted (suc n) m = omega (arith, ordinal-suc first chunk 0 n, counted n (omega 
 honest : Sender rail first 1 chunk
 unfolding isAgreed
 honest = record {
-  number = λ n. refl;
+  number = λ n l. refl;
   begins = refl;
   parts = λ n l. refl;
   one-stream = λ n l e. refl;
@@ -160,4 +160,4 @@ circle-says = refl
 -- as the theorem says, with both sides of it computed
 holds-here : answers (ring (2 ^ 32)) (ring (2 ^ 16)) rail 1 (start (ring (2 ^ 32)) rail (record { 0 = last }) area) (map (reduceEvent (2 ^ 32) (2 ^ 16)) events)
     ≡ map (reduceAnswer (2 ^ 32) (2 ^ 16)) (answers line line rail 1 (start line rail initial area) events)
-holds-here = rail-agrees last (omega arith) 1 area chunk payload honest events fair
+holds-here = rail-agrees last (omega arith) 1 area chunk payload honest events fair .0

@@ -188,7 +188,7 @@ module _ {P : Profile} {base streams : ℕ} {chunk : ℕ → Chunk} (payload : �
     agree-from [] l s f = none-left P h k streams l
     agree-from (arrive c bytes ∷ es) l s f =
         let x = f .0 in
-        let e : c .tsn .0 ≡ x .0 = ap (λ (y : Chunk). y .tsn .0) (x .2) ∙ send .number (x .0) in
+        let e : c .tsn .0 ≡ x .0 = ap (λ (y : Chunk). y .tsn .0) (x .2) ∙ send .number (x .0) (x .1) in
         then P h k streams l (arrive c bytes) es (arrive-alike P h k streams l (near send s h k lh lk) c bytes (omega (arith, x .4)))
         (agree-from es (turn line line P streams l (arrive c bytes) .lent) (arrive-sound (l .receiving) s (x .0) (x .1) c bytes (x .2) (x .3)) (f .1))
     agree-from (take out ∷ es) l s f =
