@@ -20,7 +20,7 @@ use Rattle.scans.specs.declared.Found.{Found}
 use Rattle.scans.specs.declared.Found.the-variants.{At, Nothing}
 use Rattle.scans.specs.Scan.{pick, any, findFrom}
 use Rattle.holding.specs.declared.held.Held.{Held}
-use Rattle.holding.specs.Held.{holds, isFree, putIn}
+use Rattle.holding.specs.Held.{holds, isFree}
 use Rattle.holding.specs.Message.{chosen, isOne}
 use Rattle.delivery.specs.declared.receiving.Receiving.{Receiving}
 use Rattle.delivery.specs.declared.arrival.Verdict.{Verdict}

@@ -1,9 +1,9 @@
 -- What a verdict tells of the chunk. Assumes nothing.
-use Prim.Native.Nat.{ℕ, _+_, _-_, _<_, _≤_}
-use mathlib.Core.Path.{_≡_, refl, sym, ap, _∙_}
+use Prim.Native.Nat.{ℕ, _-_, _≤_}
+use mathlib.Core.Path.{_≡_, refl, ap}
 use mathlib.Core.Bool.{Bool, true, false}
 use native.Mathlib.Omega.{arith}
-use borrow.Author.Tests.{ltb-true, ltb-false}
+use borrow.Author.Tests.{ltb-false}
 use lib.Dec.{ltb}
 use Rattle.numbers.specs.Numbering.{Numbering}
 use Rattle.numbers.specs.Profile.{Profile}
@@ -11,7 +11,7 @@ use Rattle.scans.specs.Scan.{pick}
 use Rattle.holding.specs.declared.held.Held.{Held}
 use Rattle.delivery.specs.declared.receiving.Receiving.{Receiving}
 use Rattle.delivery.specs.declared.arrival.Verdict.{Verdict}
-use Rattle.delivery.specs.declared.arrival.Verdict.the-variants.{Kept, Empty, Long, Duplicate, Wedged, Far, Stray}
+use Rattle.delivery.specs.declared.arrival.Verdict.the-variants.{Kept, Stray}
 use Rattle.delivery.specs.Receiving.{lowOf}
 use Rattle.delivery.specs.Arrival.{numberOf, isOld, isBeyond, isRepeat, isWedged, isAgreed, judgementOf, verdictOf}
 

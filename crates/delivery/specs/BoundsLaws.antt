@@ -5,8 +5,8 @@ use mathlib.Core.Bool.{Bool, true, false, not}
 use mathlib.Core.List.{List, [], _∷_, _++_}
 use native.Mathlib.Numerals.{add-one}
 use native.Mathlib.Omega.{arith}
-use native.Mathlib.Decide.{decLt, ℕ-discrete}
-use borrow.Author.Tests.{lt-ltb, le-ltb, le-leb, lt-leb, ltb-true, ltb-false, leb-true, leb-false, eq-eqb, ne-eqb, not-true}
+use native.Mathlib.Decide.{ℕ-discrete}
+use borrow.Author.Tests.{le-ltb, lt-leb, ltb-false, leb-false}
 use lib.ListN.{length, take, drop, set, replicate, getD, length-replicate, length-set, take-append-drop}
 use lib.Seq.{take-suc, getD-set-same, getD-set-other, take-all}
 use lib.Dec.{ltb, leb, eqb}
@@ -15,9 +15,9 @@ use Rattle.numbers.specs.declared.circle.Distance.the-variants.{Ahead, Behind, 
 use Rattle.numbers.specs.Numbering.{Numbering, ring, on, far, on-far}
 use Rattle.numbers.specs.Profile.{Profile}
 use Rattle.numbers.specs.ComeLaws.{clear-at}
-use Rattle.numbers.specs.Keeping.{Bounded, highestOf, keepingSound}
+use Rattle.numbers.specs.Keeping.{highestOf, keepingSound}
 use Rattle.numbers.specs.KeepingLaws.{sound-bounded, bounded-sound}
-use Rattle.numbers.specs.KeepingRoom.{numbersOf, Distinct, count-numbers, distinct-once, once-distinct}
+use Rattle.numbers.specs.KeepingRoom.{Distinct, count-numbers, distinct-once, once-distinct}
 use Rattle.scans.specs.Scan.{pick, tick, any, count, either}
 use Rattle.scans.specs.Each.{All, all-map, clash}
 use Rattle.scans.specs.Upto.{anyUpto, Trying, try-start, try-yes, try-no, try-end}

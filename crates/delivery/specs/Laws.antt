@@ -1,7 +1,7 @@
 -- The laws of receiving: a fresh record is within its bounds and every call keeps it so; a chunk that passes the checks finds a free place; a
 -- number that has come is answered 11 from then on; a refused call leaves all but what document 01's table names. Over either numbering.
 -- Assumes nothing.
-use Prim.Native.Nat.{ℕ, zero, suc, _+_, _-_, _^_, _<_, _≤_, zero-le}
+use Prim.Native.Nat.{ℕ, zero, suc, _+_, _-_, _<_, _≤_}
 use mathlib.Core.Path.{_≡_, refl, sym, ap, _∙_, subst}
 use mathlib.Core.Bool.{Bool, true, false, not}
 use mathlib.Core.List.{List, [], _∷_}
@@ -9,11 +9,10 @@ use mathlib.Core.Logic.{_⊎_, inl, inr, ⊎-elim}
 use native.Mathlib.Omega.{arith}
 use native.Mathlib.Nat.{zero-add}
 use native.Mathlib.Decide.{decLt, decLe}
-use borrow.Author.Tests.{lt-ltb, le-ltb, ltb-true, ltb-false, not-true}
+use borrow.Author.Tests.{le-ltb, ltb-true, not-true}
 use lib.ListN.{length, set, replicate, getD, length-set, length-replicate}
 use lib.Dec.{ltb, eqb}
 use Rattle.numbers.specs.declared.circle.Tsn.{Tsn}
-use Rattle.numbers.specs.declared.circle.Ssn.{Ssn}
 use Rattle.numbers.specs.declared.circle.Judgement.{Judgement}
 use Rattle.numbers.specs.declared.circle.Judgement.the-variants.{AtOrBehind, AheadWithin, AheadBeyond, AtOpposite}
 use Rattle.numbers.specs.declared.keeping.Keeping.{Keeping}
@@ -23,22 +22,22 @@ use Rattle.numbers.specs.Judgement.{judged}
 use Rattle.numbers.specs.Keeping as keeping
 use Rattle.numbers.specs.Reach.{On, Short}
 use Rattle.numbers.specs.KeepingLaws as number
-use Rattle.numbers.specs.KeepingRoom.{numbersOf, count-numbers, any-numbers, length-numbers, all-numbers, isLate, isAmong, Distinct, has-room, bound-kept, bound-kept-unheld, count-filled, count-freed, distinct-filled, distinct-freed}
+use Rattle.numbers.specs.KeepingRoom.{count-numbers, any-numbers, length-numbers, all-numbers, isLate, isAmong, Distinct, has-room, bound-kept, bound-kept-unheld, count-filled, count-freed, distinct-filled, distinct-freed}
 use Rattle.scans.specs.declared.Found.{Found}
 use Rattle.scans.specs.declared.Found.the-variants.{At, Nothing}
 use Rattle.scans.specs.Scan.{pick, tick, count, any, findFrom, find-within}
-use Rattle.scans.specs.Each.{All, all-set, all-at, all-of, clash, found-at}
+use Rattle.scans.specs.Each.{All, all-set, clash, found-at}
 use Rattle.holding.specs.declared.held.Held.{Held}
 use Rattle.holding.specs.declared.taking.Took.{Took}
 use Rattle.holding.specs.Held.{noHeld, ssn0, isFree, holds, any-holds}
 use Rattle.holding.specs.Taking.{emptied, advanced, took, written}
 use Rattle.holding.specs.Taking as taking
-use Rattle.holding.specs.TakingLaws.{Leaves, same, less, took-leaves, advanced-long, Left, took-refused}
+use Rattle.holding.specs.TakingLaws.{Leaves, same, less, took-leaves, advanced-long, took-refused}
 use Rattle.delivery.specs.declared.receiving.Receiving.{Receiving}
 use Rattle.delivery.specs.declared.arrival.Verdict.{Verdict}
 use Rattle.delivery.specs.declared.arrival.Verdict.the-variants.{Kept, Empty, Long, Duplicate, Wedged, Far, Stray}
 use Rattle.delivery.specs.Receiving.{fresh, isLow, lowOf, takenBy, taken}
-use Rattle.delivery.specs.Arrival.{numberOf, isOld, isBeyond, isRepeat, isAgreed, judgementOf, verdictOf, noted, passed, kept, keptIn, after, arrived, stored, storedBy, areaAfter}
+use Rattle.delivery.specs.Arrival.{numberOf, isOld, isBeyond, isRepeat, isAgreed, judgementOf, verdictOf, noted, passed, kept, keptIn, after, arrived, storedBy, areaAfter}
 use Rattle.delivery.specs.ArrivalLaws.{Coming, kept-coming, stray-coming}
 use Rattle.delivery.specs.Acknowledging.{told, acknowledged}
 use Rattle.delivery.specs.Bounds.{isUsed, numberIn, heldNumbers, Fit, Sound}

@@ -1,7 +1,7 @@
 -- The receiving side of a record, once over two numberings: T of chunks, S of the ordered messages of a stream. The code's promises cite the
 -- rules at `ring (2 ^ 32)` and `ring (2 ^ 16)`; the line receiver is the same text at `line` and `line`.
 use Prim.Native.Nat.{ℕ}
-use mathlib.Core.Bool.{Bool, true, false, not}
+use mathlib.Core.Bool.{Bool, false, not}
 use lib.ListN.{replicate}
 use Rattle.numbers.specs.declared.circle.Tsn.{Tsn}
 use Rattle.numbers.specs.declared.keeping.Keeping.{Keeping}

@@ -17,6 +17,7 @@ ghost use Rattle.delivery.specs.BoundsLaws.{slotOf};
 
 // How far before the point a number may lie for the test to look at it once only, and how many numbers there are from there.
 const BEFORE: u32 = 4294967040;
+
 const NEAR: usize = 512;
 
 // A chunk is held here whose length or stream is outside the bounds.

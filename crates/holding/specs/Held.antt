@@ -4,13 +4,8 @@ use mathlib.Core.Path.{_≡_, refl}
 use mathlib.Core.Bool.{Bool, true, false, not}
 use mathlib.Core.List.{List}
 use borrow.Author.Tests.{eq-eqb, ne-eqb, eqb-true}
-use lib.ListN.{set}
 use lib.Dec.{eqb}
-use Rattle.numbers.specs.declared.circle.Tsn.{Tsn}
-use Rattle.numbers.specs.declared.circle.StreamId.{StreamId}
 use Rattle.numbers.specs.declared.circle.Ssn.{Ssn}
-use Rattle.scans.specs.declared.Found.{Found}
-use Rattle.scans.specs.declared.Found.the-variants.{At, Nothing}
 use Rattle.scans.specs.Scan.{pick, any, count}
 use Rattle.scans.specs.Each.{clash}
 use Rattle.holding.specs.declared.held.Chunk.{Chunk}
@@ -53,11 +48,6 @@ isFree h = not (h .used)
 -- the chunk of the number t is held here
 unfoldable pub holds : ℕ → Held → Bool
 holds t h = pick (h .used) (eqb (h .tsn .0) t) false
-
--- "the lowest free place used first": a chunk in the place found
-abbrev pub putIn : Found → List Held → Held → List Held
-putIn (At i) hs h = set hs i h
-putIn Nothing hs h = hs
 
 -- ---- laws
 

@@ -1,6 +1,6 @@
 -- Messages among the held chunks, over the numbering T of chunks: "A message is a run of held chunks with successive TSNs, B on the first only,
 -- E on the last only, one stream, one U bit, and, if ordered, one SSN." And the one that a take gives.
-use Prim.Native.Nat.{ℕ, zero, suc, _+_}
+use Prim.Native.Nat.{ℕ, zero, suc}
 use mathlib.Core.Bool.{Bool, true, false, not, Bool·beq}
 use mathlib.Core.List.{List, [], _∷_, map}
 use lib.ListN.{getD}

@@ -1,22 +1,21 @@
 -- Laws of runs and of the choice of a message: what the loops that compute them keep, and what a choice is. Assumes nothing.
 use Prim.Native.Nat.{ℕ, zero, suc, _+_, _-_, _<_, _≤_}
-use mathlib.Core.Path.{_≡_, refl, sym, ap, _∙_, subst}
-use mathlib.Core.Bool.{Bool, true, false, not}
+use mathlib.Core.Path.{_≡_, refl, sym, ap, _∙_}
+use mathlib.Core.Bool.{Bool, true, false}
 use mathlib.Core.List.{List, [], _∷_, _++_}
 use native.Mathlib.Omega.{arith}
 use native.Mathlib.Numerals.{add-one}
 use lib.Seq.{append-snoc, take-suc-set}
-use native.Mathlib.Decide.{decLt, decLe}
-use borrow.Author.Tests.{lt-ltb, le-ltb, le-leb, lt-leb, ltb-true, ltb-false}
+use borrow.Author.Tests.{le-ltb, le-leb, lt-leb, ltb-true, ltb-false}
 use lib.ListN.{length, take, set, getD, length-set}
-use lib.Dec.{leb, ltb}
+use lib.Dec.{ltb}
 use Rattle.numbers.specs.declared.circle.Ssn.{Ssn}
 use Rattle.numbers.specs.Numbering.{Numbering, on, key}
 use Rattle.numbers.specs.Profile.{Profile}
 use Rattle.scans.specs.declared.Found.{Found}
 use Rattle.scans.specs.declared.Found.the-variants.{At, Nothing}
-use Rattle.scans.specs.Scan.{pick, findFrom, foldFrom, find-within, Folding, fold-more, fold-end}
-use Rattle.scans.specs.Each.{All, clash}
+use Rattle.scans.specs.Scan.{pick, findFrom, find-within, Folding, fold-more, fold-end}
+use Rattle.scans.specs.Each.{clash}
 use Rattle.holding.specs.declared.held.Held.{Held}
 use Rattle.holding.specs.declared.message.Best.{Best}
 use Rattle.holding.specs.declared.message.Places.{Places}

@@ -1,10 +1,10 @@
 -- Laws of a take: what its loops keep, and what the places are that it follows. Assumes nothing.
 use Prim.Native.Nat.{ℕ, zero, suc, _+_, _-_, _*_, _<_, _≤_}
 use mathlib.Core.Path.{_≡_, refl, sym, ap, _∙_, subst}
-use mathlib.Core.Bool.{Bool, true, false, not}
-use mathlib.Core.List.{List, [], _∷_, _++_}
+use mathlib.Core.Bool.{Bool, true, false}
+use mathlib.Core.List.{List, [], _∷_}
 use native.Mathlib.Omega.{arith}
-use native.Mathlib.Decide.{decLt, decLe}
+use native.Mathlib.Decide.{decLt}
 use borrow.Author.Tests.{lt-ltb, le-ltb}
 use lib.ListN.{length, take, drop, set, getD, length-set, drop-of-length-le}
 use lib.Seq.{getD-take, length-take-le}
@@ -16,7 +16,7 @@ use Rattle.octets.specs.Bytes.{laid}
 use Rattle.octets.specs.BytesLaws.{length-laid}
 use Rattle.scans.specs.declared.Found.{Found}
 use Rattle.scans.specs.declared.Found.the-variants.{At, Nothing}
-use Rattle.scans.specs.Scan.{pick, total, findFrom, foldFrom, find-within, drop-at, Summing, sum-more, sum-end}
+use Rattle.scans.specs.Scan.{pick, findFrom, foldFrom, find-within, drop-at, Summing, sum-more}
 use Rattle.scans.specs.Each.{All, all-at, clash}
 use Rattle.holding.specs.declared.held.Held.{Held}
 use Rattle.holding.specs.declared.message.Best.{Best}

@@ -128,7 +128,13 @@ pub fn can_take(held: [Held; Rail::PLACES], next: [Ssn; Rail::STREAMS], point: T
 }
 
 // The message that comes first in take order, into the lent output.
-pub fn take(held: [Held; Rail::PLACES], next: [Ssn; Rail::STREAMS], point: Tsn, area: &[u8], out: &mut [u8]) -> Took
+pub fn take(
+    held: [Held; Rail::PLACES],
+    next: [Ssn; Rail::STREAMS],
+    point: Tsn,
+    area: &[u8],
+    out: &mut [u8],
+) -> Took
     ensures { λ r. ⌜ (r ≡ took (ring (2 ^ 32)) (ring (2 ^ 16)) rail held next (point .0) (length (now (out .entry)))) × (now (out .exit) ≡ written (ring (2 ^ 32)) rail held next (point .0) (now (area .entry)) (now (out .entry))) ⌝ }
 {
     let best = message::choose(held, next, point);

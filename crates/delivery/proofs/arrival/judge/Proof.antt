@@ -1,98 +1,66 @@
-use borrow.Author.Tests.{lt-ltb, le-ltb, eq-eqb, ne-eqb}
-use native.Mathlib.Omega.{arith}
-use Prim.Native.Nat.{_-_, _^_, _<_}
-use mathlib.Core.Path.{_≡_, refl, sym, _∙_, ap}
-use lib.ListN.{length}
-use Rattle.scans.specs.Scan.{long-mapped, find-within}
-use Rattle.holding.specs.Held.{isFree}
+use borrow.Author.Tests.{lt-ltb, le-ltb}
+use Prim.Native.Nat.{_-_}
 use Rattle.delivery.specs.Receiving.{lowOf}
-use Rattle.delivery.specs.Arrival.{judgementOf, verdictOf, arrived, areaAfter}
-use Rattle.delivery.specs.ArrivalLaws.{kept-coming}
+use Rattle.delivery.specs.Arrival.{judgementOf, verdictOf}
 use borrow.Author.Needs.{needs}
 use Rattle.delivery.proofs.arrival.judge.Statement.{statement}
 use Rattle.delivery.proofs.arrival.judge.Tie as tie
-use Rattle.delivery.proofs.arrival.judge.Reads as reads
-use Rattle.delivery.proofs.arrival.judge.Lts as lts
-use Rattle.delivery.proofs.arrival.is_agreed.Reads as is-agreed-reads
-use Rattle.delivery.proofs.arrival.is_beyond.Reads as is-beyond-reads
-use Rattle.delivery.proofs.arrival.is_old.Reads as is-old-reads
-use Rattle.delivery.proofs.arrival.is_repeat.Reads as is-repeat-reads
-use Rattle.delivery.proofs.arrival.is_wedged.Reads as is-wedged-reads
-use Rattle.delivery.proofs.receiving.low.Reads as low-reads
-use Rattle.numbers.proofs.circle.Tsn.judge.Reads as judge-reads
 
--- src/arrival.rt:95:9
 returns : tie.Need-returns
 unfolding verdictOf judgementOf lowOf
 returns c = rw (lt-ltb _ _ (c .if1 .taken))
 
--- src/arrival.rt:98:9
 returns-2 : tie.Need-returns-2
 unfolding verdictOf judgementOf lowOf
 returns-2 c = rw (le-ltb _ _ (c .before .if1 .left), lt-ltb _ _ (c .if2 .taken))
 
--- src/arrival.rt:104:9
 low-requires : tie.Need-low-requires
 low-requires c κs = search needs
 
--- src/arrival.rt:105:31
 sub-judge : tie.Need-sub-judge
 sub-judge c = search needs
 
--- src/arrival.rt:105:30
 cast-judge : tie.Need-cast-judge
 cast-judge c = search needs
 
--- src/arrival.rt:105:9
 judge-requires : tie.Need-judge-requires
 judge-requires c κs = search needs
 
--- src/arrival.rt:106:8
 is-old-requires : tie.Need-is-old-requires
 is-old-requires c κs = search needs
 
--- src/arrival.rt:107:9
 returns-3 : tie.Need-returns-3
 unfolding verdictOf judgementOf lowOf
 returns-3 c = rw (le-ltb _ _ (c .before .before .before .before .before .before .before .before .before .if1 .left), le-ltb _ _ (c .before .before .before .before .before .before .before .before .if2 .left), ← c .before .before .before .low .ensures .0, ← c .before .before .judge .ensures, ← c .before .is-old .ensures, c .if3 .taken)
 
--- src/arrival.rt:109:8
 is-repeat-requires : tie.Need-is-repeat-requires
 is-repeat-requires c κs = search needs
 
--- src/arrival.rt:110:9
 returns-4 : tie.Need-returns-4
 unfolding verdictOf judgementOf lowOf
 returns-4 c = rw (le-ltb _ _ (c .before .before .before .before .before .before .before .before .before .before .before .if1 .left), le-ltb _ _ (c .before .before .before .before .before .before .before .before .before .before .if2 .left), ← c .before .before .before .before .before .low .ensures .0, ← c .before .before .before .before .judge .ensures, ← c .before .before .before .is-old .ensures, c .before .before .if3 .left, ← c .before .is-repeat .ensures, c .if4 .taken)
 
--- src/arrival.rt:113:8
 is-wedged-requires : tie.Need-is-wedged-requires
 is-wedged-requires c κs = search needs
 
--- src/arrival.rt:114:9
 returns-5 : tie.Need-returns-5
 unfolding verdictOf judgementOf lowOf
 returns-5 c = rw (le-ltb _ _ (c .before .before .before .before .before .before .before .before .before .before .before .before .before .before .if1 .left), le-ltb _ _ (c .before .before .before .before .before .before .before .before .before .before .before .before .before .if2 .left), ← c .before .before .before .before .before .before .before .before .low .ensures .0, ← c .before .before .before .before .before .before .before .judge .ensures, ← c .before .before .before .before .before .before .is-old .ensures, c .before .before .before .before .before .if3 .left, ← c .before .before .before .before .is-repeat .ensures, c .before .before .before .if4 .left, ← c .before .is-wedged .ensures, c .if5 .taken)
 
--- src/arrival.rt:116:8
 is-beyond-requires : tie.Need-is-beyond-requires
 is-beyond-requires c κs = search needs
 
--- src/arrival.rt:117:9
 returns-6 : tie.Need-returns-6
 unfolding verdictOf judgementOf lowOf
 returns-6 c = rw (le-ltb _ _ (c .before .before .before .before .before .before .before .before .before .before .before .before .before .before .before .before .if1 .left), le-ltb _ _ (c .before .before .before .before .before .before .before .before .before .before .before .before .before .before .before .if2 .left), ← c .before .before .before .before .before .before .before .before .before .before .low .ensures .0, ← c .before .before .before .before .before .before .before .before .before .judge .ensures, ← c .before .before .before .before .before .before .before .before .is-old .ensures, c .before .before .before .before .before .before .before .if3 .left, ← c .before .before .before .before .before .before .is-repeat .ensures, c .before .before .before .before .before .if4 .left, ← c .before .before .before .is-wedged .ensures, c .before .before .if5 .left, ← c .before .is-beyond .ensures, c .if6 .taken)
 
--- src/arrival.rt:120:8
 is-agreed-requires : tie.Need-is-agreed-requires
 is-agreed-requires c κs = search needs
 
--- src/arrival.rt:121:9
 returns-7 : tie.Need-returns-7
 unfolding verdictOf judgementOf lowOf
 returns-7 c = rw (le-ltb _ _ (c .before .before .before .before .before .before .before .before .before .before .before .before .before .before .before .before .before .before .before .if1 .left), le-ltb _ _ (c .before .before .before .before .before .before .before .before .before .before .before .before .before .before .before .before .before .before .if2 .left), ← c .before .before .before .before .before .before .before .before .before .before .before .before .before .low .ensures .0, ← c .before .before .before .before .before .before .before .before .before .before .before .before .judge .ensures, ← c .before .before .before .before .before .before .before .before .before .before .before .is-old .ensures, c .before .before .before .before .before .before .before .before .before .before .if3 .left, ← c .before .before .before .before .before .before .before .before .before .is-repeat .ensures, c .before .before .before .before .before .before .before .before .if4 .left, ← c .before .before .before .before .before .before .is-wedged .ensures, c .before .before .before .before .before .if5 .left, ← c .before .before .before .before .is-beyond .ensures, c .before .before .before .if6 .left, ← c .before .is-agreed .ensures, c .if7 .taken)
 
--- src/arrival.rt:91:1
 returns-8 : tie.Need-returns-8
 unfolding verdictOf judgementOf lowOf
 returns-8 c = rw (le-ltb _ _ (c .before .before .before .before .before .before .before .before .before .before .before .before .before .before .before .before .before .before .before .if1 .left), le-ltb _ _ (c .before .before .before .before .before .before .before .before .before .before .before .before .before .before .before .before .before .before .if2 .left), ← c .before .before .before .before .before .before .before .before .before .before .before .before .before .low .ensures .0, ← c .before .before .before .before .before .before .before .before .before .before .before .before .judge .ensures, ← c .before .before .before .before .before .before .before .before .before .before .before .is-old .ensures, c .before .before .before .before .before .before .before .before .before .before .if3 .left, ← c .before .before .before .before .before .before .before .before .before .is-repeat .ensures, c .before .before .before .before .before .before .before .before .if4 .left, ← c .before .before .before .before .before .before .is-wedged .ensures, c .before .before .before .before .before .if5 .left, ← c .before .before .before .before .is-beyond .ensures, c .before .before .before .if6 .left, ← c .before .is-agreed .ensures, c .if7 .left)

@@ -1,43 +1,28 @@
 use borrow.Author.Tests.{lt-ltb, le-ltb}
-use native.Mathlib.Omega.{arith}
 use Prim.Native.Nat.{_-_}
-use mathlib.Core.Path.{refl, sym, _∙_, ap}
-use lib.ListN.{take, length}
-use lib.Seq.{getD-take, length-take-le}
-use Rattle.numbers.specs.Profile.{rail}
-use Rattle.scans.specs.Scan.{long-mapped, Seeking, seek-yes, seek-no, seek-end}
-use Rattle.holding.specs.Held.{noHeld, holds}
 use Rattle.delivery.specs.Bounds.{isUnfit}
 use borrow.Author.Needs.{needs}
 use Rattle.delivery.proofs.bounds.is_unfit.Statement.{statement}
 use Rattle.delivery.proofs.bounds.is_unfit.Tie as tie
-use Rattle.delivery.proofs.bounds.is_unfit.Reads as reads
-use Rattle.delivery.proofs.bounds.is_unfit.Lts as lts
 
--- src/bounds.rt:28:13
 returns : tie.Need-returns
 unfolding isUnfit
 returns c = rw (c .before .before .if1 .taken, lt-ltb _ _ (c .if2 .taken))
 
--- src/bounds.rt:30:28
 cast-if3 : tie.Need-cast-if3
 cast-if3 c = search needs
 
--- src/bounds.rt:31:13
 returns-2 : tie.Need-returns-2
 unfolding isUnfit
 returns-2 c = rw (c .before .before .before .before .if1 .taken, le-ltb _ _ (c .before .before .if2 .left), lt-ltb _ _ (c .if3 .taken))
 
--- src/bounds.rt:33:33
 cast-result : tie.Need-cast-result
 cast-result c = search needs
 
--- src/bounds.rt:33:9
 returns-3 : tie.Need-returns-3
 unfolding isUnfit
 returns-3 c = rw (c .before .before .before .before .before .if1 .taken, le-ltb _ _ (c .before .before .before .if2 .left), le-ltb _ _ (c .before .if3 .left))
 
--- src/bounds.rt:23:1
 returns-4 : tie.Need-returns-4
 unfolding isUnfit
 returns-4 c = rw (c .if1 .left)

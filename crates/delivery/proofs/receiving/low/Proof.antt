@@ -1,21 +1,12 @@
 use borrow.Author.Needs.{needs}
-use borrow.Author.Tests.{lt-ltb, le-ltb, eq-eqb, ne-eqb}
 use native.Mathlib.Omega.{arith}
-use Prim.Native.Nat.{_-_, _^_, _<_}
-use mathlib.Core.Path.{_≡_, refl, sym, _∙_, ap}
-use lib.ListN.{length}
+use Prim.Native.Nat.{_-_, _^_}
+use mathlib.Core.Path.{sym, _∙_}
 use Rattle.numbers.specs.Numbering.{ring}
-use Rattle.numbers.specs.Profile.{rail}
-use Rattle.scans.specs.Scan.{long-mapped, Counting, count-yes, count-no, count-end, find-within}
-use Rattle.holding.specs.Held.{isFree}
-use Rattle.delivery.specs.Receiving.{fresh, isLow, taken}
-use Rattle.delivery.specs.Arrival.{isRepeat, isWedged, isAgreed, noted, passed, kept}
-use Rattle.delivery.specs.Acknowledging.{sackOf, told, acknowledged}
+use Rattle.scans.specs.Scan.{long-mapped, Counting, count-yes, count-no, count-end}
+use Rattle.delivery.specs.Receiving.{isLow, taken}
 use Rattle.delivery.proofs.receiving.low.Statement.{statement}
 use Rattle.delivery.proofs.receiving.low.Tie as tie
-use Rattle.delivery.proofs.receiving.low.Reads as reads
-use Rattle.delivery.proofs.receiving.low.Lts as lts
-use Rattle.delivery.proofs.receiving.is_low.Reads as is-low-reads
 
 abbrev Inv-loop : tie.InvT-loop
 Inv-loop keeping held n₀ i₀ n i = Counting (isLow (ring (2 ^ 32)) keeping) held 128 i n
@@ -23,51 +14,39 @@ Inv-loop keeping held n₀ i₀ n i = Counting (isLow (ring (2 ^ 32)) keeping) h
 abbrev μ-loop : tie.MeasureT-loop
 μ-loop keeping held n₀ i₀ n i = 128 - i
 
--- src/receiving.rt:45:5
 loop-holds : tie.Need-loop-holds Inv-loop μ-loop
 loop-holds c = record { long = search (needs, long-mapped); within = omega arith; below = omega arith; rest = omega arith }
 
--- src/receiving.rt:46:17
 mul-h : tie.Need-mul-h Inv-loop μ-loop
 mul-h c = search needs
 
--- src/receiving.rt:46:17
 array-copy-out-h : tie.Need-array-copy-out-h Inv-loop μ-loop
 array-copy-out-h c = search needs
 
--- src/receiving.rt:47:12
 is-low-requires : tie.Need-is-low-requires Inv-loop μ-loop
 is-low-requires c κs = search needs
 
--- src/receiving.rt:48:13
 add-n : tie.Need-add-n Inv-loop μ-loop
 add-n c = omega (arith, c .before .before .before .before .loop .inv .below, c .before .before .before .before .loop .inv .within)
 
--- src/receiving.rt:49:13
 add-i : tie.Need-add-i Inv-loop μ-loop
 add-i c = search needs
 
--- src/receiving.rt:45:5
 loop-less : tie.Need-loop-less Inv-loop μ-loop
 loop-less c = search needs
 
--- src/receiving.rt:45:5
 loop-again : tie.Need-loop-again Inv-loop μ-loop
 loop-again c = count-yes (c .before .before .before .before .loop .inv) _ (c .before .before .before .loop-test .taken) (sym (c .before .is-low .ensures) ∙ c .if1 .taken)
 
--- src/receiving.rt:51:13
 add-i-2 : tie.Need-add-i-2 Inv-loop μ-loop
 add-i-2 c = search needs
 
--- src/receiving.rt:45:5
 loop-less-2 : tie.Need-loop-less-2 Inv-loop μ-loop
 loop-less-2 c = search needs
 
--- src/receiving.rt:45:5
 loop-again-2 : tie.Need-loop-again-2 Inv-loop μ-loop
 loop-again-2 c = count-no (c .before .before .before .before .loop .inv) _ (c .before .before .before .loop-test .taken) (sym (c .before .is-low .ensures) ∙ c .if1 .left)
 
--- src/receiving.rt:40:1
 returns : tie.Need-returns Inv-loop μ-loop
 returns c = (count-end (c .before .loop .inv) (c .loop-test .left), omega (arith, c .before .loop .inv .below, c .before .loop .inv .within))
 

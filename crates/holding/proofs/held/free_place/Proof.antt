@@ -1,16 +1,10 @@
 use borrow.Author.Needs.{needs}
-use native.Mathlib.Omega.{arith}
 use Prim.Native.Nat.{_-_}
-use mathlib.Core.Path.{refl, sym, _∙_}
-use Rattle.scans.specs.Scan.{long-mapped, Seeking, seek-yes, seek-no, seek-end, Finding, find-yes, find-no, find-end, Counting, count-bit, bit-within, count-end}
-use Rattle.holding.specs.Held.{noHeld, isFree, holds}
-use lib.ListN.{getD}
-use mathlib.Core.Bool.{not}
-use mir.Facts.{fits-le, fits-lit}
+use mathlib.Core.Path.{refl}
+use Rattle.scans.specs.Scan.{long-mapped, Finding, find-yes, find-no, find-end}
+use Rattle.holding.specs.Held.{isFree}
 use Rattle.holding.proofs.held.free_place.Statement.{statement}
 use Rattle.holding.proofs.held.free_place.Tie as tie
-use Rattle.holding.proofs.held.free_place.Reads as reads
-use Rattle.holding.proofs.held.free_place.Lts as lts
 
 abbrev Inv-loop : tie.InvT-loop
 Inv-loop held i₀ i = Finding isFree held 128 i
@@ -18,35 +12,27 @@ Inv-loop held i₀ i = Finding isFree held 128 i
 abbrev μ-loop : tie.MeasureT-loop
 μ-loop held i₀ i = 128 - i
 
--- src/held.rt:90:5
 loop-holds : tie.Need-loop-holds Inv-loop μ-loop
 loop-holds c = record { long = search (needs, long-mapped); rest = refl }
 
--- src/held.rt:91:13
 mul-if1 : tie.Need-mul-if1 Inv-loop μ-loop
 mul-if1 c = search needs
 
--- src/held.rt:91:13
 element-copy-out-if1 : tie.Need-element-copy-out-if1 Inv-loop μ-loop
 element-copy-out-if1 c = search needs
 
--- src/held.rt:92:13
 returns : tie.Need-returns Inv-loop μ-loop
 returns c = find-yes (c .before .before .loop .inv) _ (c .before .loop-test .taken) (c .if1 .taken)
 
--- src/held.rt:94:9
 add-i : tie.Need-add-i Inv-loop μ-loop
 add-i c = search needs
 
--- src/held.rt:90:5
 loop-less : tie.Need-loop-less Inv-loop μ-loop
 loop-less c = search needs
 
--- src/held.rt:90:5
 loop-again : tie.Need-loop-again Inv-loop μ-loop
 loop-again c = find-no (c .before .before .loop .inv) _ (c .before .loop-test .taken) (c .if1 .left)
 
--- src/held.rt:86:1
 returns-2 : tie.Need-returns-2 Inv-loop μ-loop
 returns-2 c = find-end (c .before .loop .inv) (c .loop-test .left)
 

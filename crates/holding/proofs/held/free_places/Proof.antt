@@ -1,16 +1,13 @@
 use borrow.Author.Needs.{needs}
 use native.Mathlib.Omega.{arith}
 use Prim.Native.Nat.{_-_}
-use mathlib.Core.Path.{refl, sym, _∙_}
-use Rattle.scans.specs.Scan.{long-mapped, Seeking, seek-yes, seek-no, seek-end, Finding, find-yes, find-no, find-end, Counting, count-bit, bit-within, count-end}
-use Rattle.holding.specs.Held.{noHeld, isFree, holds}
+use Rattle.scans.specs.Scan.{long-mapped, Counting, count-bit, bit-within, count-end}
+use Rattle.holding.specs.Held.{noHeld, isFree}
 use lib.ListN.{getD}
 use mathlib.Core.Bool.{not}
 use mir.Facts.{fits-le, fits-lit}
 use Rattle.holding.proofs.held.free_places.Statement.{statement}
 use Rattle.holding.proofs.held.free_places.Tie as tie
-use Rattle.holding.proofs.held.free_places.Reads as reads
-use Rattle.holding.proofs.held.free_places.Lts as lts
 
 abbrev Inv-loop : tie.InvT-loop
 Inv-loop held n₀ i₀ n i = Counting isFree held 128 i n
@@ -18,39 +15,30 @@ Inv-loop held n₀ i₀ n i = Counting isFree held 128 i n
 abbrev μ-loop : tie.MeasureT-loop
 μ-loop held n₀ i₀ n i = 128 - i
 
--- src/held.rt:105:5
 loop-holds : tie.Need-loop-holds Inv-loop μ-loop
 loop-holds c = record { long = search (needs, long-mapped); within = omega arith; below = omega arith; rest = omega arith }
 
--- src/held.rt:106:15
 mul-n : tie.Need-mul-n Inv-loop μ-loop
 mul-n c = search needs
 
--- src/held.rt:106:15
 element-copy-out-n : tie.Need-element-copy-out-n Inv-loop μ-loop
 element-copy-out-n c = search needs
 
--- src/held.rt:106:14
 cast-n : tie.Need-cast-n Inv-loop μ-loop
 cast-n c = search needs
 
--- src/held.rt:106:9
 add-n : tie.Need-add-n Inv-loop μ-loop
 add-n c = fits-le (bit-within (c .before .loop .inv) (not (getD (c .before .before .args .t1) (c .before .loop .i) noHeld .used)) (c .loop-test .taken)) (fits-lit tt)
 
--- src/held.rt:107:9
 add-i : tie.Need-add-i Inv-loop μ-loop
 add-i c = search needs
 
--- src/held.rt:105:5
 loop-less : tie.Need-loop-less Inv-loop μ-loop
 loop-less c = search needs
 
--- src/held.rt:105:5
 loop-again : tie.Need-loop-again Inv-loop μ-loop
 loop-again c = count-bit (c .before .loop .inv) _ (c .loop-test .taken)
 
--- src/held.rt:100:1
 returns : tie.Need-returns Inv-loop μ-loop
 returns c = (count-end (c .before .loop .inv) (c .loop-test .left), omega (arith, c .before .loop .inv .below, c .before .loop .inv .within))
 

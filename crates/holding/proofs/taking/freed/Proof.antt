@@ -1,21 +1,11 @@
 use borrow.Author.Needs.{needs}
-use borrow.Author.Tests.{lt-ltb, le-ltb}
 use native.Mathlib.Omega.{arith}
-use Prim.Native.Nat.{_-_, _^_, _*_, _≤_}
-use mathlib.Core.Path.{refl, sym, _∙_, ap}
-use lib.ListN.{take, length}
-use lib.Seq.{set-out}
-use Rattle.numbers.specs.Profile.{rail}
-use Rattle.octets.specs.BytesLaws.{part-rest, part-none, laid-nil}
-use Rattle.scans.specs.Scan.{long-mapped, Summing, sum-end}
-use Rattle.holding.specs.Held.{ssn0}
-use Rattle.holding.specs.Taking.{lenAt, advanced}
-use Rattle.holding.specs.TakingLaws.{Within, within-at, within-long, add-place, Copying, copy-more, copy-end, Emptying, empty-more, empty-end}
+use Prim.Native.Nat.{_-_}
+use mathlib.Core.Path.{refl}
+use Rattle.scans.specs.Scan.{long-mapped}
+use Rattle.holding.specs.TakingLaws.{within-at, Emptying, empty-more, empty-end}
 use Rattle.holding.proofs.taking.freed.Statement.{statement}
 use Rattle.holding.proofs.taking.freed.Tie as tie
-use Rattle.holding.proofs.taking.freed.Reads as reads
-use Rattle.holding.proofs.taking.freed.Lts as lts
-use Rattle.holding.proofs.held.Held.none.Reads as none-reads
 
 abbrev Inv-loop : tie.InvT-loop
 Inv-loop held₀ p count j₀ held j = Emptying held₀ p held j
@@ -23,43 +13,33 @@ Inv-loop held₀ p count j₀ held j = Emptying held₀ p held j
 abbrev μ-loop : tie.MeasureT-loop
 μ-loop held₀ p count j₀ held j = p .count - j
 
--- src/taking.rt:95:5
 loop-holds : tie.Need-loop-holds Inv-loop μ-loop
 loop-holds c = record { long = search (needs, long-mapped); rest = refl }
 
--- src/taking.rt:96:17
 mul-i : tie.Need-mul-i Inv-loop μ-loop
 mul-i c = omega (arith, c .before .before .pre .few)
 
--- src/taking.rt:96:17
 element-copy-out-i : tie.Need-element-copy-out-i Inv-loop μ-loop
 element-copy-out-i c = omega (arith, c .before .before .pre .few)
 
--- src/taking.rt:97:19
 none-requires : tie.Need-none-requires Inv-loop μ-loop
 none-requires c κs = search needs
 
--- src/taking.rt:97:9
 mul-held : tie.Need-mul-held Inv-loop μ-loop
 mul-held c = omega (arith, within-at (c .before .before .before .before .pre) (c .before .before .before .loop .j) (c .before .before .loop-test .taken))
 
--- src/taking.rt:97:9
 array-set-from-held : tie.Need-array-set-from-held Inv-loop μ-loop
 array-set-from-held c = within-at (c .before .before .before .before .pre) (c .before .before .before .loop .j) (c .before .before .loop-test .taken)
 
--- src/taking.rt:98:9
 add-j : tie.Need-add-j Inv-loop μ-loop
 add-j c = omega (arith, c .before .before .before .before .pre .few)
 
--- src/taking.rt:95:5
 loop-less : tie.Need-loop-less Inv-loop μ-loop
 loop-less c = search needs
 
--- src/taking.rt:95:5
 loop-again : tie.Need-loop-again Inv-loop μ-loop
 loop-again c = empty-more (c .before .before .before .before .pre) (c .before .before .before .loop .inv) (c .before .before .loop-test .taken) (c .none .ensures)
 
--- src/taking.rt:89:1
 returns : tie.Need-returns Inv-loop μ-loop
 returns c = empty-end (c .before .before .pre) (c .before .loop .inv) (c .loop-test .left)
 

@@ -1,69 +1,46 @@
-use mathlib.Core.Path.{_≡_, refl, sym, _∙_, ap}
+use mathlib.Core.Path.{_≡_}
 use Rattle.holding.specs.TakingLaws.{picked-within}
 use native.Mathlib.Omega.{arith}
-use Prim.Native.Nat.{_^_, _<_}
 use lib.ListN.{length}
-use Rattle.numbers.specs.Numbering.{ring}
-use Rattle.numbers.specs.Profile.{rail}
 use Rattle.scans.specs.Scan.{long-mapped}
-use Rattle.holding.specs.TakingLaws.{Within, place-within, picked, found-none, took-short, took-all, took-none, written-short, written-all, written-none}
+use Rattle.holding.specs.TakingLaws.{place-within, picked, found-none, took-short, took-all, took-none, written-short, written-all, written-none}
 use borrow.Author.Needs.{needs}
 use Rattle.holding.proofs.taking.take.Statement.{statement}
 use Rattle.holding.proofs.taking.take.Tie as tie
-use Rattle.holding.proofs.taking.take.Reads as reads
-use Rattle.holding.proofs.taking.take.Lts as lts
-use Rattle.holding.proofs.message.choose.Reads as choose-reads
-use Rattle.holding.proofs.message.gather.Reads as gather-reads
-use Rattle.holding.proofs.taking.advance.Reads as advance-reads
-use Rattle.holding.proofs.taking.copy_message.Reads as copy-message-reads
-use Rattle.holding.proofs.taking.freed.Reads as freed-reads
-use Rattle.holding.proofs.taking.length_of.Reads as length-of-reads
 
--- src/taking.rt:124:9
 choose-requires : tie.Need-choose-requires
 choose-requires c κs = search needs
 
--- src/taking.rt:127:21
 mul-first : tie.Need-mul-first
 mul-first c = let l : length (c .before .before .before .before .args .t1) ≡ 128 = search (needs, long-mapped) in omega (arith, place-within _ _ _ _ _ (c .before .choose .ensures) (c .if1 .taken))
 
--- src/taking.rt:127:21
 array-copy-out-first : tie.Need-array-copy-out-first
 array-copy-out-first c = let l : length (c .before .before .before .before .args .t1) ≡ 128 = search (needs, long-mapped) in omega (arith, place-within _ _ _ _ _ (c .before .choose .ensures) (c .if1 .taken))
 
--- src/taking.rt:128:13
 gather-requires : tie.Need-gather-requires
 gather-requires c κs = search needs
 
--- src/taking.rt:129:13
 length-of-requires : tie.Need-length-of-requires
 length-of-requires c κs = picked-within _ (picked _ _ _ _ _ (c .before .before .before .choose .ensures) (c .before .before .if1 .taken) (c .gather .result) (c .gather .ensures .0)) (search (needs, long-mapped)) (c .gather .ensures .1) (search needs)
 
--- src/taking.rt:131:13
 returns : tie.Need-returns
 returns c = let w = picked _ _ _ _ _ (c .before .before .before .before .before .choose .ensures) (c .before .before .before .before .if1 .taken) (c .before .before .gather .result) (c .before .before .gather .ensures .0) in (took-short w (c .before .length-of .ensures) _ _ (c .if2 .taken), written-short w (c .before .length-of .ensures) _ _ (c .if2 .taken))
 
--- src/taking.rt:137:9
 copy-message-requires : tie.Need-copy-message-requires
 copy-message-requires c κs = picked-within _ (picked _ _ _ _ _ (c .before .before .before .before .before .before .choose .ensures) (c .before .before .before .before .before .if1 .taken) (c .before .before .before .gather .result) (c .before .before .before .gather .ensures .0)) (search (needs, long-mapped)) (c .before .before .before .gather .ensures .1) (search needs)
 
--- src/taking.rt:147:13
 freed-requires : tie.Need-freed-requires
 freed-requires c κs = picked-within _ (picked _ _ _ _ _ (c .before .before .before .before .before .before .before .before .before .before .before .choose .ensures) (c .before .before .before .before .before .before .before .before .before .before .if1 .taken) (c .before .before .before .before .before .before .before .before .gather .result) (c .before .before .before .before .before .before .before .before .gather .ensures .0)) (search (needs, long-mapped)) (c .before .before .before .before .before .before .before .before .gather .ensures .1) (search needs)
 
--- src/taking.rt:148:13
 advance-requires : tie.Need-advance-requires
 advance-requires c κs = search needs
 
--- src/taking.rt:149:9
 same-length : tie.Need-same-length
 same-length c = search needs
 
--- src/taking.rt:149:9
 returns-2 : tie.Need-returns-2
 returns-2 c = let w = picked _ _ _ _ _ (c .before .before .before .before .before .before .before .before .before .before .before .before .before .choose .ensures) (c .before .before .before .before .before .before .before .before .before .before .before .before .if1 .taken) (c .before .before .before .before .before .before .before .before .before .before .gather .result) (c .before .before .before .before .before .before .before .before .before .before .gather .ensures .0) in (took-all w (c .before .before .before .before .before .before .before .before .before .length-of .ensures) _ _ (c .before .before .before .before .before .before .before .before .if2 .left) (c .before .freed .ensures) (c .advance .ensures), written-all w (c .before .before .before .before .before .before .before .before .before .length-of .ensures) _ _ (c .before .before .before .before .before .before .before .before .if2 .left) (c .before .before .before .before .before .before .copy-message .ensures))
 
--- src/taking.rt:121:1
 returns-3 : tie.Need-returns-3
 returns-3 c = (took-none _ _ _ _ _ (found-none _ _ _ _ _ (c .before .choose .ensures) (c .if1 .left)) _ _, written-none _ _ _ _ _ (found-none _ _ _ _ _ (c .before .choose .ensures) (c .if1 .left)) _ _)
 

@@ -1,102 +1,71 @@
-use borrow.Author.Tests.{lt-ltb, le-ltb, eq-eqb, ne-eqb}
-use native.Mathlib.Omega.{arith}
-use Prim.Native.Nat.{_-_, _^_, _<_}
-use mathlib.Core.Path.{_≡_, refl, sym, _∙_, ap}
-use lib.ListN.{length}
-use Rattle.scans.specs.Scan.{long-mapped, find-within}
-use Rattle.holding.specs.Held.{isFree}
-use Rattle.delivery.specs.Receiving.{lowOf}
-use Rattle.delivery.specs.Arrival.{judgementOf, verdictOf, arrived, areaAfter}
+use Prim.Native.Nat.{_-_}
+use mathlib.Core.Path.{refl, sym, _∙_}
+use Rattle.delivery.specs.Arrival.{arrived, areaAfter}
 use Rattle.delivery.specs.ArrivalLaws.{kept-coming}
 use borrow.Author.Needs.{needs}
 use Rattle.delivery.proofs.receiving.Receiving.arrive.Statement.{statement}
 use Rattle.delivery.proofs.receiving.Receiving.arrive.Tie as tie
-use Rattle.delivery.proofs.receiving.Receiving.arrive.Reads as reads
-use Rattle.delivery.proofs.receiving.Receiving.arrive.Lts as lts
-use Rattle.delivery.proofs.arrival.judge.Reads as judge-reads
-use Rattle.delivery.proofs.arrival.keep.Reads as keep-reads
-use Rattle.delivery.proofs.arrival.note.Reads as note-reads
-use Rattle.delivery.proofs.arrival.pass.Reads as pass-reads
 
--- src/arrival.rt:183:13
 judge-requires : tie.Need-judge-requires
 judge-requires c κs = search needs
 
--- src/arrival.rt:187:44
 enum-told : tie.Need-enum-told
 enum-told c = search needs
 
--- src/arrival.rt:187:21
 keep-requires : tie.Need-keep-requires
 keep-requires c κs = kept-coming _ _ _ _ _ (sym (c .before .before .before .before .judge .ensures) ∙ c .before .enum-told .given .1) .0 .fits
 
--- src/arrival.rt:191:21
 enum-told-2 : tie.Need-enum-told-2
 enum-told-2 c = search needs
 
--- src/arrival.rt:191:21
 note-requires : tie.Need-note-requires
 note-requires c κs = search needs
 
--- src/arrival.rt:195:21
 enum-told-3 : tie.Need-enum-told-3
 enum-told-3 c = search needs
 
--- src/arrival.rt:195:21
 pass-requires : tie.Need-pass-requires
 pass-requires c κs = search needs
 
--- src/arrival.rt:198:31
 enum-told-4 : tie.Need-enum-told-4
 enum-told-4 c = search needs
 
--- src/arrival.rt:202:30
 enum-told-5 : tie.Need-enum-told-5
 enum-told-5 c = search needs
 
--- src/arrival.rt:206:32
 enum-told-6 : tie.Need-enum-told-6
 enum-told-6 c = search needs
 
--- src/arrival.rt:210:29
 enum-told-7 : tie.Need-enum-told-7
 enum-told-7 c = search needs
 
--- src/arrival.rt:180:5
 same-length : tie.Need-same-length
 same-length c = search needs
 
--- src/arrival.rt:180:5
 returns : tie.Need-returns
 unfolding arrived areaAfter
 returns c = rw (← c .before .before .before .before .before .before .before .judge .ensures, c .before .before .before .before .enum-told .given .1) (rw (c .before .before .keep .ensures .0), c .before .before .keep .ensures .1)
 
--- src/arrival.rt:180:5
 returns-2 : tie.Need-returns-2
 unfolding arrived areaAfter
 returns-2 c = rw (← c .before .before .before .before .judge .ensures, c .before .enum-told2 .given .1) (rw (c .note .ensures), refl)
 
--- src/arrival.rt:180:5
 returns-3 : tie.Need-returns-3
 unfolding arrived areaAfter
 returns-3 c = rw (← c .before .before .before .before .judge .ensures, c .before .enum-told3 .given .1) (rw (c .pass .ensures), refl)
 
--- src/arrival.rt:180:5
 returns-4 : tie.Need-returns-4
 unfolding arrived areaAfter
 returns-4 c = rw (← c .before .before .before .judge .ensures, c .enum-told4 .given .1) (refl, refl)
 
--- src/arrival.rt:180:5
 returns-5 : tie.Need-returns-5
 unfolding arrived areaAfter
 returns-5 c = rw (← c .before .before .before .judge .ensures, c .enum-told5 .given .1) (refl, refl)
 
--- src/arrival.rt:180:5
 returns-6 : tie.Need-returns-6
 unfolding arrived areaAfter
 returns-6 c = rw (← c .before .before .before .judge .ensures, c .enum-told6 .given .1) (refl, refl)
 
--- src/arrival.rt:180:5
 returns-7 : tie.Need-returns-7
 unfolding arrived areaAfter
 returns-7 c = rw (← c .before .before .before .judge .ensures, c .enum-told7 .given .1) (refl, refl)

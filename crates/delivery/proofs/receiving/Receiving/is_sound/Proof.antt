@@ -4,54 +4,37 @@ use Rattle.delivery.specs.Bounds.{isSound}
 use borrow.Author.Needs.{needs}
 use Rattle.delivery.proofs.receiving.Receiving.is_sound.Statement.{statement}
 use Rattle.delivery.proofs.receiving.Receiving.is_sound.Tie as tie
-use Rattle.delivery.proofs.receiving.Receiving.is_sound.Reads as reads
-use Rattle.delivery.proofs.receiving.Receiving.is_sound.Lts as lts
-use Rattle.delivery.proofs.bounds.has_twice.Reads as has-twice-reads
-use Rattle.delivery.proofs.bounds.has_unfit.Reads as has-unfit-reads
-use Rattle.delivery.proofs.receiving.low.Reads as low-reads
-use Rattle.numbers.proofs.keeping.Keeping.highest.Reads as highest-reads
-use Rattle.numbers.proofs.keeping.Keeping.within_bounds.Reads as within-bounds-reads
 
--- src/bounds.rt:116:13
 within-bounds-requires : tie.Need-within-bounds-requires
 within-bounds-requires c κs = search needs
 
--- src/bounds.rt:117:13
 returns : tie.Need-returns
 unfolding isSound lowOf
 returns c = rw (← c .before .within-bounds .ensures, c .if1 .taken)
 
--- src/bounds.rt:119:12
 has-unfit-requires : tie.Need-has-unfit-requires
 has-unfit-requires c κs = search needs
 
--- src/bounds.rt:120:13
 returns-2 : tie.Need-returns-2
 unfolding isSound lowOf
 returns-2 c = rw (← c .before .before .before .within-bounds .ensures, c .before .before .if1 .left, ← c .before .has-unfit .ensures, c .if2 .taken)
 
--- src/bounds.rt:122:27
 highest-requires : tie.Need-highest-requires
 highest-requires c κs = search needs
 
--- src/bounds.rt:122:47
 low-requires : tie.Need-low-requires
 low-requires c κs = search needs
 
--- src/bounds.rt:122:27
 add-if3 : tie.Need-add-if3
 add-if3 c = search needs
 
--- src/bounds.rt:123:13
 returns-3 : tie.Need-returns-3
 unfolding isSound lowOf
 returns-3 c = rw (← c .before .before .before .before .before .before .within-bounds .ensures, c .before .before .before .before .before .if1 .left, ← c .before .before .before .before .has-unfit .ensures, c .before .before .before .if2 .left, ← c .before .before .highest .ensures .0, ← c .before .low .ensures .0, lt-ltb _ _ (c .if3 .taken))
 
--- src/bounds.rt:126:10
 has-twice-requires : tie.Need-has-twice-requires
 has-twice-requires c κs = search needs
 
--- src/bounds.rt:111:5
 returns-4 : tie.Need-returns-4
 unfolding isSound lowOf
 returns-4 c = rw (← c .before .before .before .before .before .before .before .before .within-bounds .ensures, c .before .before .before .before .before .before .before .if1 .left, ← c .before .before .before .before .before .before .has-unfit .ensures, c .before .before .before .before .before .if2 .left, ← c .before .before .before .before .highest .ensures .0, ← c .before .before .before .low .ensures .0, le-ltb _ _ (c .before .before .if3 .left), c .has-twice .ensures)
