@@ -37,7 +37,6 @@ use Rattle.line.specs.Payloads.{lodged-fresh, lodged-from, genuine}
 -- the premises: a profile, half a circle, a first number on the line, a sender, and a sequence of events
 module _ (P : Profile) (h : ℕ) (t : Tsn) (some : 0 < t .0) (streams : ℕ) (area : List ℕ) (chunk : ℕ → Chunk) (payload : ℕ → List ℕ)
     (send : Sender P (t .0) streams chunk) (es : List Event) (fair : Fair P h (t .0) chunk payload streams (start line P t area) es) where
-
   -- the line receiver: how it begins, what it answers, and what it then has
   abbrev begun : Lent
   begun = start line P t area
