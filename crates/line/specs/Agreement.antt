@@ -3,8 +3,8 @@
 -- any finite sequence of arrivals, takes and acknowledgements, from a fresh record, with any lent area and outputs.
 -- Assumed are the sender's premises (`Sender`), any initial number, and that each chunk arrives less than half a circle from the point (`Fair`).
 -- Nothing bounds the length of the run or what is in flight. The circles are of any even size, wide enough for three times the places (`Wide`), and
--- the profile is any; the rail's circles of 2^32 and 2^16 are the instance at the end. The step from one event to the next (`Sequence`) asks only
--- that what is held is near (`Near`); that it stays near is shown for these premises, and others may show it by their own.
+-- the profile is any; the rail's circles of 2^32 and 2^16 are the instance at the end. That the circle agrees (`agree-along`) asks only that what is
+-- held is near, whatever the chunks are; that it stays near (`near-along`) is shown from these premises, and may be shown from others.
 use Prim.Native.Nat.{ℕ, _+_, _*_, _^_, _%_, _<_, _≤_}
 use mathlib.Core.Path.{_≡_, refl, sym, ap, _∙_}
 use mathlib.Core.List.{List, map}
@@ -31,7 +31,7 @@ use Rattle.line.specs.Sender.{Sender}
 use Rattle.line.specs.Agree.{fresh-law}
 use Rattle.line.specs.Sound.{Wide, near}
 use Rattle.line.specs.Arrives.{SoundOf, kept-once}
-use Rattle.line.specs.Sequence.{take-alike, agree-from, fresh-sound, fresh-next, sound-from, once-from, told-come, order-from, order-reduced, firsts-copies}
+use Rattle.line.specs.Sequence.{take-alike, agree-along, near-along, fresh-sound, fresh-next, sound-from, once-from, told-come, order-from, order-reduced, firsts-copies}
 use Rattle.line.specs.Payloads.{lodged-fresh, lodged-from, genuine}
 
 -- the premises: a profile, half a circle, a first number on the line, a sender, and a sequence of events
@@ -65,7 +65,7 @@ module _ (P : Profile) (h : ℕ) (t : Tsn) (some : 0 < t .0) (streams : ℕ) (ar
 
   -- each answer of the circle receiver is the line's, brought back onto the circle; and so is its record then, with the same area
   pub agrees : (k : ℕ) → Wide P h → Wide P k → (circleSaid k ≡ map (reduceAnswer n (k + k)) said) × (circleLast k ≡ reduceLent n (k + k) last)
-  agrees k wh wk = rw (fresh-law P h k t (omega arith) some) (agree-from payload send h k wh wk es begun sound fair)
+  agrees k wh wk = rw (fresh-law P h k t (omega arith) some) (agree-along P h k streams es begun (near-along payload send h k wh wk es begun sound fair))
 
   -- every number that a SACK then tells as come was given once or is held once, and no other was or is
   pub none-lost : (s : Sack) → turn line line P streams last sack .answer ≡ tells s

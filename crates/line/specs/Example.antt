@@ -120,7 +120,7 @@ fair = (
   ((first, omega arith, refl, refl, omega arith), ((first + 3, omega arith, refl, refl, omega arith), ((first + 3, omega arith, refl, refl, omega arith), tt))),
 )
 
--- as the C table has it
+-- a SACK, with its arrays as the host has them
 abbrev sackAt : ℕ → ℕ → Blocks → List Tsn → ℕ → Sack
 sackAt point window blocks dups n = record {
   point = record { 0 = point };
