@@ -6,7 +6,7 @@
 -- the profile is any; the rail's circles of 2^32 and 2^16 are the instance at the end. That the circle agrees (`agree-along`) asks only that what is
 -- held is near, whatever the chunks are; that it stays near (`near-along`) is shown from these premises, and may be shown from others.
 use Prim.Native.Nat.{ℕ, _+_, _*_, _^_, _%_, _<_, _≤_}
-use mathlib.Core.Path.{_≡_, refl, sym, ap, _∙_}
+use mathlib.Core.Path.{_≡_, refl, ap, _∙_}
 use mathlib.Core.List.{List, map}
 use mir.Val.{boolByte as bit}
 use native.Mathlib.Nat.{add-mod-right, mod-eq-of-lt}

@@ -26,7 +26,7 @@ use Rattle.octets.specs.Bytes.{laid}
 use Rattle.holding.specs.declared.held.Chunk.{Chunk}
 use Rattle.holding.specs.declared.taking.Message.{Message}
 use Rattle.holding.specs.declared.taking.Answer.the-variants.{Taken, Nothing, Short}
-use Rattle.holding.specs.Held.{holds}
+use Rattle.holding.specs.Held.{asHeld, holds}
 use Rattle.holding.specs.Message.{isOfOne, continues, follow, isLeftEnd, isExpected, opens, better, chosen}
 use Rattle.holding.specs.Taking.{advanced, took, written}
 use Rattle.delivery.specs.declared.arrival.Verdict.the-variants.{Kept, Duplicate}
@@ -35,6 +35,7 @@ use Rattle.delivery.specs.Receiving.{fresh, isLow, lowOf, taken}
 use Rattle.delivery.specs.Arrival as arrival
 use Rattle.delivery.specs.Arrival.{isRepeat, isWedged, isAgreed, judgementOf, verdictOf, noted, passed, arrived, areaAfter}
 use Rattle.delivery.specs.Acknowledging.{sackOf, told, acknowledged}
+use Rattle.line.specs.Reduce.{reduceSsn}
 use Rattle.line.specs.Sender.{Sender, starts, ordinal, ordinal-suc, ordinal-zero}
 use Rattle.line.specs.Runs.{Event, arrive, take, sack, judges, gives, tells, start, answers, reduceEvent, reduceAnswer, Fair}
 use Rattle.line.specs.Agreement.{rail-agrees}
@@ -161,3 +162,9 @@ circle-says = refl
 holds-here : answers (ring (2 ^ 32)) (ring (2 ^ 16)) rail 1 (start (ring (2 ^ 32)) rail (record { 0 = last }) area) (map (reduceEvent (2 ^ 32) (2 ^ 16)) events)
     ≡ map (reduceAnswer (2 ^ 32) (2 ^ 16)) (answers line line rail 1 (start line rail initial area) events)
 holds-here = rail-agrees last (omega arith) 1 area chunk payload honest events fair .0
+
+-- behind number 65,535 of a stream stands 65,536 on the line, and 0 on the circle
+ssn-returns : advanced (ring (2 ^ 16)) (record { 0 = 65535 } ∷ []) (asHeld (chunk first) 2)
+    ≡ map (reduceSsn (2 ^ 16)) (advanced line (record { 0 = 65535 } ∷ []) (asHeld (chunk first) 2))
+unfolding advanced on
+ssn-returns = refl
