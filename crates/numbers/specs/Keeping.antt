@@ -64,6 +64,7 @@ highestOf k = highest (k .come)
 unfoldable pub keepingSound : Profile → Keeping → Bool
 keepingSound P k = pick (getD (k .come) 0 false) false (leb (k .listed) (P .listed))
 
+-- the same, as two facts
 pub record Bounded (P : Profile) (k : Keeping) : Type 0 where
   pub first : getD (k .come) 0 false ≡ false
   pub few : k .listed ≤ P .listed

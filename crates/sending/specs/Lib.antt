@@ -1,0 +1,11 @@
+-- The sending side: its record, what is cut and waits, what goes into a packet, what a SACK and T3 do, its bounds; then the laws.
+pub mod Sending
+pub mod Carry
+pub mod HandIn
+pub mod HandInLaws
+pub mod Choose
+pub mod Acknowledge
+pub mod Expiry
+pub mod Bounds
+pub mod Laws
+pub mod ChooseLaws
