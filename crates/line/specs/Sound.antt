@@ -1,7 +1,6 @@
 -- What stays true of the line receiver of an honest sender: each number that has come is held once or gone, and never both; what is gone is
--- whole messages, in each stream the first ones; and nothing gone lies as many numbers as there are places, or more, above the least that is not. So what is held
--- is near.
--- Assumes nothing.
+-- whole messages, in each stream the first ones; and nothing gone lies above the least that is not by the number of places or more. So what is
+-- held is near. Assumes nothing.
 use Prim.Native.Nat.{ℕ, zero, suc, _+_, _-_, _*_, _<_, _≤_}
 use mathlib.Core.Path.{_≡_, refl, sym, ap, _∙_}
 use mathlib.Core.Bool.{Bool, true, false, not}
