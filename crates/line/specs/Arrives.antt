@@ -139,7 +139,7 @@ module _ {P : Profile} {base streams : ℕ} {chunk : ℕ → Chunk} {size : ℕ 
     copies' m =
         let a : bit (holds m (getD hs i noHeld)) ≡ 0 = ap bit (holds-unused m (getD hs i noHeld) empty) in
         let b : bit (holds m (asHeld (chunk n) (size n))) ≡ bit (eqb n m)
-        = ap bit (holds-eqb n m (asHeld (chunk n) (size n)) (holds-is n (asHeld (chunk n) (size n)) refl (send .number n))) in
+        = ap bit (holds-eqb n m (asHeld (chunk n) (size n)) (holds-is n (asHeld (chunk n) (size n)) refl (send .number n lb))) in
         omega (arith, copies-set hs i (asHeld (chunk n) (size n)) m here)
 
     once' : (m : ℕ) → copies hs' m + gone m ≡ bit (came base (p + run new) (shift (run new) new) m)
@@ -151,7 +151,7 @@ module _ {P : Profile} {base streams : ℕ} {chunk : ℕ → Chunk} {size : ℕ 
     unfolding below
     low' =
         let a : bit (isBelow (suc p) (getD hs i noHeld)) ≡ 0 = rw empty in
-        let c : suc p ≤ chunk n .tsn .0 = omega (arith, send .number n) in
+        let c : suc p ≤ chunk n .tsn .0 = omega (arith, send .number n lb) in
         let b : bit (isBelow (suc p) (asHeld (chunk n) (size n))) ≡ 0 = rw (le-ltb (chunk n .tsn .0) (suc p) c) in
         omega (arith, count-set (isBelow (suc p)) hs i (asHeld (chunk n) (size n)) here)
 
@@ -173,7 +173,7 @@ module _ {P : Profile} {base streams : ℕ} {chunk : ℕ → Chunk} {size : ℕ 
       held-long = length-set hs i (asHeld (chunk n) (size n)) ∙ s .held-long;
       come-long = length-shift (run new) new ∙ (length-set come (n - suc p) true ∙ s .come-long);
       next-long = s .next-long;
-      real = all-set (Real base chunk size) hs i (asHeld (chunk n) (size n)) (λ u. (omega (arith, send .number n), ap (λ (x : ℕ). asHeld (chunk x) (size x)) (sym (send .number n)))) (s .real);
+      real = all-set (Real base chunk size) hs i (asHeld (chunk n) (size n)) (λ u. (omega (arith, send .number n lb), ap (λ (x : ℕ). asHeld (chunk x) (size x)) (sym (send .number n lb)))) (s .real);
       start = omega (arith, s .start);
       once = once';
       room = room';
@@ -234,17 +234,17 @@ module _ {P : Profile} {base streams : ℕ} {chunk : ℕ → Chunk} {size : ℕ 
       let b = clear (isCome line (r .keeping) t) (any (holds t) (r .held)) (v .first) in
       let lt : pt < t = omega (arith, offset-line (r .keeping) t, o) in
       let f : getD (r .keeping .come) (n - suc pt) false ≡ false
-      = ap (λ (x : ℕ). getD (r .keeping .come) (x - suc pt) false) (sym (send .number n)) ∙ (sym (come-ahead (r .keeping) t lt) ∙ b) in
+      = ap (λ (x : ℕ). getD (r .keeping .come) (x - suc pt) false) (sym (send .number n lb)) ∙ (sym (come-ahead (r .keeping) t lt) ∙ b) in
       let fits : n - pt ≤ P .places - below (r .held) (suc pt)
-      = omega (arith, o, send .number n, offset-line (r .keeping) t, low-below send s (r .keeping) refl refl) in
-      go (marked-is P (r .keeping) t (o .0) (omega (arith, o))) (omega (arith, send .number n)) f fits (findFrom isFree 0 (r .held)) refl
+      = omega (arith, o, send .number n lb, offset-line (r .keeping) t, low-below send s (r .keeping) refl refl) in
+      go (marked-is P (r .keeping) t (o .0) (omega (arith, o))) (omega (arith, send .number n lb)) f fits (findFrom isFree 0 (r .held)) refl
     where
       clear : (x y : Bool) → pick x true y ≡ false → x ≡ false
       clear true y q = clash (sym q)
       clear false y q = refl
 
       q : offsetOf line (r .keeping) t - 1 ≡ n - suc pt
-      q = omega (arith, send .number n, offset-line (r .keeping) t)
+      q = omega (arith, send .number n lb, offset-line (r .keeping) t)
 
       come : List Bool
       come = set (r .keeping .come) (offsetOf line (r .keeping) t - 1) true

@@ -215,10 +215,10 @@ module _ {P : Profile} {base streams : ℕ} {chunk : ℕ → Chunk} (payload : �
     abbrev r : Receiving
     r = l .receiving
 
-    lodged-chunk : (n : ℕ) → length (r .held) ≡ P .places
+    lodged-chunk : (n : ℕ) → base ≤ n → length (r .held) ≡ P .places
         → Lodged P payload (areaAfter line P r (asHeld (chunk n) (length (payload n))) streams (l .area) (payload n)) (arrived line P r (asHeld (chunk n) (length (payload n))) streams .receiving .held)
     unfolding areaAfter arrived noted passed arrival.kept
-    lodged-chunk n long = go (verdictOf line P r x streams) refl
+    lodged-chunk n lb long = go (verdictOf line P r x streams) refl
       where
         x : Held
         x = asHeld (chunk n) (length (payload n))
@@ -227,7 +227,7 @@ module _ {P : Profile} {base streams : ℕ} {chunk : ℕ → Chunk} (payload : �
         go Kept e = place (findFrom isFree 0 (r .held)) refl (kept-coming line P r x streams e .0 .fits)
           where
             place : (f : Found) → findFrom isFree 0 (r .held) ≡ f → length (payload n) ≤ P .payload → Lodged P payload (stored P (l .area) (payload n) f) (keptIn line P r x f .held)
-            place (At i) q fits = lodged-put w i n (chunk n) (send .number n) (rw (zero-add (length (r .held))) at (find-within isFree (r .held) 0 i q)) long fits
+            place (At i) q fits = lodged-put w i n (chunk n) (send .number n lb) (rw (zero-add (length (r .held))) at (find-within isFree (r .held) 0 i q)) long fits
             place Nothing q fits = w
         go Empty e = w
         go Long e = w
@@ -236,11 +236,11 @@ module _ {P : Profile} {base streams : ℕ} {chunk : ℕ → Chunk} (payload : �
         go Far e = w
         go Stray e = w
 
-    lodged-arrive : (n : ℕ) (c : Chunk) (bytes : List ℕ) → c ≡ chunk n → bytes ≡ payload n → length (r .held) ≡ P .places
+    lodged-arrive : (n : ℕ) → base ≤ n → (c : Chunk) (bytes : List ℕ) → c ≡ chunk n → bytes ≡ payload n → length (r .held) ≡ P .places
         → LodgedOf (turn line line P streams l (arrive c bytes) .lent)
-    lodged-arrive n c bytes e b long =
+    lodged-arrive n lb c bytes e b long =
         subst (λ (x : Chunk). LodgedOf (turn line line P streams l (arrive x bytes) .lent)) (sym e)
-        (subst (λ (x : List ℕ). LodgedOf (turn line line P streams l (arrive (chunk n) x) .lent)) (sym b) (lodged-chunk n long))
+        (subst (λ (x : List ℕ). LodgedOf (turn line line P streams l (arrive (chunk n) x) .lent)) (sym b) (lodged-chunk n lb long))
 
     lodged-take : (out : List ℕ) → LodgedOf (turn line line P streams l (take out) .lent)
     unfolding taken took
@@ -265,7 +265,7 @@ module _ {P : Profile} {base streams : ℕ} {chunk : ℕ → Chunk} (payload : �
   lodged-from h (arrive c bytes ∷ es) l s w f =
       let x = f .0 in
       lodged-from h es (turn line line P streams l (arrive c bytes) .lent) (arrive-sound payload send (l .receiving) s (x .0) (x .1) c bytes (x .2) (x .3))
-      (lodged-arrive l w (x .0) c bytes (x .2) (x .3) (s .held-long)) (f .1)
+      (lodged-arrive l w (x .0) (x .1) c bytes (x .2) (x .3) (s .held-long)) (f .1)
   lodged-from h (take out ∷ es) l s w f =
       lodged-from h es (turn line line P streams l (take out) .lent) (taken-sound send (l .receiving) s (length out) .sound) (lodged-take l w out) f
   lodged-from h (sack ∷ es) l s w f = lodged-from h es (turn line line P streams l sack .lent) (acknowledged-sound (l .receiving) s) (lodged-sack l w) f

@@ -27,7 +27,7 @@ ordinal first chunk s (suc n) = ordinal first chunk s n + bit (starts first chun
 -- the premises on the sender; it has nothing else to keep
 pub record Sender (P : Profile) (first streams : ℕ) (chunk : ℕ → Chunk) : Type 0 where
   -- it numbers its chunks one after the other
-  pub number : (n : ℕ) → chunk n .tsn .0 ≡ n
+  pub number : (n : ℕ) → first ≤ n → chunk n .tsn .0 ≡ n
   -- it cuts whole messages: one begins at the first number and behind each end, and nowhere else
   pub begins : chunk first .begin ≡ true
   pub parts : (n : ℕ) → first ≤ n → chunk (suc n) .begin ≡ chunk n .end

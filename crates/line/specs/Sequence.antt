@@ -106,6 +106,22 @@ module _ (P : Profile) (h k streams : ℕ) where
   unfolding answers finally
   none-left l = (refl, refl)
 
+  -- along a run of the line receiver, from any record, what is held is near whenever it counts, and each chunk arrives near the point
+  abbrev pub NearAlong : Lent → List Event → Type 0
+  NearAlong l [] = Unit
+  NearAlong l (arrive c bytes ∷ es) =
+      Near h k (l .receiving) × Within h (l .receiving .keeping .point .0) (c .tsn .0) × NearAlong (turn line line P streams l (arrive c bytes) .lent) es
+  NearAlong l (take out ∷ es) = Near h k (l .receiving) × NearAlong (turn line line P streams l (take out) .lent) es
+  NearAlong l (sack ∷ es) = NearAlong (turn line line P streams l sack .lent) es
+
+  -- then the circle agrees, whatever the chunks are
+  pub agree-along : (es : List Event) (l : Lent) → NearAlong l es → Agrees l es
+  agree-along [] l w = none-left l
+  agree-along (arrive c bytes ∷ es) l w =
+      then l (arrive c bytes) es (arrive-alike l (w .0) c bytes (w .1)) (agree-along es (turn line line P streams l (arrive c bytes) .lent) (w .2))
+  agree-along (take out ∷ es) l w = then l (take out) es (take-alike l (w .0) out) (agree-along es (turn line line P streams l (take out) .lent) (w .1))
+  agree-along (sack ∷ es) l w = then l sack es (sack-alike l) (agree-along es (turn line line P streams l sack .lent) w)
+
 -- ---- the line receiver is sound
 
 none-copies : (k n : ℕ) → copies (replicate k noHeld) n ≡ 0
@@ -182,21 +198,18 @@ module _ {P : Profile} {base streams : ℕ} {chunk : ℕ → Chunk} (payload : �
       (subst (λ (x : List ℕ). SoundOf P base chunk size (arrived line P r (asHeld (chunk n) (length x)) streams .receiving) gone least) (sym b)
       (arrived-sound send r s n l))
 
+  -- under the premises what is held stays near
   module _ (h k : ℕ) (lh : Wide P h) (lk : Wide P k) where
-    pub agree-from : (es : List Event) (l : Lent) {gone : ℕ → ℕ} {least : ℕ} → SoundOf P base chunk size (l .receiving) gone least
-        → Fair P h base chunk payload streams l es → Agrees P h k streams l es
-    agree-from [] l s f = none-left P h k streams l
-    agree-from (arrive c bytes ∷ es) l s f =
+    pub near-along : (es : List Event) (l : Lent) {gone : ℕ → ℕ} {least : ℕ} → SoundOf P base chunk size (l .receiving) gone least
+        → Fair P h base chunk payload streams l es → NearAlong P h k streams l es
+    near-along [] l s f = tt
+    near-along (arrive c bytes ∷ es) l s f =
         let x = f .0 in
-        let e : c .tsn .0 ≡ x .0 = ap (λ (y : Chunk). y .tsn .0) (x .2) ∙ send .number (x .0) in
-        then P h k streams l (arrive c bytes) es (arrive-alike P h k streams l (near send s h k lh lk) c bytes (omega (arith, x .4)))
-        (agree-from es (turn line line P streams l (arrive c bytes) .lent) (arrive-sound (l .receiving) s (x .0) (x .1) c bytes (x .2) (x .3)) (f .1))
-    agree-from (take out ∷ es) l s f =
-        then P h k streams l (take out) es (take-alike P h k streams l (near send s h k lh lk) out)
-        (agree-from es (turn line line P streams l (take out) .lent) (taken-sound send (l .receiving) s (length out) .sound) f)
-    agree-from (sack ∷ es) l s f =
-        then P h k streams l sack es (sack-alike P h k streams l)
-        (agree-from es (turn line line P streams l sack .lent) (acknowledged-sound (l .receiving) s) f)
+        let e : c .tsn .0 ≡ x .0 = ap (λ (y : Chunk). y .tsn .0) (x .2) ∙ send .number (x .0) (x .1) in
+        (near send s h k lh lk, omega (arith, x .4), near-along es (turn line line P streams l (arrive c bytes) .lent) (arrive-sound (l .receiving) s (x .0) (x .1) c bytes (x .2) (x .3)) (f .1))
+    near-along (take out ∷ es) l s f =
+        (near send s h k lh lk, near-along es (turn line line P streams l (take out) .lent) (taken-sound send (l .receiving) s (length out) .sound) f)
+    near-along (sack ∷ es) l s f = near-along es (turn line line P streams l sack .lent) (acknowledged-sound (l .receiving) s) f
 
 -- ---- given once, and in order
 

@@ -1,6 +1,6 @@
 -- What stays true of the line receiver of an honest sender: each number that has come is held once or gone, and never both; what is gone is
--- whole messages, in each stream the first ones; and nothing gone is as many as the places or more above the least that is not. So what is held is near.
--- Assumes nothing.
+-- whole messages, in each stream the first ones; and nothing gone lies above the least that is not by the number of places or more. So what is
+-- held is near. Assumes nothing.
 use Prim.Native.Nat.{ℕ, zero, suc, _+_, _-_, _*_, _<_, _≤_}
 use mathlib.Core.Path.{_≡_, refl, sym, ap, _∙_}
 use mathlib.Core.Bool.{Bool, true, false, not}
@@ -83,9 +83,9 @@ pub record Sound (P : Profile) (base : ℕ) (chunk : ℕ → Chunk) (size : ℕ 
   pub start : base ≤ suc p
   -- each number that has come is held once or gone, and no other is
   pub once : (n : ℕ) → copies hs n + gone n ≡ bit (came base p come n)
-  -- the highest offset come, and the held that are not above the point, are at most as many as the places
+  -- the highest offset come, and the held that are not above the point, are no more than the places
   pub room : (d : ℕ) → getD come d false ≡ true → d + 1 + below hs (suc p) ≤ P .places
-  -- the least number that is not gone; nothing gone is as many as the places or more above it
+  -- the least number that is not gone; nothing gone lies above it by the number of places or more
   pub from : base ≤ least
   pub stays : gone least ≡ 0
   pub lower : (n : ℕ) → base ≤ n → n < least → gone n ≡ 1
@@ -97,7 +97,7 @@ pub record Sound (P : Profile) (base : ℕ) (chunk : ℕ → Chunk) (size : ℕ 
 
 module _ {P : Profile} {base streams : ℕ} {chunk : ℕ → Chunk} {size : ℕ → ℕ} {p : ℕ} {come : List Bool} {hs : List Held} {next : List Ssn} {gone : ℕ → ℕ} {least : ℕ}
     (send : Sender P base streams chunk) (s : Sound P base chunk size p come hs next gone least) where
-  -- a number that is held or gone lies from base to the as many as the placesth above the point
+  -- a number that is held or gone lies from base on, and above the point by no more than the places
   pub came-within : (n : ℕ) → 0 < bit (came base p come n) → (base ≤ n) × (n ≤ p + P .places)
   came-within n h = go (decLt n base) (decLe n p) (decLe n (p + P .places))
     where

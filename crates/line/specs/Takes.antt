@@ -176,7 +176,7 @@ module _ {P : Profile} {base streams : ℕ} {chunk : ℕ → Chunk} {size : ℕ 
       ssn = λ u. ap (λ (y : Held). y .ssn .0) is;
     }
 
-    -- where it is not whole, what is held is less than as many as the places above its beginning
+    -- where it is not whole, what is held lies above its beginning by less than the places
     lacks : least ≤ p → Lacks P base streams chunk size send hs (s .real) x least (P .places) → (n : ℕ) → 1 ≤ copies hs n → n < least + P .places
     lacks lp w n h = go (w .lack)
       where
@@ -355,7 +355,7 @@ module _ {P : Profile} {base streams : ℕ} {chunk : ℕ → Chunk} {size : ℕ 
     next-least = least-from gone' (suc (p + P .places) - least) least far-off
 
     module _ (l : Least gone' least) (first : (i : ℕ) (js : List ℕ) → i < length hs → Ready P hs next i js → f ≤ getD hs i noHeld .tsn .0) where
-      -- what was taken is less than as many as the places above what is now the least
+      -- what was taken lies above what is now the least by less than the places
       taken-upper : (n : ℕ) → inside f k n ≡ true → n < l .at + P .places
       taken-upper n e = go (decLt p least)
         where
