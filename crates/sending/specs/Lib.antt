@@ -6,3 +6,4 @@ pub mod HandInLaws
 pub mod Choose
 pub mod Acknowledge
 pub mod Expiry
+pub mod Bounds

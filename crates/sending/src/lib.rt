@@ -1,5 +1,6 @@
 // The sending side: messages are cut and wait, go out as flight and window allow, and are freed as the peer acknowledges them.
 pub mod acknowledging;
+pub mod bounds;
 pub mod choosing;
 pub mod cutting;
 pub mod expiring;
@@ -8,6 +9,7 @@ pub mod sending;
 pub use crate::acknowledging::Answer;
 pub use crate::acknowledging::acknowledge;
 pub use crate::acknowledging::shutdown_point;
+pub use crate::bounds::is_within;
 pub use crate::choosing::Chosen;
 pub use crate::choosing::choose;
 pub use crate::cutting::Handed;
