@@ -20,11 +20,14 @@ use Rattle.association.specs.declared.ends.Association.{Association}
 abbrev pub areStreams : ℕ → Bool
 areStreams n = pick (ltb n 1) false (leb n 128)
 
+abbrev pub lacksTag : Bool → ℕ → Bool
+lacksTag known tag = pick known (eqb tag 0) false
+
 -- outside CLOSED our tag is not 0, nor is the peer's once it is known
 unfoldable pub areEnds : Ends → Bool → Bool
 areEnds e known =
     pick (eqb (e .«my_tag») 0) false
-    (pick (pick known (eqb (e .«peer_tag») 0) false) false
+    (pick (lacksTag known (e .«peer_tag»)) false
     (pick (areStreams (e .«streams_in»)) (areStreams (e .«streams_out»)) false))
 
 -- "cookie 1 to 256 bytes"
@@ -46,4 +49,4 @@ isSound a =
     pick (not (withinTries (a .state))) false
     (pick (ltb 256 (a .cookie .len)) false
     (pick (not (isHead (a .state) (a .ends) (a .cookie))) false
-    (pick (not (receiver.isSound (ring (2 ^ 32)) rail (a .receiving))) false (sender.isSound railSizes rail (a .sending)))))
+    (pick (not (receiver.isSound (ring (2 ^ 32)) rail (a .receiving))) false (sender.isWithin railSizes rail (a .sending)))))

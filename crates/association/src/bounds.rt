@@ -5,7 +5,7 @@ use crate::ends::Ends;
 use numbers::Rail;
 use states::State;
 ghost use mathlib.Core.Path.{_≡_};
-ghost use Rattle.association.specs.Bounds.{areStreams, isEcho, areEnds, isHead, isSound};
+ghost use Rattle.association.specs.Bounds.{areStreams, lacksTag, isEcho, areEnds, isHead, isSound};
 
 fn are_streams(n: u16) -> bool
     ensures { λ r. ⌜ r ≡ areStreams n ⌝ }
@@ -16,6 +16,16 @@ fn are_streams(n: u16) -> bool
     (n as usize) <= Rail::STREAMS
 }
 
+// Whether a tag that is known is 0.
+fn lacks_tag(known: bool, tag: u32) -> bool
+    ensures { λ r. ⌜ r ≡ lacksTag known tag ⌝ }
+{
+    if known {
+        return tag == 0;
+    }
+    false
+}
+
 // Our tag, the peer's where it is `known`, and the streams.
 fn are_ends(e: Ends, known: bool) -> bool
     ensures { λ r. ⌜ r ≡ areEnds e known ⌝ }
@@ -23,10 +33,8 @@ fn are_ends(e: Ends, known: bool) -> bool
     if e.my_tag == 0 {
         return false;
     }
-    if known {
-        if e.peer_tag == 0 {
-            return false;
-        }
+    if lacks_tag(known, e.peer_tag) {
+        return false;
     }
     if are_streams(e.streams_in) {
         return are_streams(e.streams_out);
@@ -85,6 +93,6 @@ impl Association {
         if !receiving.is_sound() {
             return false;
         }
-        sending.is_sound()
+        sending::is_within(sending)
     }
 }
