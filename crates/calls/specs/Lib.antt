@@ -7,3 +7,9 @@ pub mod Opening
 pub mod Timers
 pub mod Closing
 pub mod Telling
+pub mod Messages
+pub mod Acknowledging
+pub mod AcknowledgingLaws
+pub mod Peek
+pub mod Transmit
+pub mod TransmitLaws

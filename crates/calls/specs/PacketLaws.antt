@@ -15,7 +15,7 @@ use Rattle.packets.specs.declared.header.Header.{Header}
 use Rattle.packets.specs.Header.{sealCount, sealBytes}
 use Rattle.calls.specs.Packet.{sentLength, sentOne, Sent}
 
-count-small : (n room : ℕ) → pick (ltb 65532 n) 0 (pick (ltb room n) 0 n) ≤ 65532
+pub count-small : (n room : ℕ) → pick (ltb 65532 n) 0 (pick (ltb room n) 0 n) ≤ 65532
 count-small n room = go (ltb 65532 n) refl (ltb room n)
   where
     go : (s : Bool) → ltb 65532 n ≡ s → (t : Bool) → pick s 0 (pick t 0 n) ≤ 65532

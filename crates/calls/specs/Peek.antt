@@ -9,8 +9,8 @@ use Rattle.packets.specs.Checks.{packetNumber}
 use Rattle.packets.specs.Header.{headerOf}
 use Rattle.chunks.specs.Frame.{partFrom}
 use Rattle.chunks.specs.InitChunk.{initOf}
-use Rattle.calls.specs.declared.peek.Peeked.{Peeked}
-use Rattle.calls.specs.declared.peek.Peeked.the-variants.{Refused, Nothing, Init, Echo}
+use Rattle.calls.specs.declared.peeking.Peeked.{Peeked}
+use Rattle.calls.specs.declared.peeking.Peeked.the-variants.{Refused, Nothing, Init, Echo}
 
 -- the number of document 01 for what was seen
 abbrev pub numberOf : Peeked → ℕ
