@@ -1,2 +1,3 @@
--- The record of an association, and what a fresh one is.
+-- The record of an association, what a fresh one is, and its bounds.
 pub mod Fresh
+pub mod Bounds

@@ -1,0 +1,52 @@
+-- Number 1, "record outside its bounds": "every limit above; offset 1 not come; highest offset come plus low at most 128; held TSNs distinct; flight
+-- equal to its sum; sent TSNs successive". What is received and what is sent have tests of their own; here is what stands beside them.
+use Prim.Native.Nat.{ℕ, _^_}
+use mathlib.Core.Bool.{Bool, true, false, not}
+use lib.Dec.{ltb, leb, eqb}
+use Rattle.scans.specs.Scan.{pick}
+use Rattle.numbers.specs.Numbering.{ring}
+use Rattle.numbers.specs.Profile.{rail}
+use Rattle.path.specs.Sizes.{railSizes}
+use Rattle.delivery.specs.Bounds as receiver
+use Rattle.sending.specs.Bounds as sender
+use Rattle.states.specs.declared.state.State.{State}
+use Rattle.states.specs.declared.state.State.the-variants.{Closed, CookieWait, CookieEchoed, Established, ShutdownPending, ShutdownSent, ShutdownReceived, ShutdownAckSent}
+use Rattle.states.specs.Tries.{withinTries}
+use Rattle.association.specs.declared.ends.Ends.{Ends}
+use Rattle.association.specs.declared.ends.Cookie.{Cookie}
+use Rattle.association.specs.declared.ends.Association.{Association}
+
+-- "128 streams each way at most", and at least one
+abbrev pub areStreams : ℕ → Bool
+areStreams n = pick (ltb n 1) false (leb n 128)
+
+abbrev pub lacksTag : Bool → ℕ → Bool
+lacksTag known tag = pick known (eqb tag 0) false
+
+-- outside CLOSED our tag is not 0, nor is the peer's once it is known
+unfoldable pub areEnds : Ends → Bool → Bool
+areEnds e known =
+    pick (eqb (e .«my_tag») 0) false
+    (pick (lacksTag known (e .«peer_tag»)) false
+    (pick (areStreams (e .«streams_in»)) (areStreams (e .«streams_out»)) false))
+
+-- "cookie 1 to 256 bytes"
+abbrev pub isEcho : Cookie → Bool
+isEcho c = pick (ltb (c .len) 1) false (leb (c .len) 256)
+
+abbrev pub isHead : State → Ends → Cookie → Bool
+isHead Closed e c = true
+isHead (CookieWait n) e c = areEnds e false
+isHead (CookieEchoed n) e c = pick (isEcho c) (areEnds e true) false
+isHead Established e c = areEnds e true
+isHead ShutdownPending e c = areEnds e true
+isHead (ShutdownSent n) e c = areEnds e true
+isHead ShutdownReceived e c = areEnds e true
+isHead (ShutdownAckSent n) e c = areEnds e true
+
+unfoldable pub isSound : Association → Bool
+isSound a =
+    pick (not (withinTries (a .state))) false
+    (pick (ltb 256 (a .cookie .len)) false
+    (pick (not (isHead (a .state) (a .ends) (a .cookie))) false
+    (pick (not (receiver.isSound (ring (2 ^ 32)) rail (a .receiving))) false (sender.isWithin railSizes rail (a .sending)))))

@@ -1,0 +1,98 @@
+// Number 1: the bounds of a record.
+use crate::ends::Association;
+use crate::ends::Cookie;
+use crate::ends::Ends;
+use numbers::Rail;
+use states::State;
+ghost use mathlib.Core.Path.{_≡_};
+ghost use Rattle.association.specs.Bounds.{areStreams, lacksTag, isEcho, areEnds, isHead, isSound};
+
+fn are_streams(n: u16) -> bool
+    ensures { λ r. ⌜ r ≡ areStreams n ⌝ }
+{
+    if n < 1 {
+        return false;
+    }
+    (n as usize) <= Rail::STREAMS
+}
+
+// Whether a tag that is known is 0.
+fn lacks_tag(known: bool, tag: u32) -> bool
+    ensures { λ r. ⌜ r ≡ lacksTag known tag ⌝ }
+{
+    if known {
+        return tag == 0;
+    }
+    false
+}
+
+// Our tag, the peer's where it is `known`, and the streams.
+fn are_ends(e: Ends, known: bool) -> bool
+    ensures { λ r. ⌜ r ≡ areEnds e known ⌝ }
+{
+    if e.my_tag == 0 {
+        return false;
+    }
+    if lacks_tag(known, e.peer_tag) {
+        return false;
+    }
+    if are_streams(e.streams_in) {
+        return are_streams(e.streams_out);
+    }
+    false
+}
+
+fn is_echo(c: Cookie) -> bool
+    ensures { λ r. ⌜ r ≡ isEcho c ⌝ }
+{
+    if c.len < 1 {
+        return false;
+    }
+    c.len <= 256
+}
+
+fn is_head(state: State, e: Ends, c: Cookie) -> bool
+    ensures { λ r. ⌜ r ≡ isHead state e c ⌝ }
+{
+    match state {
+        State::Closed => true,
+        State::CookieWait(_) => are_ends(e, false),
+        State::CookieEchoed(_) => {
+            if is_echo(c) {
+                return are_ends(e, true);
+            }
+            false
+        }
+        State::Established => are_ends(e, true),
+        State::ShutdownPending => are_ends(e, true),
+        State::ShutdownSent(_) => are_ends(e, true),
+        State::ShutdownReceived => are_ends(e, true),
+        State::ShutdownAckSent(_) => are_ends(e, true),
+    }
+}
+
+impl Association {
+    // Whether the record is within its bounds.
+    pub fn is_sound(self) -> bool
+        ensures { λ r. ⌜ r ≡ isSound self ⌝ }
+    {
+        let state = self.state;
+        let ends = self.ends;
+        let cookie = self.cookie;
+        let receiving = self.receiving;
+        let sending = self.sending;
+        if !state.within_tries() {
+            return false;
+        }
+        if 256 < cookie.len {
+            return false;
+        }
+        if !is_head(state, ends, cookie) {
+            return false;
+        }
+        if !receiving.is_sound() {
+            return false;
+        }
+        sending::is_within(sending)
+    }
+}

@@ -1,0 +1,52 @@
+-- "SACK: … Only the host's call builds it, where DATA is read."
+use Prim.Native.Nat.{ℕ}
+use mathlib.Core.List.{List}
+use lib.Dec.{eqb}
+use lib.ListN.{replicate}
+use Rattle.scans.specs.Scan.{pick}
+use Rattle.numbers.specs.Profile.{rail}
+use Rattle.chunks.specs.declared.sack.Sack.{Sack}
+use Rattle.chunks.specs.SackChunk.{sackBytes}
+use Rattle.delivery.specs.declared.acknowledging.Sack as receiver
+use Rattle.delivery.specs.declared.acknowledging.Acknowledged as told
+use Rattle.delivery.specs.Acknowledging as receiving
+use Rattle.states.specs.declared.calls.Call.the-variants.{Acknowledge}
+use Rattle.association.specs.declared.ends.Association.{Association}
+use Rattle.association.specs.Fresh.{withReceiving}
+use Rattle.calls.specs.declared.acknowledging.Acknowledged.{Acknowledged}
+use Rattle.calls.specs.Packet.{toPeer, sentLength, sentOne}
+use Rattle.calls.specs.Answer.{isShortOut, barred}
+
+-- what the receiving side says, as a chunk's values
+abbrev pub chunkOf : receiver.Sack → Sack
+chunkOf k = record { point = k .point; window = k .window; blocks = k .blocks; dups = k .dups; listed = k .listed }
+
+abbrev pub noSack : Sack
+noSack = record {
+  point = record { 0 = 0 };
+  window = 0;
+  blocks = record { count = 0; starts = replicate 64 0; ends = replicate 64 0 };
+  dups = replicate 16 (record { 0 = 0 });
+  listed = 0;
+}
+
+-- the values beside the packet; the duplicates are told
+abbrev pub acknowledgedAs : Association → told.Acknowledged → List ℕ → Acknowledged
+acknowledgedAs a k out = record {
+  number = 0;
+  length = sentLength (sackBytes rail (chunkOf (k .sack))) out;
+  sack = chunkOf (k .sack);
+  association = withReceiving a (k .receiving);
+}
+
+unfoldable pub acknowledged : Association → List ℕ → Acknowledged
+acknowledged a out =
+    pick (eqb (barred a (isShortOut out) Acknowledge) 0)
+    (acknowledgedAs a (receiving.acknowledged rail (a .receiving)) out)
+    (record { number = barred a (isShortOut out) Acknowledge; length = 0; sack = noSack; association = a })
+
+unfoldable pub acknowledgedOut : Association → List ℕ → List ℕ
+acknowledgedOut a out =
+    pick (eqb (barred a (isShortOut out) Acknowledge) 0)
+    (sentOne (toPeer (a .ends)) (sackBytes rail (chunkOf (receiving.acknowledged rail (a .receiving) .sack))) out)
+    out

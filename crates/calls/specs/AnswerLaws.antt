@@ -1,0 +1,95 @@
+-- What a call has to show. Assumes nothing.
+use Prim.Native.Nat.{ℕ, _≤_}
+use mathlib.Core.Path.{_≡_, refl, sym, ap, _∙_}
+use mathlib.Core.Bool.{Bool, true, false}
+use mathlib.Core.List.{List, []}
+use native.Mathlib.Omega.{arith}
+use borrow.Author.Tests.{ltb-false, eqb-true, eq-eqb, ne-eqb}
+use lib.Dec.{ltb, eqb}
+use lib.ListN.{length}
+use Rattle.scans.specs.Scan.{pick}
+use Rattle.packets.specs.declared.header.Header.{Header}
+use Rattle.states.specs.declared.state.State.the-variants.{Closed}
+use Rattle.states.specs.declared.calls.Call.{Call}
+use Rattle.states.specs.Calls.{permitted}
+use Rattle.association.specs.declared.ends.Association.{Association}
+use Rattle.association.specs.Fresh.{withState}
+use Rattle.association.specs.Bounds.{isSound}
+use Rattle.calls.specs.declared.answer.Answer.{Answer}
+use Rattle.calls.specs.Packet.{Sent}
+use Rattle.calls.specs.Answer.{isShortOut, barred, earlier, Plan, refusing, quietly, carrying, ending, unless, answerOf, outOf, Done, Kept}
+
+-- a call that is let in has its buffers
+pub let-in : (a : Association) (short : Bool) (call : Call) → barred a short call ≡ 0 → short ≡ false
+unfolding barred
+let-in a short call e = go (isSound a) short (permitted call (a .state)) e
+  where
+    go : (s t p : Bool) → _≡_ {A = ℕ} (pick s (pick t 18 (pick p 0 7)) 1) 0 → t ≡ false
+    go true true p h = absurd (omega (arith, h))
+    go true false p h = refl
+    go false t p h = absurd (omega (arith, h))
+
+pub roomy : (a : Association) (out : List ℕ) (call : Call) {n : ℕ} → n ≡ barred a (isShortOut out) call → n ≡ 0 → 12 ≤ length out
+roomy a out call e z = omega (arith, ltb-false (length out) 1472 (let-in a (isShortOut out) call (sym e ∙ z)))
+
+pub earlier-none : (m n : ℕ) → earlier m n ≡ 0 → m ≡ 0
+earlier-none m n = go (eqb m 0) refl
+  where
+    go : (t : Bool) → eqb m 0 ≡ t → pick t n m ≡ 0 → m ≡ 0
+    go true e h = eqb-true m 0 e
+    go false e h = h
+
+-- ---- the ways to end
+
+pub record Refused (a : Association) (n : ℕ) (r : Answer) : Type 0 where
+  pub is : r ≡ record { number = n; length = 0; over = false; association = a }
+
+-- n bytes were sent
+pub record Told (a : Association) (n : ℕ) (r : Answer) : Type 0 where
+  pub is : r ≡ record { number = 0; length = n; over = false; association = a }
+
+pub record Over (a : Association) (r : Answer) : Type 0 where
+  pub is : r ≡ record { number = 0; length = 0; over = true; association = withState a Closed }
+
+pub told-as : {a b : Association} {n : ℕ} {r : Answer} → b ≡ a → Told b n r → Told a n r
+told-as {n = n} e t = record { is = t .is ∙ (λ i. record { number = 0; length = n; over = false; association = e i }) }
+
+module _ {out : List ℕ} (a : Association) {r : Answer} where
+  pub done-quiet : Told a 0 r → Done (quietly a) out r out
+  unfolding answerOf outOf
+  done-quiet t = record { answer = t .is; bytes = refl }
+
+  pub done-over : Over a r → Done (ending a) out r out
+  unfolding answerOf outOf
+  done-over t = record { answer = t .is; bytes = refl }
+
+  pub done-sent : {exit : List ℕ} {h : Header} {bs : List ℕ} {n : ℕ} → Sent h bs out n exit → Told a n r → Done (carrying a h bs) out r exit
+  unfolding answerOf outOf
+  done-sent s t = record { answer = rw (← s .count) (t .is); bytes = s .bytes }
+
+  module _ {n : ℕ} (p : Plan) where
+    pub done-refused : {m : ℕ} → m ≡ n → (m ≡ 0 → ⊥) → Refused a m r → Done (unless n a p) out r out
+    unfolding answerOf outOf
+    done-refused {m} e ne t = rw (← e, ne-eqb m 0 ne) (record { answer = t .is; bytes = refl })
+
+    pub done-so : {m : ℕ} {exit : List ℕ} → m ≡ n → m ≡ 0 → Done p out r exit → Done (unless n a p) out r exit
+    done-so {m} e z d = rw (← e, eq-eqb m 0 z) d
+
+-- the same with no output
+module _ (a : Association) {r : Answer} where
+  pub kept-quiet : Told a 0 r → Kept (quietly a) r
+  kept-quiet t = record { answer = done-quiet {out = []} a t .answer }
+
+  pub kept-over : Over a r → Kept (ending a) r
+  kept-over t = record { answer = done-over {out = []} a t .answer }
+
+  pub kept-refusing : {n : ℕ} → Refused a n r → Kept (refusing a n) r
+  unfolding answerOf
+  kept-refusing t = record { answer = t .is }
+
+  module _ {n : ℕ} (p : Plan) where
+    pub kept-refused : {m : ℕ} → m ≡ n → (m ≡ 0 → ⊥) → Refused a m r → Kept (unless n a p) r
+    kept-refused e ne t = record { answer = done-refused {out = []} a p e ne t .answer }
+
+    pub kept-so : {m : ℕ} → m ≡ n → m ≡ 0 → Kept p r → Kept (unless n a p) r
+    kept-so {m} e z d = rw (← e, eq-eqb m 0 z) d

@@ -1,0 +1,50 @@
+-- The host closes (RFC 9260 section 9).
+use Prim.Native.Nat.{ℕ}
+use mathlib.Core.List.{List}
+use Rattle.scans.specs.Scan.{pick}
+use Rattle.chunks.specs.declared.cause.Cause.{Cause}
+use Rattle.chunks.specs.declared.cause.Cause.the-variants.{NoUserData, UserAbort, ProtocolViolation}
+use Rattle.chunks.specs.Cause.{caused, code, information}
+use Rattle.chunks.specs.Frame.{framed}
+use Rattle.sending.specs.Sending.{isBare}
+use Rattle.states.specs.declared.state.State.{State}
+use Rattle.states.specs.declared.state.State.the-variants.{Closed, CookieWait, CookieEchoed, Established, ShutdownPending, ShutdownSent, ShutdownReceived, ShutdownAckSent}
+use Rattle.states.specs.declared.calls.Call.the-variants.{Shutdown, Abort}
+use Rattle.association.specs.declared.ends.Association.{Association}
+use Rattle.association.specs.Fresh.{withState}
+use Rattle.calls.specs.declared.closing.Reason.{Reason}
+use Rattle.calls.specs.declared.closing.Reason.the-variants.{User, NoData, Violation}
+use Rattle.calls.specs.Packet.{toPeer}
+use Rattle.calls.specs.Answer.{isShortOut, barred, Plan, quietly, carrying, unless}
+use Rattle.calls.specs.Timers.{shutdownBytes}
+
+-- section 9.2: SHUTDOWN goes out once nothing is left to send
+unfoldable pub shutting : Association → List ℕ → Plan
+shutting a out =
+    unless (barred a (isShortOut out) Shutdown) a
+    (pick (isBare (a .sending))
+    (carrying (withState a (ShutdownSent 0)) (toPeer (a .ends)) (shutdownBytes a))
+    (quietly (withState a ShutdownPending)))
+
+-- "9 calls for ABORT with cause 9, 12 and 16 with cause 13"; the user's own has cause 12
+abbrev pub causeOf : Reason → Cause
+causeOf User = UserAbort
+causeOf (NoData t) = NoUserData t
+causeOf Violation = ProtocolViolation
+
+abbrev pub abortBytes : Reason → List ℕ
+abortBytes why = framed 6 0 (caused (code (causeOf why)) (information (causeOf why)))
+
+-- section 9.1: in COOKIE-WAIT no tag of the peer is known, and nothing goes out
+abbrev pub aborted : State → Association → Reason → Plan
+aborted (CookieWait n) a why = quietly (withState a Closed)
+aborted Closed a why = carrying (withState a Closed) (toPeer (a .ends)) (abortBytes why)
+aborted (CookieEchoed n) a why = carrying (withState a Closed) (toPeer (a .ends)) (abortBytes why)
+aborted Established a why = carrying (withState a Closed) (toPeer (a .ends)) (abortBytes why)
+aborted ShutdownPending a why = carrying (withState a Closed) (toPeer (a .ends)) (abortBytes why)
+aborted (ShutdownSent n) a why = carrying (withState a Closed) (toPeer (a .ends)) (abortBytes why)
+aborted ShutdownReceived a why = carrying (withState a Closed) (toPeer (a .ends)) (abortBytes why)
+aborted (ShutdownAckSent n) a why = carrying (withState a Closed) (toPeer (a .ends)) (abortBytes why)
+
+unfoldable pub aborting : Association → Reason → List ℕ → Plan
+aborting a why out = unless (barred a (isShortOut out) Abort) a (aborted (a .state) a why)

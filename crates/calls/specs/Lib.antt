@@ -1,0 +1,15 @@
+-- The calls of the host, but the arrival of a packet.
+pub mod Packet
+pub mod PacketLaws
+pub mod Answer
+pub mod AnswerLaws
+pub mod Opening
+pub mod Timers
+pub mod Closing
+pub mod Telling
+pub mod Messages
+pub mod Acknowledging
+pub mod AcknowledgingLaws
+pub mod Peek
+pub mod Transmit
+pub mod TransmitLaws

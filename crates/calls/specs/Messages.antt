@@ -1,0 +1,78 @@
+-- Messages: "handed in in ESTABLISHED, … taken in any state".
+use Prim.Native.Nat.{ℕ, _^_}
+use mathlib.Core.Bool.{Bool, false}
+use mathlib.Core.List.{List}
+use lib.Dec.{eqb}
+use lib.ListN.{length}
+use Rattle.scans.specs.Scan.{pick}
+use Rattle.numbers.specs.declared.circle.StreamId.{StreamId}
+use Rattle.numbers.specs.Numbering.{ring}
+use Rattle.numbers.specs.Profile.{rail}
+use Rattle.holding.specs.declared.taking.Message.{Message}
+use Rattle.holding.specs.declared.taking.Answer as took
+use Rattle.holding.specs.declared.taking.Answer.the-variants.{Taken, Nothing, Short}
+use Rattle.holding.specs.Taking.{written}
+use Rattle.delivery.specs.declared.receiving.Taken as receiver
+use Rattle.delivery.specs.Receiving.{taken}
+use Rattle.sending.specs.declared.cutting.Handed.{Handed}
+use Rattle.sending.specs.HandIn as sender
+use Rattle.states.specs.declared.calls.Call.the-variants.{HandIn}
+use Rattle.association.specs.declared.ends.Association.{Association}
+use Rattle.association.specs.Fresh.{withReceiving, withSending}
+use Rattle.association.specs.Bounds.{isSound}
+use Rattle.calls.specs.declared.messages.HandedIn.{HandedIn}
+use Rattle.calls.specs.declared.messages.Delivered.{Delivered}
+use Rattle.calls.specs.Answer.{isShortArea, barred}
+
+-- ---- handing in
+
+-- 19 and 20 are the sending side's
+abbrev pub handing : Association → ℕ → StreamId → Bool → ℕ → Handed
+handing a len stream unordered ppid = sender.handedIn rail (a .sending) len stream unordered ppid (a .ends .«streams_out»)
+
+abbrev pub handedAs : Association → Handed → HandedIn
+handedAs a h = record { number = h .number; chunks = h .chunks; association = withSending a (h .sending) }
+
+unfoldable pub handedIn : Association → List ℕ → ℕ → StreamId → Bool → ℕ → HandedIn
+handedIn a area len stream unordered ppid =
+    pick (eqb (barred a (isShortArea area) HandIn) 0)
+    (handedAs a (handing a len stream unordered ppid))
+    (record { number = barred a (isShortArea area) HandIn; chunks = 0; association = a })
+
+unfoldable pub handedArea : Association → List ℕ → List ℕ → StreamId → List ℕ
+handedArea a area message stream =
+    pick (eqb (barred a (isShortArea area) HandIn) 0)
+    (sender.areaAfter rail (a .sending) area message stream (a .ends .«streams_out»))
+    area
+
+-- ---- taking
+
+-- nothing is given; n is the length needed, if one is
+abbrev pub undelivered : Association → ℕ → ℕ → Delivered
+undelivered a number n = record {
+  number = number;
+  message = record { length = n; stream = record { 0 = 0 }; unordered = false; ssn = record { 0 = 0 }; ppid = 0 };
+  association = a;
+}
+
+-- 17 "nothing to take"; "A take with a short buffer answers 18 with the length needed; 17 comes before that"
+abbrev pub deliveredAs : took.Answer → Association → Delivered
+deliveredAs (Taken m) a = record { number = 0; message = m; association = a }
+deliveredAs Nothing a = undelivered a 17 0
+deliveredAs (Short n) a = undelivered a 18 n
+
+abbrev pub taking : Association → ℕ → receiver.Taken
+taking a room = taken (ring (2 ^ 32)) (ring (2 ^ 16)) rail (a .receiving) room
+
+unfoldable pub delivered : Association → List ℕ → ℕ → Delivered
+delivered a area room =
+    pick (isSound a)
+    (pick (isShortArea area) (undelivered a 18 0) (deliveredAs (taking a room .answer) (withReceiving a (taking a room .receiving))))
+    (undelivered a 1 0)
+
+unfoldable pub deliveredOut : Association → List ℕ → List ℕ → List ℕ
+deliveredOut a area out =
+    pick (isSound a)
+    (pick (isShortArea area) out
+    (written (ring (2 ^ 32)) rail (a .receiving .held) (a .receiving .next) (a .receiving .keeping .point .0) area out))
+    out

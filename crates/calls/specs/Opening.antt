@@ -1,0 +1,56 @@
+-- Our own INIT (RFC 9260 section 5.1 A).
+use Prim.Native.Nat.{ℕ}
+use mathlib.Core.List.{List}
+use lib.Dec.{ltb, eqb}
+use Rattle.scans.specs.Scan.{pick}
+use Rattle.scans.specs.Upto.{smaller}
+use Rattle.numbers.specs.declared.circle.Tsn.{Tsn}
+use Rattle.chunks.specs.declared.init.Init.{Init}
+use Rattle.chunks.specs.InitChunk.{initFields}
+use Rattle.chunks.specs.Frame.{framed}
+use Rattle.states.specs.declared.state.State.the-variants.{CookieWait}
+use Rattle.states.specs.declared.calls.Call.the-variants.{Associate}
+use Rattle.association.specs.declared.ends.Association.{Association}
+use Rattle.association.specs.declared.ends.Ends.{Ends}
+use Rattle.association.specs.Fresh.{started}
+use Rattle.calls.specs.Packet.{headOf}
+use Rattle.calls.specs.Answer.{isShortOut, barred, earlier, Plan, carrying, unless}
+
+-- the INIT of a record: every place free, the streams wanted, the next TSN
+abbrev pub initOf : Association → Init
+initOf a = record {
+  tag = a .ends .«my_tag»;
+  window = 65536;
+  outs = a .ends .«streams_out»;
+  ins = 128;
+  tsn = a .sending .«next_tsn»;
+}
+
+abbrev pub initBytes : Association → List ℕ
+initBytes a = framed 1 0 (initFields (initOf a))
+
+-- "our own INIT, starts from a fresh record": the peer's tag and first number are not known yet; "128 streams each way at most"
+unfoldable pub wanting : Association → ℕ → Tsn → ℕ → ℕ → Association
+wanting a tag tsn port streams =
+    started (CookieWait 0)
+    (record {
+      «local_port» = a .ends .«local_port»;
+      «peer_port» = port;
+      «my_tag» = tag;
+      «peer_tag» = 0;
+      «streams_in» = 128;
+      «streams_out» = smaller streams 128;
+    })
+    tsn
+    0
+    (record { 0 = 1 })
+
+-- 4 "port", which section 3.1 wants not to be 0; 8 "INIT …: tag 0, no streams"
+unfoldable pub associateRefusal : ℕ → ℕ → ℕ → ℕ
+associateRefusal tag port streams = pick (eqb port 0) 4 (pick (eqb tag 0) 8 (pick (eqb streams 0) 8 0))
+
+-- "INIT has tag 0"
+unfoldable pub associating : Association → ℕ → Tsn → ℕ → ℕ → List ℕ → Plan
+associating a tag tsn port streams out =
+    unless (earlier (barred a (isShortOut out) Associate) (associateRefusal tag port streams)) a
+    (carrying (wanting a tag tsn port streams) (headOf (wanting a tag tsn port streams .ends) 0) (initBytes (wanting a tag tsn port streams)))

@@ -1,0 +1,34 @@
+-- A packet is looked at before it arrives: the host makes a cookie for an INIT, and judges an echoed one.
+use Prim.Native.Nat.{ℕ, _+_}
+use mathlib.Core.List.{List}
+use lib.Dec.{eqb}
+use lib.ListN.{length, take, drop}
+use Rattle.scans.specs.Scan.{pick}
+use Rattle.octets.specs.Bytes.{u8}
+use Rattle.packets.specs.Checks.{packetNumber}
+use Rattle.packets.specs.Header.{headerOf}
+use Rattle.chunks.specs.Frame.{partFrom}
+use Rattle.chunks.specs.InitChunk.{initOf}
+use Rattle.calls.specs.declared.peeking.Peeked.{Peeked}
+use Rattle.calls.specs.declared.peeking.Peeked.the-variants.{Refused, Nothing, Init, Echo}
+
+-- the number of document 01 for what was seen
+abbrev pub numberOf : Peeked → ℕ
+numberOf (Refused n) = n
+numberOf Nothing = 0
+numberOf (Init v source) = 0
+numberOf (Echo at len) = 0
+
+-- the packet from its first chunk on
+abbrev pub firstChunk : List ℕ → List ℕ
+firstChunk packet = take (length packet) (drop 12 packet)
+
+-- an INIT with the port that it came from; where the cookie of a COOKIE ECHO stands
+unfoldable pub seen : List ℕ → List ℕ → Peeked
+seen packet s =
+    pick (eqb (u8 s 0) 1) (Init (initOf s) (headerOf packet .source))
+    (pick (eqb (u8 s 0) 10) (Echo (12 + partFrom 4 s .at) (partFrom 4 s .len)) Nothing)
+
+-- 2, 3, 5, 6 come first
+unfoldable pub peeked : List ℕ → Peeked
+peeked packet = pick (eqb (packetNumber packet) 0) (seen packet (firstChunk packet)) (Refused (packetNumber packet))

@@ -1,0 +1,31 @@
+-- ERROR and HEARTBEAT, which leave the record as it is.
+use Prim.Native.Nat.{ℕ}
+use mathlib.Core.List.{List}
+use Rattle.numbers.specs.declared.circle.StreamId.{StreamId}
+use Rattle.packets.specs.declared.header.Header.{Header}
+use Rattle.chunks.specs.declared.cause.Cause.{Cause}
+use Rattle.chunks.specs.declared.cause.Cause.the-variants.{InvalidStream, StaleCookie}
+use Rattle.chunks.specs.Cause.{caused, code, information}
+use Rattle.chunks.specs.Frame.{framed}
+use Rattle.chunks.specs.HeartbeatChunk.{heartbeatBytes}
+use Rattle.states.specs.declared.calls.Call.the-variants.{Acknowledge, TellStale, Heartbeat}
+use Rattle.association.specs.declared.ends.Association.{Association}
+use Rattle.calls.specs.Packet.{toPeer}
+use Rattle.calls.specs.Answer.{isShortOut, barred, Plan, carrying, unless}
+
+abbrev pub errorBytes : Cause → List ℕ
+errorBytes c = framed 9 0 (caused (code c) (information c))
+
+-- "14 for ERROR with cause 1"
+unfoldable pub tellingStream : Association → StreamId → List ℕ → Plan
+tellingStream a stream out = unless (barred a (isShortOut out) Acknowledge) a (carrying a (toPeer (a .ends)) (errorBytes (InvalidStream stream)))
+
+-- "a stale 27 with cause 3", to the port and tag of the cookie's peer
+unfoldable pub tellingStale : Association → ℕ → ℕ → ℕ → List ℕ → Plan
+tellingStale a port tag late out =
+    unless (barred a (isShortOut out) TellStale) a
+    (carrying a (record { source = a .ends .«local_port»; destination = port; tag = tag }) (errorBytes (StaleCookie late)))
+
+-- section 8.3, with a value of the host
+unfoldable pub beating : Association → List ℕ → List ℕ → Plan
+beating a value out = unless (barred a (isShortOut out) Heartbeat) a (carrying a (toPeer (a .ends)) (heartbeatBytes value))

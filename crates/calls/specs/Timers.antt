@@ -1,0 +1,66 @@
+-- T1, T2, T3 and a measured round trip: "Tries: 8 for T1, 10 for T2 and T3; the next expiry closes and reports".
+use Prim.Native.Nat.{ℕ}
+use mathlib.Core.Bool.{Bool, true, false}
+use mathlib.Core.List.{List, []}
+use lib.Dec.{eqb}
+use lib.ListN.{take, drop}
+use Rattle.scans.specs.Scan.{pick}
+use Rattle.path.specs.Sizes.{railSizes}
+use Rattle.octets.specs.Bytes.{be32}
+use Rattle.chunks.specs.Frame.{framed}
+use Rattle.chunks.specs.CookieChunk.{cookieEchoBytes}
+use Rattle.sending.specs.declared.expiring.Expiry.{Expiry}
+use Rattle.sending.specs.Sending.{doubled, sampled}
+use Rattle.sending.specs.Expiry.{expired}
+use Rattle.states.specs.declared.state.State.{State}
+use Rattle.states.specs.declared.state.State.the-variants.{Closed, CookieWait, CookieEchoed, Established, ShutdownPending, ShutdownSent, ShutdownReceived, ShutdownAckSent}
+use Rattle.states.specs.declared.calls.Call.{Call}
+use Rattle.states.specs.declared.calls.Call.the-variants.{ThirdTimer, Sample}
+use Rattle.states.specs.Tries.{triedAgain, isClosed}
+use Rattle.association.specs.declared.ends.Association.{Association}
+use Rattle.association.specs.declared.ends.Cookie.{Cookie}
+use Rattle.association.specs.Fresh.{withState, withSending}
+use Rattle.calls.specs.Packet.{headOf, toPeer}
+use Rattle.calls.specs.Answer.{isShortOut, barred, Plan, refusing, quietly, carrying, ending, unless}
+use Rattle.calls.specs.Opening.{initBytes}
+
+-- the cookie that is kept
+abbrev pub cookieOf : Cookie → List ℕ
+cookieOf c = take (c .len) (drop 0 (c .bytes))
+
+-- SHUTDOWN with the point as it is now
+abbrev pub shutdownBytes : Association → List ℕ
+shutdownBytes a = framed 7 0 (be32 (a .receiving .keeping .point .0))
+
+-- what a state waits for is asked again (sections 5.1 and 9.2)
+abbrev pub repeating : State → Association → Plan
+repeating (CookieWait n) a = carrying a (headOf (a .ends) 0) (initBytes a)
+repeating (CookieEchoed n) a = carrying a (toPeer (a .ends)) (cookieEchoBytes (cookieOf (a .cookie)))
+repeating (ShutdownSent n) a = carrying a (toPeer (a .ends)) (shutdownBytes a)
+repeating (ShutdownAckSent n) a = carrying a (toPeer (a .ends)) (framed 8 0 [])
+repeating Closed a = quietly a
+repeating Established a = quietly a
+repeating ShutdownPending a = quietly a
+repeating ShutdownReceived a = quietly a
+
+-- one try more, and RTO doubled as T3 does (sections 5.1.6 and 9.2 follow 6.3)
+unfoldable pub backedOff : Association → State → Association
+backedOff a s = withSending (withState a s) (doubled railSizes (a .sending))
+
+unfoldable pub triedTo : Association → State → Plan
+triedTo a s = pick (isClosed s) (ending a) (repeating s (backedOff a s))
+
+-- T1 and T2 alike
+unfoldable pub expiring : Association → Call → List ℕ → Plan
+expiring a call out = unless (barred a (isShortOut out) call) a (triedTo a (triedAgain (a .state)))
+
+-- T3: "with nothing outstanding it is answered 7"
+abbrev pub overdue : Association → Expiry → Plan
+overdue a e = pick (eqb (e .number) 0) (pick (e .over) (ending a) (quietly (withSending a (e .sending)))) (refusing a (e .number))
+
+unfoldable pub expiringThird : Association → Plan
+expiringThird a = unless (barred a false ThirdTimer) a (overdue a (expired railSizes (a .sending)))
+
+-- a round trip of so many milliseconds
+unfoldable pub sampling : Association → ℕ → Plan
+sampling a sample = unless (barred a false Sample) a (quietly (withSending a (sampled railSizes (a .sending) sample)))

@@ -1,0 +1,84 @@
+-- One packet of DATA chunks: "One call fills one packet, or answers length 0".
+use Prim.Native.Nat.{ℕ, _+_, _*_}
+use mathlib.Core.Bool.{Bool, true, false}
+use mathlib.Core.List.{List}
+use lib.Dec.{ltb, eqb}
+use lib.ListN.{take, drop, getD}
+use Rattle.scans.specs.Scan.{pick, foldFrom, either}
+use Rattle.numbers.specs.Profile.{rail}
+use Rattle.octets.specs.Writing.{wroteCount, wroteAt}
+use Rattle.packets.specs.declared.header.Header.{Header}
+use Rattle.packets.specs.Header.{sealCount, sealBytes}
+use Rattle.chunks.specs.declared.data.Data.{Data}
+use Rattle.chunks.specs.DataChunk.{dataBytes}
+use Rattle.path.specs.Sizes.{railSizes}
+use Rattle.places.specs.declared.place.Chunk.{Chunk}
+use Rattle.places.specs.declared.place.Place.{Place}
+use Rattle.sending.specs.declared.choosing.Chosen.{Chosen}
+use Rattle.sending.specs.Sending.{noPlace}
+use Rattle.sending.specs.Choose.{filled}
+use Rattle.states.specs.declared.calls.Call.the-variants.{Transmit}
+use Rattle.association.specs.declared.ends.Association.{Association}
+use Rattle.association.specs.Fresh.{withSending}
+use Rattle.calls.specs.declared.transmitting.Transmitted.{Transmitted}
+use Rattle.calls.specs.Packet.{toPeer}
+use Rattle.calls.specs.Answer.{isShortArea, isShortOut, barred}
+
+abbrev pub dataOf : Chunk → Data
+dataOf c = record { tsn = c .tsn; stream = c .stream; ssn = c .ssn; ppid = c .ppid; begin = c .begin; end = c .end; unordered = c .unordered }
+
+-- the chunk of place i, its payload from the place's bytes in the area
+unfoldable pub chunkBytes : List ℕ → Place → ℕ → List ℕ
+chunkBytes area p i = dataBytes rail (dataOf (p .chunk)) (take (p .chunk .len) (drop (512 * i) area))
+
+-- the packet so far: its chunks end at `at`
+pub record Bundle : Type 0 where
+  pub at : ℕ
+  pub out : List ℕ
+
+-- a chunk behind those before
+unfoldable pub added : List ℕ → Place → ℕ → Bundle → Bundle
+added area p i t = record {
+  at = t .at + wroteCount (drop (t .at) (t .out)) (chunkBytes area p i);
+  out = wroteAt (t .out) (t .at) (chunkBytes area p i);
+}
+
+-- the k-th of the `count` places chosen
+abbrev pub turned : List ℕ → ℕ → List Place → Bundle → ℕ → ℕ → Bundle
+turned area count ps t k i = pick (ltb k count) (added area (getD ps i noPlace) i t) t
+
+unfoldable pub bundled : List ℕ → Chosen → List ℕ → Bundle
+bundled area f out = foldFrom (turned area (f .count) (f .sending .places)) (record { at = 12; out = out }) 0 (f .places)
+
+-- a packet with no chunk is none
+unfoldable pub bundleLength : Bundle → ℕ
+bundleLength b = pick (ltb 12 (b .at)) (sealCount (b .at) (b .out)) 0
+
+unfoldable pub bundleOut : Header → Bundle → List ℕ
+bundleOut h b = pick (ltb 12 (b .at)) (sealBytes h (b .at) (b .out)) (b .out)
+
+abbrev pub transmitBar : Association → List ℕ → List ℕ → ℕ
+transmitBar a area out = barred a (either (isShortArea area) (isShortOut out)) Transmit
+
+-- the chunks that the sending side chooses
+abbrev pub transmittedAs : Association → List ℕ → List ℕ → Chosen → Transmitted
+transmittedAs a area out f = record {
+  number = 0;
+  length = bundleLength (bundled area f out);
+  resent = f .resent;
+  first = f .first;
+  last = f .last;
+  association = withSending a (f .sending);
+}
+
+unfoldable pub transmitted : Association → List ℕ → List ℕ → Transmitted
+transmitted a area out =
+    pick (eqb (transmitBar a area out) 0)
+    (transmittedAs a area out (filled railSizes rail (a .sending)))
+    (record { number = transmitBar a area out; length = 0; resent = false; first = record { 0 = 0 }; last = record { 0 = 0 }; association = a })
+
+unfoldable pub transmittedOut : Association → List ℕ → List ℕ → List ℕ
+transmittedOut a area out =
+    pick (eqb (transmitBar a area out) 0)
+    (bundleOut (toPeer (a .ends)) (bundled area (filled railSizes rail (a .sending)) out))
+    out

@@ -1,0 +1,82 @@
+-- What the functions that fill a packet have to show. Assumes nothing.
+use Prim.Native.Nat.{ℕ, _+_, _-_, _*_, _≤_}
+use mathlib.Core.Path.{_≡_, refl, sym, ap, _∙_}
+use mathlib.Core.Bool.{Bool, true, false}
+use mathlib.Core.List.{List, _++_}
+use native.Mathlib.Omega.{arith}
+use borrow.Author.Tests.{ltb-false, eq-eqb}
+use lib.Dec.{ltb}
+use lib.ListN.{length, take, drop}
+use Rattle.scans.specs.Scan.{pick, either}
+use Rattle.numbers.specs.Profile.{rail}
+use Rattle.octets.specs.BytesLaws.{part-is}
+use Rattle.octets.specs.Writing.{Wrote, wroteCount, wroteAt}
+use Rattle.octets.specs.WritingLaws.{wrote-part, part-count}
+use Rattle.packets.specs.declared.header.Header.{Header}
+use Rattle.path.specs.Sizes.{railSizes}
+use Rattle.sending.specs.declared.choosing.Chosen.{Chosen}
+use Rattle.sending.specs.Choose.{filled}
+use Rattle.places.specs.declared.place.Place.{Place}
+use Rattle.states.specs.declared.calls.Call.{Call}
+use Rattle.association.specs.declared.ends.Association.{Association}
+use Rattle.association.specs.Fresh.{withSending}
+use Rattle.calls.specs.Answer.{isShortArea, isShortOut, barred}
+use Rattle.calls.specs.AnswerLaws.{let-in}
+use Rattle.calls.specs.PacketLaws.{count-small}
+use Rattle.calls.specs.declared.transmitting.Transmitted.{Transmitted}
+use Rattle.calls.specs.Packet.{toPeer}
+use Rattle.calls.specs.Transmit.{chunkBytes, Bundle, added, bundled, bundleLength, bundleOut, transmitBar, transmitted, transmittedOut}
+
+count-within : (n room : ℕ) → pick (ltb 65532 n) 0 (pick (ltb room n) 0 n) ≤ room
+count-within n room = go (ltb 65532 n) (ltb room n) refl
+  where
+    go : (s t : Bool) → ltb room n ≡ t → pick s 0 (pick t 0 n) ≤ room
+    go true t e = omega arith
+    go false true e = omega arith
+    go false false e = omega (arith, ltb-false room n e)
+
+-- one chunk more: where it ends, and what stands in the output
+pub record Added (area : List ℕ) (p : Place) (i at : ℕ) (out : List ℕ) (r : ℕ) (exit : List ℕ) : Type 0 where
+  pub is : _≡_ {A = Bundle} (record { at = r; out = exit }) (added area p i (record { at = at; out = out }))
+  pub within : r ≤ length out
+  pub near : r ≤ at + 65532
+
+module _ (at : ℕ) (xs : List ℕ) {bs ys : List ℕ} {r : ℕ} (h : at ≤ length xs) (w : Wrote (take (length xs - at) (drop at xs)) bs r ys) where
+  pub part-small : at + r ≤ length xs
+  part-small =
+      let e : r ≤ length xs - at = rw (part-count at xs h w) (count-within (length bs) (length xs - at)) in
+      omega arith
+
+  pub part-few : r ≤ 65532
+  part-few = rw (part-count at xs h w) (count-small (length bs) (length xs - at))
+
+  pub added-one : {area : List ℕ} {p : Place} {i : ℕ} {exit : List ℕ} → bs ≡ chunkBytes area p i
+      → exit ≡ take at xs ++ (ys ++ drop (length xs - at) (drop at xs)) → Added area p i at xs (at + r) exit
+  unfolding added
+  added-one {area} {p} {i} {exit} b m =
+      let e : exit ≡ wroteAt xs at (chunkBytes area p i) = m ∙ wrote-part at xs h w ∙ ap (λ (l : List ℕ). wroteAt xs at l) b in
+      let t : r ≡ wroteCount (drop at xs) (chunkBytes area p i) = w .count ∙ (λ j. wroteCount (part-is xs at j) (b j)) in
+      record { is = (λ j. record { at = at + t j; out = e j }); within = part-small; near = omega (arith, part-few) }
+
+-- both buffers are long enough
+pub both-roomy : (a : Association) (area out : List ℕ) (call : Call) {n : ℕ} → n ≡ barred a (either (isShortArea area) (isShortOut out)) call → n ≡ 0 → 12 ≤ length out
+both-roomy a area out call e z =
+    go (isShortArea area) (isShortOut out) refl (let-in a (either (isShortArea area) (isShortOut out)) call (sym e ∙ z))
+  where
+    go : (s t : Bool) → ltb (length out) 1472 ≡ t → either s t ≡ false → 12 ≤ length out
+    go true t q h = let z : _≡_ {A = Bool} true false = h in absurd (omega (arith, ap (λ (b : Bool). pick {A = ℕ} b 0 1) z))
+    go false true q h = let z : _≡_ {A = Bool} true false = h in absurd (omega (arith, ap (λ (b : Bool). pick {A = ℕ} b 0 1) z))
+    go false false q h = omega (arith, ltb-false (length out) 1472 q)
+
+-- the packet that goes out
+module _ (a : Association) (area out : List ℕ) {exit mid : List ℕ} {n at m : ℕ} {f : Chosen} {h : Header} {b : Association} where
+  pub transmit-done : n ≡ transmitBar a area out → n ≡ 0 → f ≡ filled railSizes rail (a .sending) → h ≡ toPeer (a .ends)
+      → _≡_ {A = Bundle} (record { at = at; out = mid }) (bundled area f out)
+      → (m ≡ bundleLength (record { at = at; out = mid })) × (exit ≡ bundleOut h (record { at = at; out = mid })) → b ≡ withSending a (f .sending)
+      → (_≡_ {A = Transmitted} (record { number = 0; length = m; resent = f .resent; first = f .first; last = f .last; association = b }) (transmitted a area out))
+      × (exit ≡ transmittedOut a area out)
+  unfolding transmitted transmittedOut
+  transmit-done e z q k t s w =
+      let l : m ≡ bundleLength (bundled area f out) = s .0 ∙ ap (λ (x : Bundle). bundleLength x) t in
+      let o : exit ≡ bundleOut (toPeer (a .ends)) (bundled area f out) = s .1 ∙ (λ i. bundleOut (k i) (t i)) in
+      (rw (← e, eq-eqb n 0 z, ← q) (λ i. record { number = 0; length = l i; resent = f .resent; first = f .first; last = f .last; association = w i }), rw (← e, eq-eqb n 0 z, ← q) o)
