@@ -7,6 +7,7 @@
 -- held is near, whatever the chunks are; that it stays near (`near-along`) is shown from these premises, and may be shown from others.
 use Prim.Native.Nat.{ℕ, _+_, _*_, _^_, _%_, _<_, _≤_}
 use mathlib.Core.Path.{_≡_, refl, ap, _∙_}
+use mathlib.Core.Bool.{false}
 use mathlib.Core.List.{List, map}
 use mir.Val.{boolByte as bit}
 use native.Mathlib.Nat.{add-mod-right, mod-eq-of-lt}
@@ -23,8 +24,8 @@ use Rattle.holding.specs.Held.{asHeld, holds}
 use Rattle.holding.specs.Taking.{firstOf, written}
 use Rattle.delivery.specs.declared.arrival.Verdict.the-variants.{Kept}
 use Rattle.delivery.specs.declared.acknowledging.Sack.{Sack}
-use Rattle.delivery.specs.Receiving.{taken}
-use Rattle.delivery.specs.Arrival.{verdictOf}
+use Rattle.delivery.specs.Receiving.{lowOf, taken}
+use Rattle.delivery.specs.Arrival.{isWedged, verdictOf}
 use Rattle.delivery.specs.Acknowledging.{acknowledged}
 use Rattle.line.specs.Runs.{Event, arrive, take, sack, Answer, tells, Lent, Turn, turn, start, answers, finally, reduceEvent, reduceAnswer, reduceLent, Fair, copies, handed, handedOver, joinedAll, acknowledges, orderGiven, upFrom, Genuine}
 use Rattle.line.specs.Sender.{Sender}
@@ -32,6 +33,7 @@ use Rattle.line.specs.Agree.{fresh-law}
 use Rattle.line.specs.Sound.{Wide, near}
 use Rattle.line.specs.Arrives.{SoundOf, kept-once}
 use Rattle.line.specs.Sequence.{take-alike, agree-along, near-along, fresh-sound, fresh-next, sound-from, once-from, told-come, order-from, order-reduced, firsts-copies}
+use Rattle.line.specs.Wedge.{Few, not-wedged}
 use Rattle.line.specs.Payloads.{lodged-fresh, lodged-from, genuine}
 
 -- the premises: a profile, half a circle, a first number on the line, a sender, and a sequence of events
@@ -100,6 +102,10 @@ module _ (P : Profile) (h : ℕ) (t : Tsn) (some : 0 < t .0) (streams : ℕ) (ar
   pub kept-is-held : (j : ℕ) → t .0 ≤ j → verdictOf line P (last .receiving) (asHeld (chunk j) (size j)) streams ≡ Kept
       → copies (turn line line P streams last (arrive (chunk j) (payload j)) .lent .receiving .held) j ≡ 1
   kept-is-held j l e = kept-once send (last .receiving) (sound-from payload send h es begun sound fair .2) j l e
+
+  -- a sender that cuts no message into more chunks than there are places is never answered 12
+  pub never-wedged : Few P (t .0) chunk → isWedged line P (lowOf line (last .receiving)) (last .receiving .held) (last .receiving .next) (last .receiving .keeping .point .0) ≡ false
+  never-wedged few = not-wedged send few (last .receiving) (sound-from payload send h es begun sound fair .2)
 
   -- what a take then gives is a message that the sender cut, with its bytes, stream, U, SSN and PPID, so no new chunk passes for an old one; a
   -- refusal gives nothing, and 18 names the length of such a message

@@ -12,3 +12,4 @@ pub mod Arrives
 pub mod Takes
 pub mod Sequence
 pub mod Payloads
+pub mod Wedge

@@ -128,7 +128,7 @@ module _ {P : Profile} {base streams : ℕ} {chunk : ℕ → Chunk} {size : ℕ 
   abbrev expected : ℕ → ℕ
   expected t = getD next t ssn0 .0
 
-  least-begins : chunk least .begin ≡ true
+  pub least-begins : chunk least .begin ≡ true
   least-begins = go (ℕ-discrete base least)
     where
       go : Dec (base ≡ least) → chunk least .begin ≡ true
@@ -149,7 +149,7 @@ module _ {P : Profile} {base streams : ℕ} {chunk : ℕ → Chunk} {size : ℕ 
               absurd (omega (arith, s .lower m (omega (arith, s .from)) (omega (arith, s .from)), s .stays))
 
   -- the chunks of a message that begins at the least are not gone
-  not-gone : (z : ℕ) → ((j : ℕ) → least ≤ j → j < z → chunk j .end ≡ false) → (k : ℕ) → least + k ≤ z → gone (least + k) ≡ 0
+  pub not-gone : (z : ℕ) → ((j : ℕ) → least ≤ j → j < z → chunk j .end ≡ false) → (k : ℕ) → least + k ≤ z → gone (least + k) ≡ 0
   not-gone z f zero l = rw (add-zero least) (s .stays)
   not-gone z f (suc k) l =
       rw (add-suc least k) (s .whole (least + k) (omega (arith, s .from)) (f (least + k) (omega arith) (omega arith)) ∙ not-gone z f k (omega arith))
@@ -161,7 +161,7 @@ module _ {P : Profile} {base streams : ℕ} {chunk : ℕ → Chunk} {size : ℕ 
     is : x ≡ asHeld (chunk least) (size least)
     is = real-at P base streams chunk size send hs (s .real) i least here .1
 
-    opens-least : opens P next x ≡ true
+    pub opens-least : opens P next x ≡ true
     opens-least = rw is (opens-so P next (asHeld (chunk least) (size least)) refl least-begins (agreed-few send least (s .from)) next-is)
       where
         next-is : chunk least .unordered ≡ false → chunk least .ssn .0 ≡ getD next (chunk least .stream .0) ssn0 .0
@@ -169,7 +169,7 @@ module _ {P : Profile} {base streams : ℕ} {chunk : ℕ → Chunk} {size : ℕ 
             let g : expected (chunk least .stream .0) ≤ chunk least .ssn .0 = bit-ge _ _ (sym (s .order least (s .from) least-begins u) ∙ s .stays) in
             omega (arith, send .in-order least (s .from) least-begins u, expected-least send s (chunk least .stream .0) least (omega arith))
 
-    of-least : Of P base streams chunk size send hs (s .real) x least
+    pub of-least : Of P base streams chunk size send hs (s .real) x least
     of-least = record {
       same-stream = ap (λ (y : Held). y .stream .0) is;
       kind = ap (λ (y : Held). y .unordered) is;
