@@ -13,3 +13,4 @@ pub mod AcknowledgingLaws
 pub mod Peek
 pub mod Transmit
 pub mod TransmitLaws
+pub mod CallLaws

@@ -8,7 +8,6 @@ use Rattle.scans.specs.Scan.{pick}
 use Rattle.numbers.specs.declared.circle.StreamId.{StreamId}
 use Rattle.numbers.specs.Numbering.{ring}
 use Rattle.numbers.specs.Profile.{rail}
-use Rattle.holding.specs.declared.taking.Message.{Message}
 use Rattle.holding.specs.declared.taking.Answer as took
 use Rattle.holding.specs.declared.taking.Answer.the-variants.{Taken, Nothing, Short}
 use Rattle.holding.specs.Taking.{written}

@@ -1,7 +1,7 @@
 -- Our own INIT (RFC 9260 section 5.1 A).
 use Prim.Native.Nat.{ℕ}
 use mathlib.Core.List.{List}
-use lib.Dec.{ltb, eqb}
+use lib.Dec.{eqb}
 use Rattle.scans.specs.Scan.{pick}
 use Rattle.scans.specs.Upto.{smaller}
 use Rattle.numbers.specs.declared.circle.Tsn.{Tsn}
@@ -11,7 +11,6 @@ use Rattle.chunks.specs.Frame.{framed}
 use Rattle.states.specs.declared.state.State.the-variants.{CookieWait}
 use Rattle.states.specs.declared.calls.Call.the-variants.{Associate}
 use Rattle.association.specs.declared.ends.Association.{Association}
-use Rattle.association.specs.declared.ends.Ends.{Ends}
 use Rattle.association.specs.Fresh.{started}
 use Rattle.calls.specs.Packet.{headOf}
 use Rattle.calls.specs.Answer.{isShortOut, barred, earlier, Plan, carrying, unless}

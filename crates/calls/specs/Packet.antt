@@ -2,7 +2,7 @@
 use Prim.Native.Nat.{ℕ, _+_}
 use mathlib.Core.Path.{_≡_}
 use mathlib.Core.List.{List}
-use lib.ListN.{length, drop}
+use lib.ListN.{drop}
 use Rattle.octets.specs.Writing.{wroteCount, wroteAt}
 use Rattle.packets.specs.declared.header.Header.{Header}
 use Rattle.packets.specs.Header.{sealCount, sealBytes}

@@ -2,7 +2,6 @@
 use Prim.Native.Nat.{ℕ}
 use mathlib.Core.List.{List}
 use Rattle.numbers.specs.declared.circle.StreamId.{StreamId}
-use Rattle.packets.specs.declared.header.Header.{Header}
 use Rattle.chunks.specs.declared.cause.Cause.{Cause}
 use Rattle.chunks.specs.declared.cause.Cause.the-variants.{InvalidStream, StaleCookie}
 use Rattle.chunks.specs.Cause.{caused, code, information}

@@ -1,6 +1,6 @@
 -- T1, T2, T3 and a measured round trip: "Tries: 8 for T1, 10 for T2 and T3; the next expiry closes and reports".
 use Prim.Native.Nat.{ℕ}
-use mathlib.Core.Bool.{Bool, true, false}
+use mathlib.Core.Bool.{false}
 use mathlib.Core.List.{List, []}
 use lib.Dec.{eqb}
 use lib.ListN.{take, drop}

@@ -1,6 +1,6 @@
 -- One packet of DATA chunks: "One call fills one packet, or answers length 0".
 use Prim.Native.Nat.{ℕ, _+_, _*_}
-use mathlib.Core.Bool.{Bool, true, false}
+use mathlib.Core.Bool.{false}
 use mathlib.Core.List.{List}
 use lib.Dec.{ltb, eqb}
 use lib.ListN.{take, drop, getD}

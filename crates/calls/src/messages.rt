@@ -27,14 +27,29 @@ pub struct Delivered {
 }
 
 // A message for a stream: its chunks wait, their payloads in the lent area.
-pub fn hand_in(a: Association, area: &mut [u8], message: &[u8], stream: StreamId, unordered: bool, ppid: u32) -> HandedIn
+pub fn hand_in(
+    a: Association,
+    area: &mut [u8],
+    message: &[u8],
+    stream: StreamId,
+    unordered: bool,
+    ppid: u32,
+) -> HandedIn
     ensures { λ r. ⌜ (r ≡ handedIn a (now (area .entry)) (length (now (message .entry))) stream unordered ppid) × (now (area .exit) ≡ handedArea a (now (area .entry)) (now (message .entry)) stream) ⌝ }
 {
     let n = answer::bar(a, area.len() < answer::AREA, Call::HandIn);
     if n == 0 {
         let ends = a.ends;
         let before = a.sending;
-        let h = sending::hand_in(before, area, message, stream, unordered, ppid, ends.streams_out);
+        let h = sending::hand_in(
+            before,
+            area,
+            message,
+            stream,
+            unordered,
+            ppid,
+            ends.streams_out,
+        );
         let after = h.sending;
         return HandedIn {
             number: h.number,

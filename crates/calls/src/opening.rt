@@ -57,7 +57,14 @@ fn check(tag: u32, port: u16, streams: u16) -> u8
 }
 
 // An association with the peer at a port, with our tag, our first TSN and as many streams as are wanted: an INIT goes out.
-pub fn associate(a: Association, tag: u32, tsn: Tsn, port: u16, streams: u16, out: &mut [u8]) -> Answer
+pub fn associate(
+    a: Association,
+    tag: u32,
+    tsn: Tsn,
+    port: u16,
+    streams: u16,
+    out: &mut [u8],
+) -> Answer
     ensures { λ r. ⌜ Done (associating a tag tsn port streams (now (out .entry))) (now (out .entry)) r (now (out .exit)) ⌝ }
 {
     let b = answer::bar(a, out.len() < answer::OUTPUT, Call::Associate);

@@ -1,54 +1,27 @@
-use mathlib.Core.Path.{_≡_, refl, sym, ap, _∙_}
-use native.Mathlib.Omega.{arith}
-use borrow.Author.Tests.{lt-ltb, le-ltb, eq-eqb, ne-eqb}
-use Rattle.association.specs.Fresh.{withSending}
-use Rattle.chunks.specs.Frame.{framed}
-use Rattle.chunks.specs.Cause.{caused, code, information}
-use Rattle.chunks.specs.CookieChunk.{cookieEchoBytes}
-use Rattle.chunks.specs.InitChunk.{initFields}
-use Rattle.chunks.specs.declared.cause.Cause.{Cause}
-use Rattle.chunks.specs.declared.init.Init.{Init}
-use Rattle.sending.specs.declared.sending.Sending.{Sending}
-use Rattle.states.specs.declared.calls.Call.the-variants.{Associate, Abort, Shutdown, Acknowledge, TellStale, Heartbeat}
-use Rattle.calls.specs.PacketLaws.{one-small, sent-one, sent-as}
-use Rattle.calls.specs.Answer.{barred, earlier}
-use Rattle.calls.specs.AnswerLaws.{roomy, earlier-none, told-as, done-quiet, done-over, done-sent, done-refused, done-so, kept-quiet, kept-over, kept-refusing, kept-refused, kept-so}
-use Rattle.calls.specs.Opening.{wanting, associateRefusal, associating}
-use Rattle.calls.specs.Timers.{backedOff, triedTo, expiring, expiringThird, sampling}
-use Rattle.calls.specs.Closing.{shutting, aborting}
-use Rattle.calls.specs.Telling.{tellingStream, tellingStale, beating}
+use Rattle.states.specs.declared.calls.Call.the-variants.{Abort}
+use Rattle.calls.specs.AnswerLaws.{roomy, done-refused, done-so}
+use Rattle.calls.specs.Closing.{aborting}
 use borrow.Author.Needs.{needs}
 use Rattle.calls.proofs.closing.abort.Statement.{statement}
 use Rattle.calls.proofs.closing.abort.Tie as tie
-use Rattle.calls.proofs.closing.abort.Reads as reads
-use Rattle.calls.proofs.closing.abort.Lts as lts
-use Rattle.calls.proofs.answer.bar.Reads as bar-reads
-use Rattle.calls.proofs.answer.refused.Reads as refused-reads
-use Rattle.calls.proofs.closing.end.Reads as end-reads
 
--- src/closing.rt:82:9
 bar-requires : tie.Need-bar-requires
 bar-requires c κs = search needs
 
--- src/closing.rt:84:9
 end-requires : tie.Need-end-requires
 unfolding aborting
 end-requires c κs = roomy (c .before .before .before .before .args .a) (c .before .before .before .before .args .out .now) Abort (c .before .before .bar .ensures) (c .before .if1 .taken)
 
--- src/closing.rt:84:9
 same-length : tie.Need-same-length
 same-length c = search needs
 
--- src/closing.rt:84:9
 returns : tie.Need-returns
 unfolding aborting
 returns c = done-so _ _ (c .before .before .before .before .before .bar .ensures) (c .before .before .before .before .if1 .taken) (c .before .before .end .ensures)
 
--- src/closing.rt:86:5
 refused-requires : tie.Need-refused-requires
 refused-requires c κs = search needs
 
--- src/closing.rt:78:1
 returns-2 : tie.Need-returns-2
 unfolding aborting
 returns-2 c = done-refused _ _ (c .before .before .bar .ensures) (c .before .if1 .left) (c .refused .ensures)

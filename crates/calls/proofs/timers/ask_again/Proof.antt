@@ -1,158 +1,101 @@
-use mathlib.Core.Path.{_≡_, refl, sym, ap, _∙_}
-use native.Mathlib.Omega.{arith}
-use borrow.Author.Tests.{lt-ltb, le-ltb, eq-eqb, ne-eqb}
-use Rattle.association.specs.Fresh.{withSending}
-use Rattle.chunks.specs.Frame.{framed}
-use Rattle.chunks.specs.Cause.{caused, code, information}
-use Rattle.chunks.specs.CookieChunk.{cookieEchoBytes}
-use Rattle.chunks.specs.InitChunk.{initFields}
-use Rattle.chunks.specs.declared.cause.Cause.{Cause}
-use Rattle.chunks.specs.declared.init.Init.{Init}
-use Rattle.sending.specs.declared.sending.Sending.{Sending}
-use Rattle.states.specs.declared.calls.Call.the-variants.{Associate, Abort, Shutdown, Acknowledge, TellStale, Heartbeat}
-use Rattle.calls.specs.PacketLaws.{one-small, sent-one, sent-as}
-use Rattle.calls.specs.Answer.{barred, earlier}
-use Rattle.calls.specs.AnswerLaws.{roomy, earlier-none, told-as, done-quiet, done-over, done-sent, done-refused, done-so, kept-quiet, kept-over, kept-refusing, kept-refused, kept-so}
-use Rattle.calls.specs.Opening.{wanting, associateRefusal, associating}
-use Rattle.calls.specs.Timers.{backedOff, triedTo, expiring, expiringThird, sampling}
-use Rattle.calls.specs.Closing.{shutting, aborting}
-use Rattle.calls.specs.Telling.{tellingStream, tellingStale, beating}
+use Rattle.calls.specs.AnswerLaws.{done-quiet, done-sent}
 use borrow.Author.Needs.{needs}
 use Rattle.calls.proofs.timers.ask_again.Statement.{statement}
 use Rattle.calls.proofs.timers.ask_again.Tie as tie
-use Rattle.calls.proofs.timers.ask_again.Reads as reads
-use Rattle.calls.proofs.timers.ask_again.Lts as lts
-use Rattle.calls.proofs.answer.told.Reads as told-reads
-use Rattle.calls.proofs.packet.send_cookie_echo.Reads as send-cookie-echo-reads
-use Rattle.calls.proofs.packet.send_init.Reads as send-init-reads
-use Rattle.calls.proofs.packet.send_shutdown.Reads as send-shutdown-reads
-use Rattle.calls.proofs.packet.send_shutdown_ack.Reads as send-shutdown-ack-reads
 
--- src/timers.rt:40:42
 enum-told : tie.Need-enum-told
 enum-told c = search needs
 
--- src/timers.rt:40:17
 send-init-requires : tie.Need-send-init-requires
 send-init-requires c κs = search needs
 
--- src/timers.rt:41:13
 told-requires : tie.Need-told-requires
 told-requires c κs = search needs
 
--- src/timers.rt:44:49
 enum-told-2 : tie.Need-enum-told-2
 enum-told-2 c = search needs
 
--- src/timers.rt:44:17
 send-cookie-echo-requires : tie.Need-send-cookie-echo-requires
 send-cookie-echo-requires c κs = search needs
 
--- src/timers.rt:45:13
 told-requires-2 : tie.Need-told-requires-2
 told-requires-2 c κs = search needs
 
--- src/timers.rt:48:46
 enum-told-3 : tie.Need-enum-told-3
 enum-told-3 c = search needs
 
--- src/timers.rt:48:17
 send-shutdown-requires : tie.Need-send-shutdown-requires
 send-shutdown-requires c κs = search needs
 
--- src/timers.rt:49:13
 told-requires-3 : tie.Need-told-requires-3
 told-requires-3 c κs = search needs
 
--- src/timers.rt:52:55
 enum-told-4 : tie.Need-enum-told-4
 enum-told-4 c = search needs
 
--- src/timers.rt:52:17
 send-shutdown-ack-requires : tie.Need-send-shutdown-ack-requires
 send-shutdown-ack-requires c κs = search needs
 
--- src/timers.rt:53:13
 told-requires-4 : tie.Need-told-requires-4
 told-requires-4 c κs = search needs
 
--- src/timers.rt:55:26
 enum-told-5 : tie.Need-enum-told-5
 enum-told-5 c = search needs
 
--- src/timers.rt:55:26
 told-requires-5 : tie.Need-told-requires-5
 told-requires-5 c κs = search needs
 
--- src/timers.rt:56:31
 enum-told-6 : tie.Need-enum-told-6
 enum-told-6 c = search needs
 
--- src/timers.rt:56:31
 told-requires-6 : tie.Need-told-requires-6
 told-requires-6 c κs = search needs
 
--- src/timers.rt:57:35
 enum-told-7 : tie.Need-enum-told-7
 enum-told-7 c = search needs
 
--- src/timers.rt:57:35
 told-requires-7 : tie.Need-told-requires-7
 told-requires-7 c κs = search needs
 
--- src/timers.rt:58:36
 enum-told-8 : tie.Need-enum-told-8
 enum-told-8 c = search needs
 
--- src/timers.rt:58:36
 told-requires-8 : tie.Need-told-requires-8
 told-requires-8 c κs = search needs
 
--- src/timers.rt:34:1
 same-length : tie.Need-same-length
 same-length c = search needs
 
--- src/timers.rt:34:1
 returns : tie.Need-returns
 returns c = rw (c .before .before .before .before .before .enum-told .given .1) (done-sent _ (c .before .before .before .send-init .ensures) (c .told .ensures))
 
--- src/timers.rt:34:1
 same-length-2 : tie.Need-same-length-2
 same-length-2 c = search needs
 
--- src/timers.rt:34:1
 returns-2 : tie.Need-returns-2
 returns-2 c = rw (c .before .before .before .before .before .enum-told2 .given .1) (done-sent _ (c .before .before .before .send-cookie-echo .ensures) (c .told2 .ensures))
 
--- src/timers.rt:34:1
 same-length-3 : tie.Need-same-length-3
 same-length-3 c = search needs
 
--- src/timers.rt:34:1
 returns-3 : tie.Need-returns-3
 returns-3 c = rw (c .before .before .before .before .before .enum-told3 .given .1) (done-sent _ (c .before .before .before .send-shutdown .ensures) (c .told3 .ensures))
 
--- src/timers.rt:34:1
 same-length-4 : tie.Need-same-length-4
 same-length-4 c = search needs
 
--- src/timers.rt:34:1
 returns-4 : tie.Need-returns-4
 returns-4 c = rw (c .before .before .before .before .before .enum-told4 .given .1) (done-sent _ (c .before .before .before .send-shutdown-ack .ensures) (c .told4 .ensures))
 
--- src/timers.rt:34:1
 returns-5 : tie.Need-returns-5
 returns-5 c = rw (c .before .enum-told5 .given .1) (done-quiet _ (c .told5 .ensures))
 
--- src/timers.rt:34:1
 returns-6 : tie.Need-returns-6
 returns-6 c = rw (c .before .enum-told6 .given .1) (done-quiet _ (c .told6 .ensures))
 
--- src/timers.rt:34:1
 returns-7 : tie.Need-returns-7
 returns-7 c = rw (c .before .enum-told7 .given .1) (done-quiet _ (c .told7 .ensures))
 
--- src/timers.rt:34:1
 returns-8 : tie.Need-returns-8
 returns-8 c = rw (c .before .enum-told8 .given .1) (done-quiet _ (c .told8 .ensures))
 

@@ -1,22 +1,14 @@
 use Prim.Native.Nat.{_+_, _*_}
-use Rattle.calls.specs.TransmitLaws.{part-few}
 use Prim.Native.Nat.{_-_, _≤_}
 use mathlib.Core.Path.{_≡_, refl}
 use native.Mathlib.Omega.{arith}
 use borrow.Author.Needs.{needs}
 use borrow.Author.Tests.{lt-ltb, le-ltb}
 use lib.ListN.{length}
-use Rattle.numbers.specs.Profile.{rail}
 use Rattle.scans.specs.Scan.{Folding, fold-more, fold-end}
-use Rattle.chunks.specs.DataChunk.{dataBytes}
-use Rattle.calls.specs.Transmit.{chunkBytes, turned, bundled}
-use Rattle.calls.specs.TransmitLaws.{part-small, added-one}
+use Rattle.calls.specs.Transmit.{turned, bundled}
 use Rattle.calls.proofs.transmitting.bundle.Statement.{statement}
 use Rattle.calls.proofs.transmitting.bundle.Tie as tie
-use Rattle.calls.proofs.transmitting.bundle.Reads as reads
-use Rattle.calls.proofs.transmitting.bundle.Lts as lts
-use Rattle.calls.proofs.transmitting.add.Reads as add-reads
-use Rattle.calls.proofs.transmitting.place_at.Reads as place-at-reads
 
 abbrev Inv-loop : tie.InvT-loop
 Inv-loop area out₀ ps chosen count at₀ k₀ out at k = Folding (turned area count ps) (record { at = 12; out = out₀ }) chosen 26 k (record { at = at; out = out }) × (at ≤ length out) × (length out ≡ length out₀) × (at ≤ 12 + 65532 * k)
@@ -24,55 +16,42 @@ Inv-loop area out₀ ps chosen count at₀ k₀ out at k = Folding (turned area 
 abbrev μ-loop : tie.MeasureT-loop
 μ-loop area out₀ ps chosen count at₀ k₀ out at k = 26 - k
 
--- src/transmitting.rt:116:5
 loop-holds : tie.Need-loop-holds Inv-loop μ-loop
 loop-holds c = (record { long = search needs; rest = refl }, omega arith, refl, omega arith)
 
--- src/transmitting.rt:118:21
 mul-i : tie.Need-mul-i Inv-loop μ-loop
 mul-i c = search needs
 
--- src/transmitting.rt:118:21
 array-read-i : tie.Need-array-read-i Inv-loop μ-loop
 array-read-i c = search needs
 
--- src/transmitting.rt:119:17
 place-at-requires : tie.Need-place-at-requires Inv-loop μ-loop
 place-at-requires c κs = search needs
 
--- src/transmitting.rt:120:13
 add-requires : tie.Need-add-requires Inv-loop μ-loop
 add-requires c κs = (c .before .before .before .before .loop .inv .1, omega (arith, c .before .before .before .before .loop .inv .3, c .before .before .before .loop-test .taken))
 
--- src/transmitting.rt:121:13
 add-k : tie.Need-add-k Inv-loop μ-loop
 add-k c = search needs
 
--- src/transmitting.rt:116:5
 loop-less : tie.Need-loop-less Inv-loop μ-loop
 loop-less c = search needs
 
--- src/transmitting.rt:116:5
 loop-again : tie.Need-loop-again Inv-loop μ-loop
 loop-again c = (fold-more (c .before .before .before .before .before .before .before .loop .inv .0) 0 _ (c .before .before .before .before .before .before .loop-test .taken) (rw (lt-ltb _ _ (c .before .before .before .before .before .if1 .taken), ← c .before .before .before .before .place-at .ensures) (c .before .before .add .ensures .is)), omega (arith, c .before .before .add .ensures .within, c .before .before .before .before .before .before .before .loop .inv .2), omega (arith, c .before .before .before .before .before .before .before .loop .inv .2), omega (arith, c .before .before .add .ensures .near, c .before .before .before .before .before .before .before .loop .inv .3))
 
--- src/transmitting.rt:123:13
 add-k-2 : tie.Need-add-k-2 Inv-loop μ-loop
 add-k-2 c = search needs
 
--- src/transmitting.rt:116:5
 loop-less-2 : tie.Need-loop-less-2 Inv-loop μ-loop
 loop-less-2 c = search needs
 
--- src/transmitting.rt:116:5
 loop-again-2 : tie.Need-loop-again-2 Inv-loop μ-loop
 loop-again-2 c = (fold-more (c .before .before .loop .inv .0) 0 _ (c .before .loop-test .taken) (rw (le-ltb _ _ (c .if1 .left))), c .before .before .loop .inv .1, c .before .before .loop .inv .2, omega (arith, c .before .before .loop .inv .3))
 
--- src/transmitting.rt:106:1
 same-length : tie.Need-same-length Inv-loop μ-loop
 same-length c = omega (arith, c .before .loop .inv .2)
 
--- src/transmitting.rt:106:1
 returns : tie.Need-returns Inv-loop μ-loop
 unfolding bundled
 returns c = fold-end (c .before .loop .inv .0) (c .loop-test .left)

@@ -8,53 +8,34 @@ use Rattle.calls.specs.TransmitLaws.{both-roomy, transmit-done}
 use borrow.Author.Needs.{needs}
 use Rattle.calls.proofs.transmitting.transmit.Statement.{statement}
 use Rattle.calls.proofs.transmitting.transmit.Tie as tie
-use Rattle.calls.proofs.transmitting.transmit.Reads as reads
-use Rattle.calls.proofs.transmitting.transmit.Lts as lts
-use Rattle.calls.proofs.answer.bar.Reads as bar-reads
-use Rattle.calls.proofs.packet.to_peer.Reads as to-peer-reads
-use Rattle.calls.proofs.timers.with_sending.Reads as with-sending-reads
-use Rattle.calls.proofs.transmitting.bundle.Reads as bundle-reads
-use Rattle.calls.proofs.transmitting.close.Reads as close-reads
-use Rattle.calls.proofs.transmitting.is_short.Reads as is-short-reads
-use Rattle.sending.proofs.choose.Reads as choose-reads
 
--- src/transmitting.rt:143:9
 is-short-requires : tie.Need-is-short-requires
 is-short-requires c κs = search needs
 
--- src/transmitting.rt:144:9
 bar-requires : tie.Need-bar-requires
 bar-requires c κs = search needs
 
--- src/transmitting.rt:147:13
 choose-requires : tie.Need-choose-requires
 choose-requires c κs = search needs
 
--- src/transmitting.rt:148:13
 to-peer-requires : tie.Need-to-peer-requires
 to-peer-requires c κs = search needs
 
--- src/transmitting.rt:149:13
 bundle-requires : tie.Need-bundle-requires
 bundle-requires c κs = both-roomy (c .before .before .before .before .before .before .before .before .before .args .a) (c .before .before .before .before .before .before .before .before .before .args .area .now) (c .before .before .before .before .before .before .before .before .before .args .out .now) Transmit (c .before .before .before .before .before .bar .ensures ∙ ap (λ (s : Bool). barred (c .before .before .before .before .before .before .before .before .before .args .a) s Transmit) (c .before .before .before .before .before .before .is-short .ensures)) (c .before .before .before .before .if1 .taken)
 
--- src/transmitting.rt:150:13
 close-requires : tie.Need-close-requires
 close-requires c κs = search needs
 
--- src/transmitting.rt:160:26
 with-sending-requires : tie.Need-with-sending-requires
 with-sending-requires c κs = search needs
 
--- src/transmitting.rt:154:9
 same-length : tie.Need-same-length
 same-length c = search needs
 
--- src/transmitting.rt:154:9
 returns : tie.Need-returns
 returns c = transmit-done (c .before .before .before .before .before .before .before .before .before .before .before .before .before .before .before .before .before .before .before .before .args .a) (c .before .before .before .before .before .before .before .before .before .before .before .before .before .before .before .before .before .before .before .before .args .area .now) (c .before .before .before .before .before .before .before .before .before .before .before .before .before .before .before .before .before .before .before .before .args .out .now) (c .before .before .before .before .before .before .before .before .before .before .before .before .before .before .before .before .bar .ensures ∙ ap (λ (s : Bool). barred (c .before .before .before .before .before .before .before .before .before .before .before .before .before .before .before .before .before .before .before .before .args .a) s Transmit) (c .before .before .before .before .before .before .before .before .before .before .before .before .before .before .before .before .before .is-short .ensures)) (c .before .before .before .before .before .before .before .before .before .before .before .before .before .before .before .if1 .taken) (c .before .before .before .before .before .before .before .before .before .before .before .before .before .choose .ensures) (c .before .before .before .before .before .before .before .before .before .before .before .before .to-peer .ensures) (c .before .before .before .before .before .before .before .before .before .before .bundle .ensures) (c .before .before .before .before .before .before .close .ensures) (c .with-sending .ensures)
 
--- src/transmitting.rt:140:1
 returns-2 : tie.Need-returns-2
 unfolding transmitted transmittedOut
 returns-2 c = (rw (← c .before .before .is-short .ensures, ← c .before .bar .ensures, ne-eqb _ _ (c .if1 .left)), rw (← c .before .before .is-short .ensures, ← c .before .bar .ensures, ne-eqb _ _ (c .if1 .left)))
