@@ -21,7 +21,7 @@ ghost use Rattle.calls.specs.Telling.{errorBytes};
 // The window of a record with every place free.
 const WINDOW: u32 = (Rail::PLACES * Rail::PAYLOAD) as u32;
 
-pub fn head(e: Ends, tag: u32) -> Header
+pub(crate) fn head(e: Ends, tag: u32) -> Header
     ensures { λ r. ⌜ r ≡ headOf e tag ⌝ }
 {
     Header {
@@ -31,7 +31,7 @@ pub fn head(e: Ends, tag: u32) -> Header
     }
 }
 
-pub fn to_peer(e: Ends) -> Header
+pub(crate) fn to_peer(e: Ends) -> Header
     ensures { λ r. ⌜ r ≡ toPeer e ⌝ }
 {
     head(e, e.peer_tag)
@@ -53,7 +53,7 @@ fn init(a: Association) -> Init
 }
 
 // "INIT has tag 0".
-pub fn send_init(a: Association, out: &mut [u8]) -> usize
+pub(crate) fn send_init(a: Association, out: &mut [u8]) -> usize
     requires { ⌜ 12 ≤ length (now out) ⌝ }
     ensures { λ r. ⌜ Sent (headOf (a .ends) 0) (initBytes a) (now (out .entry)) r (now (out .exit)) ⌝ }
 {
@@ -64,7 +64,7 @@ pub fn send_init(a: Association, out: &mut [u8]) -> usize
 }
 
 // The cookie that is kept.
-pub fn send_cookie_echo(a: Association, out: &mut [u8]) -> usize
+pub(crate) fn send_cookie_echo(a: Association, out: &mut [u8]) -> usize
     requires { ⌜ 12 ≤ length (now out) ⌝ }
     ensures { λ r. ⌜ Sent (toPeer (a .ends)) (cookieEchoBytes (cookieOf (a .cookie))) (now (out .entry)) r (now (out .exit)) ⌝ }
 {
@@ -77,7 +77,7 @@ pub fn send_cookie_echo(a: Association, out: &mut [u8]) -> usize
 }
 
 // The point is the record's own.
-pub fn send_shutdown(a: Association, out: &mut [u8]) -> usize
+pub(crate) fn send_shutdown(a: Association, out: &mut [u8]) -> usize
     requires { ⌜ 12 ≤ length (now out) ⌝ }
     ensures { λ r. ⌜ Sent (toPeer (a .ends)) (shutdownBytes a) (now (out .entry)) r (now (out .exit)) ⌝ }
 {
@@ -88,7 +88,7 @@ pub fn send_shutdown(a: Association, out: &mut [u8]) -> usize
     packets::seal(out, 12 + n, h)
 }
 
-pub fn send_shutdown_ack(e: Ends, out: &mut [u8]) -> usize
+pub(crate) fn send_shutdown_ack(e: Ends, out: &mut [u8]) -> usize
     requires { ⌜ 12 ≤ length (now out) ⌝ }
     ensures { λ r. ⌜ Sent (toPeer e) (framed 8 0 []) (now (out .entry)) r (now (out .exit)) ⌝ }
 {
@@ -97,7 +97,7 @@ pub fn send_shutdown_ack(e: Ends, out: &mut [u8]) -> usize
     packets::seal(out, 12 + n, h)
 }
 
-pub fn send_abort(e: Ends, c: Cause, out: &mut [u8]) -> usize
+pub(crate) fn send_abort(e: Ends, c: Cause, out: &mut [u8]) -> usize
     requires { ⌜ 12 ≤ length (now out) ⌝ }
     ensures { λ r. ⌜ Sent (toPeer e) (framed 6 0 (caused (code c) (information c))) (now (out .entry)) r (now (out .exit)) ⌝ }
 {
@@ -106,7 +106,7 @@ pub fn send_abort(e: Ends, c: Cause, out: &mut [u8]) -> usize
     packets::seal(out, 12 + n, h)
 }
 
-pub fn send_error(h: Header, c: Cause, out: &mut [u8]) -> usize
+pub(crate) fn send_error(h: Header, c: Cause, out: &mut [u8]) -> usize
     requires { ⌜ 12 ≤ length (now out) ⌝ }
     ensures { λ r. ⌜ Sent h (errorBytes c) (now (out .entry)) r (now (out .exit)) ⌝ }
 {
@@ -114,7 +114,7 @@ pub fn send_error(h: Header, c: Cause, out: &mut [u8]) -> usize
     packets::seal(out, 12 + n, h)
 }
 
-pub fn send_heartbeat(e: Ends, value: [u8; 8], out: &mut [u8]) -> usize
+pub(crate) fn send_heartbeat(e: Ends, value: [u8; 8], out: &mut [u8]) -> usize
     requires { ⌜ 12 ≤ length (now out) ⌝ }
     ensures { λ r. ⌜ Sent (toPeer e) (heartbeatBytes value) (now (out .entry)) r (now (out .exit)) ⌝ }
 {
