@@ -2,3 +2,4 @@
 pub mod Tries
 pub mod Rows
 pub mod Calls
+pub mod TriesLaws
