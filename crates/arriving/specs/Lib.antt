@@ -1,0 +1,2 @@
+-- A packet arrives: ports and tag.
+pub mod Tags
