@@ -12,7 +12,7 @@ use Rattle.scans.specs.Upto.{anyUpto}
 use Rattle.path.specs.Sizes.{Sizes}
 use Rattle.path.specs.Path as way
 use Rattle.places.specs.declared.place.Place.{Place}
-use Rattle.places.specs.Places.{hasStatus, isSent, offsetOf, tallied}
+use Rattle.places.specs.Places.{aheadOf, hasStatus, isSent, offsetOf, tallied}
 use Rattle.sending.specs.declared.sending.Sending.{Sending}
 use Rattle.sending.specs.Sending.{roomOf}
 
@@ -65,13 +65,14 @@ isSuccessive P s sent n =
 
 -- ---- the record
 
--- the path's limits; "flight equal to its sum"; every place's; what is sent has the TSNs from our point plus 1 to the next less 1; what waits has
--- successive orders
+-- the path's limits; "flight equal to its sum"; every place's; the next TSN is ahead of our point, and what is sent has the TSNs between them;
+-- what waits has successive orders
 unfoldable pub isWithin : Sizes → Profile → Sending → Bool
 isWithin z P s =
     pick (way.isWithin z (s .path))
     (pick (eqb (tallied (s .acked) (s .places) .flight) (s .path .flight))
     (pick (any (isOdd P) (s .places)) false
-    (pick (isSuccessive P s true (roomOf s)) (isSuccessive P s false (count (hasStatus 1) (s .places))) false))
+    (pick (ltb (aheadOf (s .acked) (s .«next_tsn»)) 1) false
+    (pick (isSuccessive P s true (roomOf s)) (isSuccessive P s false (count (hasStatus 1) (s .places))) false)))
     false)
     false
