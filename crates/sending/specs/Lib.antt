@@ -9,3 +9,4 @@ pub mod Expiry
 pub mod Bounds
 pub mod Laws
 pub mod ChooseLaws
+pub mod BoundsLaws
