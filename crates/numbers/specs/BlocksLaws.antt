@@ -2,7 +2,7 @@
 -- before the first and after the last an offset has not come. There are at most half as many as places.
 -- Assumes nothing.
 use Prim.Native.Nat.{ℕ, zero, suc, _+_, _-_, _*_, _/_, _<_, _≤_, zero-le}
-use mathlib.Core.Path.{_≡_, refl, sym, _∙_}
+use mathlib.Core.Path.{_≡_, refl, sym, ap, _∙_}
 use mathlib.Core.Bool.{Bool, true, false}
 use mathlib.Core.List.{List, [], _∷_, _++_, map}
 use native.Mathlib.Decide.{decLt, decLe}
@@ -12,7 +12,7 @@ use lib.ListN.{length, take, replicate, getD, length-map}
 use lib.Seq.{take-at}
 use lib.Dec.{ltb, leb}
 use Rattle.scans.specs.Scan.{pick, any, either}
-use Rattle.scans.specs.Each.{All, all-map}
+use Rattle.scans.specs.Each.{All, all-map, clash}
 use Rattle.numbers.specs.declared.keeping.Keeping.{Keeping}
 use Rattle.numbers.specs.declared.keeping.Blocks.{Blocks}
 use Rattle.numbers.specs.Profile.{Profile}
@@ -197,6 +197,63 @@ blocks-maximal xs = all-map each (runs xs) (edged (runs xs) 0 (blocks-rise xs))
       aft = sym (blocks-have xs (b .to + 1)) ∙ g .aft;
     }
 
+-- ---- nothing else is the list of runs
+
+module _ (b c : Block) (bs cs : List Block) (m : ℕ) (s : Rising m (b ∷ bs)) (t : Rising m (c ∷ cs))
+    (alike : (j : ℕ) → any (has j) (b ∷ bs) ≡ any (has j) (c ∷ cs)) where
+  first-has : (j : ℕ) → b .from ≤ j → j ≤ b .to → any (has j) (c ∷ cs) ≡ true
+  first-has j l h = sym (alike j) ∙ rw (le-leb (b .from) j l, le-leb j (b .to) h)
+
+  from-le : c .from ≤ b .from
+  from-le = go (decLe (c .from) (b .from))
+    where
+      go : Dec (c .from ≤ b .from) → c .from ≤ b .from
+      go (yes h) = h
+      go (no h) =
+          clash
+          (sym (rw (has-before (b .from) c (omega arith)) (clear-of cs (c .to + 1) (b .from) (t .2) (omega (arith, t .1))))
+          ∙ first-has (b .from) (omega arith) (s .1))
+
+  to-le : b .from ≡ c .from → b .to ≤ c .to
+  to-le e = go (decLe (b .to) (c .to))
+    where
+      go : Dec (b .to ≤ c .to) → b .to ≤ c .to
+      go (yes h) = h
+      go (no h) =
+          clash
+          (sym (rw (has-not (c .to + 1) c (omega arith)) (clear-of cs (c .to + 1) (c .to + 1) (t .2) (omega arith)))
+          ∙ first-has (c .to + 1) (omega (arith, t .1)) (omega arith))
+
+one-list : (bs cs : List Block) (m : ℕ) → Rising m bs → Rising m cs → ((j : ℕ) → any (has j) bs ≡ any (has j) cs) → bs ≡ cs
+one-list [] [] m s t a = refl
+one-list [] (c ∷ cs) m s t a = clash (a (c .from) ∙ rw (le-leb (c .from) (c .from) (omega arith), le-leb (c .from) (c .to) (t .1)))
+one-list (b ∷ bs) [] m s t a = clash (sym (a (b .from)) ∙ rw (le-leb (b .from) (b .from) (omega arith), le-leb (b .from) (b .to) (s .1)))
+one-list (b ∷ bs) (c ∷ cs) m s t a = rw (heads, one-list bs cs (b .to + 1) (s .2) (rw tos (t .2)) rests)
+  where
+    back : (j : ℕ) → any (has j) (c ∷ cs) ≡ any (has j) (b ∷ bs)
+    back j = sym (a j)
+
+    froms : b .from ≡ c .from
+    froms = omega (arith, from-le b c bs cs m s t a, from-le c b cs bs m t s back)
+
+    tos : b .to ≡ c .to
+    tos = omega (arith, to-le b c bs cs m s t a froms, to-le c b cs bs m t s back (sym froms))
+
+    heads : b ≡ c
+    heads =
+        ap (λ (x : ℕ). record { from = x; to = b .to }) froms ∙ ap (λ (x : ℕ). record { from = c .from; to = x }) tos
+
+    rests : (j : ℕ) → any (has j) bs ≡ any (has j) cs
+    rests j = go (decLe j (b .to))
+      where
+        go : Dec (j ≤ b .to) → any (has j) bs ≡ any (has j) cs
+        go (yes h) = clear-of bs (b .to + 1) j (s .2) (omega arith) ∙ sym (clear-of cs (c .to + 1) j (t .2) (omega (arith, tos)))
+        go (no h) = rw (has-not j b (omega arith), has-not j c (omega (arith, tos))) at (a j)
+
+-- a list that rises, and has the offsets come and no others, is the list of blocks
+pub blocks-only : (xs : List Bool) (bs : List Block) → Rising 0 bs → ((j : ℕ) → any (has j) bs ≡ flagOf xs j) → bs ≡ runs xs
+blocks-only xs bs s a = one-list bs (runs xs) 0 s (blocks-rise xs) (λ j. a j ∙ sym (blocks-have xs j))
+
 -- ---- how many
 
 few : (bs : List Block) (m n : ℕ) → Rising m bs → All (λ (b : Block). b .to ≤ n) bs → m ≤ n + 1 → m + 2 * length bs ≤ n + 1
@@ -212,15 +269,14 @@ paired-maps : (bs : List Block) → paired (map (λ (b : Block). b .from) bs) (m
 paired-maps [] = refl
 paired-maps (b ∷ bs) = rw (paired-maps bs)
 
-take-padded : (n : ℕ) (xs : List ℕ) (m : ℕ) → length xs ≡ m → take m (padded n xs) ≡ xs
-take-padded n xs m e = take-at xs (replicate (n - length xs) 0) m e
+take-padded : (n : ℕ) (f : Block → ℕ) (bs : List Block) → take (length bs) (padded n (map f bs)) ≡ map f bs
+take-padded n f bs = take-at (map f bs) (replicate (n - length (map f bs)) 0) (length bs) (length-map bs f)
 
 pub blocks-listed : (P : Profile) (k : Keeping) → listedIn (blocksOf P k) ≡ runs (k .come)
 unfolding blocksOf laidOut listedIn
 blocks-listed P k =
     let bs : List Block = runs (k .come) in
-    rw (take-padded (P .places / 2) (map (λ (b : Block). b .from) bs) (length bs) (length-map bs (λ (b : Block). b .from)), take-padded (P .places / 2) (map (λ (b : Block). b .to) bs) (length bs) (length-map bs (λ (b : Block). b .to)))
-    (paired-maps bs)
+    rw (take-padded (P .places / 2) (λ (b : Block). b .from) bs, take-padded (P .places / 2) (λ (b : Block). b .to) bs) (paired-maps bs)
 
 pub blocks-count : (P : Profile) (k : Keeping) → blocksOf P k .count ≡ length (runs (k .come))
 unfolding blocksOf laidOut

@@ -7,9 +7,8 @@ use lib.ListN.{set, replicate, getD}
 use lib.Dec.{ltb, leb}
 use Rattle.scans.specs.Scan.{pick}
 use Rattle.numbers.specs.declared.circle.Tsn.{Tsn}
-use Rattle.numbers.specs.declared.circle.Distance.{Distance}
-use Rattle.numbers.specs.declared.circle.Distance.the-variants.{Ahead, Behind, Opposite}
 use Rattle.numbers.specs.declared.keeping.Keeping.{Keeping}
+use Rattle.numbers.specs.Circle.{forward}
 use Rattle.numbers.specs.Numbering.{Numbering, on, before, far}
 use Rattle.numbers.specs.Profile.{Profile}
 use Rattle.numbers.specs.Come.{run, shift, highest}
@@ -22,11 +21,6 @@ fresh T P t = record {
   dups = replicate (P .listed) (record { 0 = 0 });
   listed = 0;
 }
-
-abbrev pub forward : Distance → ℕ
-forward (Ahead d) = d
-forward (Behind d) = 0
-forward Opposite = 0
 
 -- how far a number is ahead of the point, and 0 where it is not
 unfoldable pub offsetOf : Numbering → Keeping → ℕ → ℕ
@@ -70,6 +64,7 @@ highestOf k = highest (k .come)
 unfoldable pub keepingSound : Profile → Keeping → Bool
 keepingSound P k = pick (getD (k .come) 0 false) false (leb (k .listed) (P .listed))
 
+-- the same, as two facts
 pub record Bounded (P : Profile) (k : Keeping) : Type 0 where
   pub first : getD (k .come) 0 false ≡ false
   pub few : k .listed ≤ P .listed

@@ -1,6 +1,6 @@
 -- What the operations of number-keeping do to what has come, on either numbering. Those above rest on these laws and open no definition.
 -- Assumes nothing.
-use Prim.Native.Nat.{ℕ, _+_, _-_, _<_, _≤_, zero-le}
+use Prim.Native.Nat.{ℕ, _+_, _-_, _<_, _≤_, _^_, zero-le}
 use mathlib.Core.Path.{_≡_, refl, sym, ap, _∙_}
 use mathlib.Core.Bool.{Bool, true, false}
 use mathlib.Core.List.{List}
@@ -16,11 +16,19 @@ use Rattle.scans.specs.Scan.{pick}
 use Rattle.scans.specs.Upto.{larger, pick-keeps}
 use Rattle.scans.specs.Each.{clash}
 use Rattle.numbers.specs.declared.circle.Tsn.{Tsn}
+use Rattle.numbers.specs.declared.circle.Distance.{Distance}
+use Rattle.numbers.specs.declared.circle.Distance.the-variants.{Ahead, Behind, Opposite}
+use Rattle.numbers.specs.declared.circle.Judgement.{Judgement}
+use Rattle.numbers.specs.declared.circle.Judgement.the-variants.{AtOrBehind, AheadWithin, AheadBeyond, AtOpposite}
 use Rattle.numbers.specs.declared.keeping.Keeping.{Keeping}
+use Rattle.numbers.specs.Circle.{forward}
 use Rattle.numbers.specs.Numbering.{Numbering, ring, line, on, before, far}
-use Rattle.numbers.specs.Profile.{Profile}
-use Rattle.numbers.specs.Come.{run, shift, highest, run-le, run-at, run-ends, shift-at, length-shift, clear-at, highest-le, highest-least, highest-above, highest-marks, highest-shifts}
-use Rattle.numbers.specs.Keeping.{forward, fresh, offsetOf, isCome, settled, marked, listed, told, highestOf, keepingSound, Bounded}
+use Rattle.numbers.specs.Judgement.{judged}
+use Rattle.numbers.specs.JudgementLaws.{Says, judged-says}
+use Rattle.numbers.specs.Profile.{Profile, rail}
+use Rattle.numbers.specs.Come.{run, shift, highest}
+use Rattle.numbers.specs.ComeLaws.{run-le, run-at, run-ends, shift-at, length-shift, clear-at, highest-le, highest-least, highest-above, highest-marks, highest-shifts}
+use Rattle.numbers.specs.Keeping.{fresh, offsetOf, isCome, settled, marked, listed, told, highestOf, keepingSound, Bounded}
 use Rattle.numbers.specs.Reach.{On, Short, short-le, on-On, on-behind, ahead-same, nearer, passed, was}
 
 -- ---- the bounds: the test says what the record says
@@ -39,9 +47,32 @@ bounded-sound P k b = rw (b .first) (le-leb (k .listed) (P .listed) (b .few))
 
 -- ---- what a record is asked depends on its point and its offsets alone
 
+pub offset-far : (T : Numbering) (k : Keeping) (y : ℕ) → offsetOf T k y ≡ forward (far T (k .point .0) y)
+unfolding offsetOf
+offset-far T k y = refl
+
 pub offset-alike : (T : Numbering) (k l : Keeping) (y : ℕ) → k .point ≡ l .point → offsetOf T k y ≡ offsetOf T l y
 unfolding offsetOf
 offset-alike T k l y e = ap (λ (p : Tsn). forward (far T (p .0) y)) e
+
+-- what a judgement against the point says of the offset
+abbrev pub OffsetSays : ℕ → ℕ → Judgement → Type 0
+OffsetSays room o AtOrBehind = o ≡ 0
+OffsetSays room o (AheadWithin d) = (o ≡ d) × (0 < d) × (d ≤ room)
+OffsetSays room o (AheadBeyond d) = (o ≡ d) × (0 < d) × (room < d)
+OffsetSays room o AtOpposite = o ≡ 0
+
+pub judged-offset : (T : Numbering) (k : Keeping) (room t : ℕ) (j : Judgement) → judged T (k .point .0) room t ≡ j → OffsetSays room (offsetOf T k t) j
+unfolding offsetOf
+judged-offset T k room t j e = go j (far T (k .point .0) t) (judged-says T (k .point .0) room t j e)
+  where
+    go : (j : Judgement) (x : Distance) → Says room x j → OffsetSays room (forward x) j
+    go AtOrBehind (Ahead d) w = w d refl
+    go AtOrBehind (Behind d) w = refl
+    go AtOrBehind Opposite w = refl
+    go (AheadWithin d) x w = (ap forward (w .0), w .1, w .2)
+    go (AheadBeyond d) x w = (ap forward (w .0), w .1, w .2)
+    go AtOpposite x w = ap forward w
 
 -- two numbers at one offset are one
 pub same-ahead : (T : Numbering) (k : Keeping) (t y : ℕ) → On T (k .point .0) → On T t → On T y → 0 < offsetOf T k t → offsetOf T k y ≡ offsetOf T k t → y ≡ t
@@ -148,6 +179,10 @@ told-bounded P k b = record { first = b .first; few = zero-le }
 
 -- ---- fresh
 
+pub fresh-point : (T : Numbering) (P : Profile) (t : Tsn) → fresh T P t .point ≡ record { 0 = before T (t .0) }
+unfolding fresh
+fresh-point T P t = refl
+
 pub fresh-none : (T : Numbering) (P : Profile) (t : Tsn) (y : ℕ) → isCome T (fresh T P t) y ≡ false
 unfolding fresh
 fresh-none T P t y = come-flag T (fresh T P t) y ∙ go (ltb (offsetOf T (fresh T P t) y) 1)
@@ -236,7 +271,7 @@ pick-true false = refl
 flag-none : (cs : List Bool) (e : ℕ) → e ≡ 0 → flagOf cs e ≡ false
 flag-none cs e q = rw q
 
--- a number that comes: ahead of the point and not past the last offset, where four times the offsets are fewer than a circle
+-- the number comes: it is ahead of the point and not past the last offset, and four times the offsets are fewer than a circle
 pub record Comes (T : Numbering) (P : Profile) (k : Keeping) (t : ℕ) : Type 0 where
   pub point : On T (k .point .0)
   pub number : On T t
@@ -245,17 +280,17 @@ pub record Comes (T : Numbering) (P : Profile) (k : Keeping) (t : ℕ) : Type 0 
   pub ahead : 0 < offsetOf T k t
   pub near : offsetOf T k t ≤ P .places
 
+pub rail-wide : Short (ring (2 ^ 32)) (rail .places + rail .places)
+rail-wide = omega arith
+
 -- any other changes nothing
 pub marked-out : (T : Numbering) (P : Profile) (k : Keeping) (t : ℕ) → (offsetOf T k t ≡ 0) ⊎ (P .places < offsetOf T k t) → marked T P k t ≡ k
 unfolding marked
 marked-out T P k t (inl z) = rw (lt-ltb (offsetOf T k t) 1 (omega arith))
 marked-out T P k t (inr h) = rw (le-ltb (offsetOf T k t) 1 (omega arith), lt-ltb (P .places) (offsetOf T k t) h)
 
--- "one at or behind the point, or past the last offset": no other record changes than one that the number comes to
 module _ {T : Numbering} {P : Profile} {k : Keeping} {t : ℕ} (w : Comes T P k t) where
-  abbrev d : ℕ
-  d = offsetOf T k t
-
+  -- the flags with the number's set, before the point moves
   abbrev cs : List Bool
   cs = set (k .come) (offsetOf T k t - 1) true
 
@@ -296,9 +331,6 @@ module _ {T : Numbering} {P : Profile} {k : Keeping} {t : ℕ} (w : Comes T P k 
   -- ---- of any number y
 
   module _ (y : ℕ) (hy : On T y) where
-    abbrev e : ℕ
-    e = offsetOf T (marked T P k t) y
-
     e-is : offsetOf T (marked T P k t) y ≡ forward (far T (on T (k .point .0) (movedBy T k t)) y)
     unfolding offsetOf
     e-is = ap (λ (p : Tsn). forward (far T (p .0) y)) marked-point
@@ -361,7 +393,7 @@ module _ {T : Numbering} {P : Profile} {k : Keeping} {t : ℕ} (w : Comes T P k 
     unfolding movedBy
     passed-come l h = sym flag-mid ∙ flag-run cs (offsetOf T k y) l h
 
-    -- ---- once known, known: until it lies ahead beyond every offset, half a circle behind the point
+    -- once known, known, as long as it does not lie ahead beyond every offset, as what is half a circle behind does
     pub known-stays : isKnown T k y ≡ true → offsetOf T (marked T P k t) y ≤ P .places → isKnown T (marked T P k t) y ≡ true
     known-stays q b = go (decLt (offsetOf T (marked T P k t) y) 1)
       where
@@ -373,7 +405,7 @@ module _ {T : Numbering} {P : Profile} {k : Keeping} {t : ℕ} (w : Comes T P k 
             let c : isCome T k y ≡ true = rw (le-ltb (offsetOf T k y) 1 (omega arith)) at q in
             rw (le-ltb (offsetOf T (marked T P k t) y) 1 l) (come-after ∙ rw (lt-ltb (movedBy T k t) (offsetOf T k y) (omega arith), c) (pick-true (eqb y t)))
 
-    -- nothing else becomes known than the number
+    -- and nothing becomes known but the number
     pub known-only : isKnown T (marked T P k t) y ≡ true → pick (eqb y t) true (isKnown T k y) ≡ true
     known-only q = go (decLt (offsetOf T k y) 1) (decLt (movedBy T k t) (offsetOf T k y))
       where

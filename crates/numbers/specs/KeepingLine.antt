@@ -12,10 +12,11 @@ use Rattle.scans.specs.Scan.{pick}
 use Rattle.scans.specs.Each.{set-map}
 use Rattle.numbers.specs.declared.circle.Tsn.{Tsn}
 use Rattle.numbers.specs.declared.keeping.Keeping.{Keeping}
+use Rattle.numbers.specs.Circle.{forward}
 use Rattle.numbers.specs.Numbering.{ring, line, Within, on-law, before-law, far-law}
 use Rattle.numbers.specs.Profile.{Profile}
 use Rattle.numbers.specs.Come.{run}
-use Rattle.numbers.specs.Keeping.{forward, fresh, offsetOf, isCome, settled, marked, listed, told, highestOf, keepingSound}
+use Rattle.numbers.specs.Keeping.{fresh, offsetOf, isCome, settled, marked, listed, told, highestOf, keepingSound}
 use Rattle.numbers.specs.Blocks.{blocksOf}
 
 abbrev pub reduceTsn : ℕ → Tsn → Tsn

@@ -18,7 +18,7 @@ use Rattle.scans.specs.Each.{All, clash}
 use Rattle.numbers.specs.declared.keeping.Keeping.{Keeping}
 use Rattle.numbers.specs.Numbering.{Numbering}
 use Rattle.numbers.specs.Profile.{Profile}
-use Rattle.numbers.specs.Come.{Below, highest-below}
+use Rattle.numbers.specs.ComeLaws.{Below, highest-below}
 use Rattle.numbers.specs.Keeping.{offsetOf, isCome, marked, highestOf}
 use Rattle.numbers.specs.Reach.{On}
 use Rattle.numbers.specs.KeepingLaws.{Comes, flagOf, come-below, same-ahead, movedBy, come-after, highest-after}
@@ -144,6 +144,10 @@ count-first (suc m) = ap suc (count-first m)
 
 -- ---- counts
 
+fewer : (b : Bool) (m : ℕ) → m ≤ tick b m
+fewer true m = omega arith
+fewer false m = omega arith
+
 -- what passes p passes q or r
 count-or : (p q r : ℕ → Bool) (ts : List ℕ) → All (λ (y : ℕ). p y ≡ true → (q y ≡ true) ⊎ (r y ≡ true)) ts → count p ts ≤ count q ts + count r ts
 count-or p q r [] w = zero-le
@@ -187,15 +191,19 @@ module _ (T : Numbering) (k : Keeping) (hp : On T (k .point .0)) where
   pigeon cs [] w s = zero-le
   pigeon cs (t ∷ ts) w s = go (flagOf cs (offsetOf T k t)) refl (λ ds. pigeon ds ts (w .1) (s .1))
     where
+      apart-at : (y : ℕ) → On T y → (y ≡ t → ⊥) → 0 < offsetOf T k t → offsetOf T k y ≡ offsetOf T k t → ⊥
+      apart-at y hy n l x = n (same-ahead T k t y hp (w .0) hy l x)
+
       go : (b : Bool) → flagOf cs (offsetOf T k t) ≡ b
           → ((ds : List Bool) → count (λ (y : ℕ). flagOf ds (offsetOf T k y)) ts ≤ count flag ds)
           → tick b (count (λ (y : ℕ). flagOf cs (offsetOf T k y)) ts) ≤ count flag cs
       go false q ih = ih cs
       go true q ih =
           let v = flag-inv cs (offsetOf T k t) q in
-          let e : count (λ (y : ℕ). flagOf cs (offsetOf T k y)) ts ≡ count (λ (y : ℕ). flagOf (set cs (offsetOf T k t - 1) false) (offsetOf T k y)) ts
-          = count-alike _ _ ts (all-both (λ y hy n. other-flag cs (offsetOf T k t) (offsetOf T k y) (v .0) (λ x. n (same-ahead T k t y hp (w .0) hy (v .0) x))) ts (w .1) (apart t ts (s .0))) in
-          omega (arith, e, clear-one cs (offsetOf T k t - 1) (v .1), ih (set cs (offsetOf T k t - 1) false))
+          let ds : List Bool = set cs (offsetOf T k t - 1) false in
+          let e : count (λ (y : ℕ). flagOf cs (offsetOf T k y)) ts ≡ count (λ (y : ℕ). flagOf ds (offsetOf T k y)) ts
+          = count-alike _ _ ts (all-both (λ y hy n. other-flag cs (offsetOf T k t) (offsetOf T k y) (v .0) (apart-at y hy n (v .0))) ts (w .1) (apart t ts (s .0))) in
+          omega (arith, e, clear-one cs (offsetOf T k t - 1) (v .1), ih ds)
 
   -- a number that is to come: fewer than n are held
   pub has-room : (n t : ℕ) (ts : List ℕ) → All (On T) ts → Distinct ts → 0 < offsetOf T k t → isCome T k t ≡ false
@@ -207,7 +215,8 @@ module _ (T : Numbering) (k : Keeping) (hp : On T (k .point .0)) where
       omega
       (arith, late-come T k ts, pigeon (k .come) ts w s, hole-count (k .come) m (offsetOf T k t - 1) (λ j h. highest-below (k .come) j (omega arith)) (omega arith) z)
 
-module _ {T : Numbering} {P : Profile} {k : Keeping} {t : ℕ} (w : Comes T P k t) (ts : List ℕ) (hs : All (On T) ts) (s : Distinct ts) (new : isAmong t ts ≡ false) where
+module _ {T : Numbering} {P : Profile} {k : Keeping} {t : ℕ} (w : Comes T P k t)
+    (ts : List ℕ) (hs : All (On T) ts) (s : Distinct ts) (new : isAmong t ts ≡ false) where
   -- the number held with the others: no more are late than were, and the steps that the point moved
   pub late-after : count (isLate T (marked T P k t)) (t ∷ ts) ≤ count (isLate T k) ts + movedBy T k t
   late-after =
@@ -238,11 +247,7 @@ module _ {T : Numbering} {P : Profile} {k : Keeping} {t : ℕ} (w : Comes T P k 
         where
           go : (b : Bool) → isCome T (marked T P k t) t ≡ b → Dec (movedBy T k t < offsetOf T k t)
               → count (isLate T (marked T P k t)) (t ∷ ts) + count q ts ≤ count (isLate T (marked T P k t)) ts + count q (t ∷ ts)
-          go true f m = rw f (grow (q t))
-            where
-              grow : (b : Bool) → count (isLate T (marked T P k t)) ts + count q ts ≤ count (isLate T (marked T P k t)) ts + tick b (count q ts)
-              grow true = omega arith
-              grow false = omega arith
+          go true f m = rw f (omega (arith, fewer (q t) (count q ts)))
           go false f (yes m) =
               clash (sym f ∙ (come-after w t (w .number) ∙ rw (lt-ltb (movedBy T k t) (offsetOf T k t) m, eq-eqb t t refl)))
           go false f (no m) = rw (f, flag-first (movedBy T k t) (offsetOf T k t) (w .ahead) (omega arith)) (omega arith)
@@ -262,11 +267,8 @@ module _ {T : Numbering} {P : Profile} {k : Keeping} {t : ℕ} (w : Comes T P k 
 
   pub bound-kept-unheld : (n : ℕ) → highestOf k + count (isLate T k) ts ≤ n → offsetOf T k t + count (isLate T k) ts ≤ n
       → highestOf (marked T P k t) + count (isLate T (marked T P k t)) ts ≤ n
-  bound-kept-unheld n a b = omega (arith, bound-kept n a b, fewer (isLate T (marked T P k t) t))
-    where
-      fewer : (b : Bool) → count (isLate T (marked T P k t)) ts ≤ tick b (count (isLate T (marked T P k t)) ts)
-      fewer true = omega arith
-      fewer false = omega arith
+  bound-kept-unheld n a b =
+      omega (arith, bound-kept n a b, fewer (isLate T (marked T P k t) t) (count (isLate T (marked T P k t)) ts))
 
 -- ---- a place is filled, or freed
 
@@ -331,15 +333,8 @@ module _ {A : Type 0} (used : A → Bool) (number : A → ℕ) where
   -- one taken out is no more
   pub count-freed : (q : ℕ → Bool) (xs : List A) (i : ℕ) (x : A) → used x ≡ false → count q (numbersOf used number (set xs i x)) ≤ count q (numbersOf used number xs)
   count-freed q [] i x u = zero-le
-  count-freed q (y ∷ xs) zero x u = rw u (go (used y) (q (number y)))
-    where
-      go : (b c : Bool) → count q (numbersOf used number xs) ≤ count q (pick b (number y ∷ numbersOf used number xs) (numbersOf used number xs))
-      go false c = omega arith
-      go true c = fewer (q (number y))
-        where
-          fewer : (b : Bool) → count q (numbersOf used number xs) ≤ tick b (count q (numbersOf used number xs))
-          fewer true = omega arith
-          fewer false = omega arith
+  count-freed q (y ∷ xs) zero x u =
+      rw (u, count-cons q (used y) (number y) (numbersOf used number xs)) (fewer (pick (used y) (q (number y)) false) (count q (numbersOf used number xs)))
   count-freed q (y ∷ xs) (suc i) x u =
       rw (count-cons q (used y) (number y) (numbersOf used number (set xs i x)), count-cons q (used y) (number y) (numbersOf used number xs))
       (go (pick (used y) (q (number y)) false) (count-freed q xs i x u))

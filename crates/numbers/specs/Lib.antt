@@ -9,6 +9,8 @@ pub mod Profile
 pub mod Come
 pub mod Keeping
 pub mod Blocks
+pub mod ComeLaws
+pub mod Sweep
 pub mod Reach
 pub mod KeepingLaws
 pub mod KeepingLine

@@ -10,8 +10,8 @@ use lib.Dec.{leb}
 use Rattle.scans.specs.Scan.{pick}
 use Rattle.numbers.specs.declared.circle.Distance.{Distance}
 use Rattle.numbers.specs.declared.circle.Distance.the-variants.{Ahead, Behind, Opposite}
+use Rattle.numbers.specs.Circle.{forward}
 use Rattle.numbers.specs.Numbering.{Numbering, ring, line, on, far, far-on, far-back, on-far, ahead-half}
-use Rattle.numbers.specs.Keeping.{forward}
 
 -- x is a number of this numbering
 abbrev pub On : Numbering → ℕ → Type 0
@@ -88,16 +88,20 @@ module _ (T : Numbering) (p m y : ℕ) (hp : On T p) (hy : On T y) where
   -- what lies beyond the steps moved is nearer by them
   pub nearer : m < forward (far T p y) → forward (far T (on T p m) y) ≡ forward (far T p y) - m
   nearer h =
+      let d : ℕ = forward (far T p y) in
       let w = ahead-on T p y hp hy (omega arith) in
-      let e : m + (forward (far T p y) - m) ≡ forward (far T p y) = omega arith in
-      on-ahead T (on T p m) y (forward (far T p y) - m) (on-On T p m hp) (short-le T (forward (far T p y)) (forward (far T p y) - m) (omega arith) (w .1)) (on-on T p m (forward (far T p y) - m) ∙ (ap (on T p) e ∙ w .0))
+      let e : m + (d - m) ≡ d = omega arith in
+      on-ahead T (on T p m) y (d - m) (on-On T p m hp) (short-le T d (d - m) (omega arith) (w .1))
+      (on-on T p m (d - m) ∙ (ap (on T p) e ∙ w .0))
 
   -- what the point has moved past, or reached, is no longer ahead
   pub passed : 0 < forward (far T p y) → forward (far T p y) ≤ m → Short T m → forward (far T (on T p m) y) ≡ 0
   passed l h s =
+      let d : ℕ = forward (far T p y) in
       let w = ahead-on T p y hp hy l in
-      let e : forward (far T p y) + (m - forward (far T p y)) ≡ m = omega arith in
-      on-behind T (on T p m) y (m - forward (far T p y)) hy (short-le T m (m - forward (far T p y)) (omega arith) s) (ap (λ (x : ℕ). on T x (m - forward (far T p y))) (sym (w .0)) ∙ (on-on T p (forward (far T p y)) (m - forward (far T p y)) ∙ ap (on T p) e))
+      let e : d + (m - d) ≡ m = omega arith in
+      on-behind T (on T p m) y (m - d) hy (short-le T m (m - d) (omega arith) s)
+      (ap (λ (x : ℕ). on T x (m - d)) (sym (w .0)) ∙ (on-on T p d (m - d) ∙ ap (on T p) e))
 
   -- what is ahead now was so much farther ahead
   pub was : 0 < forward (far T (on T p m) y) → Short T (m + forward (far T (on T p m) y)) → forward (far T p y) ≡ m + forward (far T (on T p m) y)

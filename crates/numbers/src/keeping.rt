@@ -3,11 +3,12 @@ use crate::circle::Distance;
 use crate::circle::Tsn;
 use crate::rail::Rail;
 ghost use mathlib.Core.Path.{_≡_};
-ghost use Prim.Native.Nat.{_^_, _<_, _≤_};
+ghost use Prim.Native.Nat.{_^_, _/_, _<_, _≤_};
+ghost use Rattle.numbers.specs.Circle.{forward};
 ghost use Rattle.numbers.specs.Numbering.{ring, far};
 ghost use Rattle.numbers.specs.Profile.{rail};
 ghost use Rattle.numbers.specs.Come.{run, shift};
-ghost use Rattle.numbers.specs.Keeping.{forward, fresh, offsetOf, isCome, marked, listed, told, highestOf, keepingSound};
+ghost use Rattle.numbers.specs.Keeping.{fresh, offsetOf, isCome, marked, listed, told, highestOf, keepingSound};
 ghost use Rattle.numbers.specs.Blocks.{blocksOf, closed};
 
 pub struct Keeping {
@@ -37,7 +38,7 @@ fn ahead_of(point: Tsn, t: Tsn) -> u32
 
 // How many offsets have come in a row, from offset 1.
 fn run_of(come: [bool; Rail::PLACES]) -> usize
-    ensures { λ r. ⌜ (r ≡ run come) × (r ≤ 128) ⌝ }
+    ensures { λ r. ⌜ (r ≡ run come) × (r ≤ rail .places) ⌝ }
 {
     let mut i: usize = 0;
     while i < Rail::PLACES {
@@ -66,7 +67,7 @@ fn shifted(come: [bool; Rail::PLACES], n: usize) -> [bool; Rail::PLACES]
 
 // One more block: of the `row` offsets that end at `at`.
 fn close(mut b: Blocks, at: usize, row: usize) -> Blocks
-    requires { ⌜ (0 < row) × (row ≤ at) × (at ≤ 128) × (b .count < 64) ⌝ }
+    requires { ⌜ (0 < row) × (row ≤ at) × (at ≤ rail .places) × (b .count < rail .places / 2) ⌝ }
     ensures { λ r. ⌜ r ≡ closed b at row ⌝ }
 {
     let n = b.count;
@@ -186,7 +187,7 @@ impl Keeping {
 
     // The highest offset come, and 0 where none has.
     pub fn highest(self) -> usize
-        ensures { λ r. ⌜ (r ≡ highestOf self) × (r ≤ 128) ⌝ }
+        ensures { λ r. ⌜ (r ≡ highestOf self) × (r ≤ rail .places) ⌝ }
     {
         let mut i: usize = Rail::PLACES;
         while 0 < i {

@@ -16,4 +16,9 @@ impl Rail {
 
     // Gap blocks of a SACK: every run in PLACES offsets has room.
     pub const BLOCKS: usize = 64;
+
+    // Tries of T1, and of T2 and T3: the next expiry closes.
+    pub const OPENING_TRIES: u8 = 8;
+
+    pub const TRIES: u8 = 10;
 }

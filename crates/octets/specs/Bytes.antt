@@ -1,6 +1,6 @@
 -- Numbers as bytes, "most significant byte first"; bytes laid over a list; padding to a multiple of 4.
 use Prim.Native.Nat.{ℕ, _+_, _-_, _*_, _/_, _%_}
-use mathlib.Core.List.{List, [], _∷_, _++_}
+use mathlib.Core.List.{List, [], _∷_}
 use lib.ListN.{getD, replicate}
 use lib.Seq.{sets}
 

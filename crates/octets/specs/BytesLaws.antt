@@ -1,11 +1,11 @@
 -- Laws of bytes: a number written is the number read; bytes laid behind bytes, and in a part of a list; a loop that lays bytes.
 -- Assumes nothing.
-use Prim.Native.Nat.{ℕ, suc, _+_, _-_, _*_, _/_, _%_, _<_, _≤_}
+use Prim.Native.Nat.{ℕ, zero, suc, _+_, _-_, _/_, _%_, _<_, _≤_}
 use mathlib.Core.Path.{_≡_, refl, sym, ap, _∙_}
 use mathlib.Core.List.{List, [], _∷_, _++_, append-nil}
 use native.Mathlib.Omega.{arith}
 use native.Mathlib.Numerals.{add-one}
-use lib.ListN.{length, getD, take, drop, set, length-set, replicate, length-replicate, drop-of-length-le, List·getD-eq-default, length-drop, take-append-drop}
+use lib.ListN.{length, getD, take, drop, set, length-set, replicate, length-replicate, drop-of-length-le, List·getD-eq-default, List·getD-append, length-drop, take-append-drop}
 use lib.Seq.{sets, sets-eq, set-out, length-sets, drop-cons, take-set-le, drop-set-lt, drop-set-add, take-all, take-nil, getD-drop}
 use Rattle.octets.specs.Bytes.{two, four, u16, u32, be16, be32, laid, up4, zeros}
 
@@ -54,6 +54,16 @@ u32-at s at x {r} e =
     let z : at + 0 ≡ at = omega arith in
     ap (λ (k : ℕ). u32 s k) (sym z) ∙ u32-drop at 0 s ∙ ap (λ (l : List ℕ). u32 l 0) e ∙ four-back x
 
+-- what stands before an end stays when more follows
+pub u16-append : (a b : List ℕ) (at : ℕ) → at + 2 ≤ length a → u16 (a ++ b) at ≡ u16 a at
+unfolding u16
+u16-append a b at h = rw (List·getD-append a b 0 at (omega arith), List·getD-append a b 0 (at + 1) (omega arith))
+
+pub u32-append : (a b : List ℕ) (at : ℕ) → at + 4 ≤ length a → u32 (a ++ b) at ≡ u32 a at
+unfolding u32
+u32-append a b at h =
+    rw (List·getD-append a b 0 at (omega arith), List·getD-append a b 0 (at + 1) (omega arith), List·getD-append a b 0 (at + 2) (omega arith), List·getD-append a b 0 (at + 3) (omega arith))
+
 -- past the end all is 0
 gone : (s : List ℕ) (at k : ℕ) → length s ≤ at → getD s (at + k) 0 ≡ 0
 gone s at k h = List·getD-eq-default s 0 (omega arith)
@@ -76,6 +86,14 @@ part-rest s at n h = part-is s at ∙ sym (take-all n (drop at s) (omega (arith,
 
 pub part-none : (s : List ℕ) (at n : ℕ) → length s ≤ at → [] ≡ take n (drop at s)
 part-none s at n h = sym (ap (λ (l : List ℕ). take n l) (drop-of-length-le s h) ∙ take-nil n)
+
+-- the part behind the first m of the first m + k
+pub drop-take : (m k : ℕ) (l : List ℕ) → drop m (take (m + k) l) ≡ take k (drop m l)
+drop-take zero k l = let e : 0 + k ≡ k = omega arith in ap (λ (n : ℕ). take n l) e
+drop-take (suc m) k [] = ap (λ (l : List ℕ). drop (suc m) l) (take-nil (suc m + k)) ∙ sym (take-nil k)
+drop-take (suc m) k (x ∷ l) =
+    let e : suc m + k ≡ suc (m + k) = omega arith in
+    ap (λ (n : ℕ). drop (suc m) (take n (x ∷ l))) e ∙ drop-take m k l
 
 -- ---- writing
 

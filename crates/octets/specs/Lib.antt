@@ -3,5 +3,6 @@ pub mod Bytes
 pub mod BytesLaws
 pub mod Walk
 pub mod WalkLaws
+pub mod Tiling
 pub mod Writing
 pub mod WritingLaws

@@ -1,10 +1,11 @@
 -- The walk over items with a 16-bit length at offset 2 and padding to a multiple of 4: chunks of a packet (RFC 9260 section 3.2),
 -- parameters of a chunk (section 3.2.1). An item is the part of the list that begins at its place.
-use Prim.Native.Nat.{ℕ, zero, suc, _+_}
+use Prim.Native.Nat.{ℕ, zero, suc, _+_, _≤_}
+use mathlib.Core.Path.{_≡_}
 use mathlib.Core.Bool.{Bool}
-use mathlib.Core.List.{List, [], _∷_}
+use mathlib.Core.List.{List, [], _∷_, _++_}
 use lib.Dec.{ltb}
-use lib.ListN.{length, drop}
+use lib.ListN.{length, take, drop}
 use Rattle.scans.specs.Scan.{pick}
 use Rattle.octets.specs.Bytes.{u16, up4}
 
@@ -37,3 +38,31 @@ fold f r (x ∷ xs) = fold f (f r x) xs
 -- what a step makes of r over the items of s from `at` on, in order
 unfoldable pub overItems {ℓ} : {R : Type ℓ} → (R → List ℕ → R) → R → List ℕ → ℕ → R
 overItems f r s at = fold (λ q k. f q (drop k s)) r (walk s at)
+
+-- the bytes of the item at a place, as far as the next one
+abbrev pub itemAt : List ℕ → ℕ → List ℕ
+itemAt s k = take (size (drop k s)) (drop k s)
+
+-- lists one behind the other, and the places at which they begin
+abbrev pub joined : List (List ℕ) → List ℕ
+joined [] = []
+joined (c ∷ cs) = c ++ joined cs
+
+abbrev pub places : ℕ → List (List ℕ) → List ℕ
+places at [] = []
+places at (c ∷ cs) = at ∷ places (at + length c) cs
+
+-- what a step makes of r over lists that were joined, each with those behind it
+abbrev pub overJoined {ℓ} : {R : Type ℓ} → (R → List ℕ → R) → R → List (List ℕ) → R
+overJoined f r [] = r
+overJoined f r (c ∷ cs) = overJoined f (f r (c ++ joined cs)) cs
+
+-- an item that ends where it says
+pub record Whole (c : List ℕ) : Type 0 where
+  pub some : 4 ≤ length c
+  pub exact : size c ≡ length c
+
+-- each place at least 4 past the one before
+abbrev pub Rising : ℕ → List ℕ → Type 0
+Rising from [] = Unit
+Rising from (k ∷ ks) = (from ≤ k) × Rising (k + 4) ks

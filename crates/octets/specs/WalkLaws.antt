@@ -1,16 +1,16 @@
 -- Laws of the walk: it goes on by the size of each item and ends; the invariants of a loop that searches the items, or folds them.
 -- Assumes nothing.
-use Prim.Native.Nat.{ℕ, zero, suc, _+_, _-_, _<_, _≤_}
+use Prim.Native.Nat.{ℕ, zero, suc, _+_, _-_, _*_, _%_, _<_, _≤_}
 use mathlib.Core.Path.{_≡_, refl, sym, ap, _∙_}
 use mathlib.Core.Bool.{Bool, true, false}
-use mathlib.Core.List.{List, [], _∷_}
+use mathlib.Core.List.{List, [], _∷_, _++_}
 use native.Mathlib.Omega.{arith}
 use borrow.Author.Tests.{lt-ltb, le-ltb, ltb-false}
 use lib.Dec.{ltb}
 use lib.ListN.{length, take, drop}
 use Rattle.scans.specs.Scan.{pick}
 use Rattle.octets.specs.Bytes.{u16, up4}
-use Rattle.octets.specs.BytesLaws.{part-is}
+use Rattle.octets.specs.BytesLaws.{u16-append, part-is}
 use Rattle.octets.specs.Walk.{size, walkBy, walk, firstItem, overItems}
 
 pub size-is : (s : List ℕ) → 4 ≤ u16 s 2 → size s ≡ up4 (u16 s 2)
@@ -25,19 +25,37 @@ size-least s = go (ltb (u16 s 2) 4) refl
     go true e = omega arith
     go false e = omega (arith, ltb-false (u16 s 2) 4 e)
 
+pub size-four : (s : List ℕ) → size s % 4 ≡ 0
+unfolding size
+size-four s = go (ltb (u16 s 2) 4)
+  where
+    go : (t : Bool) → pick t 4 (up4 (u16 s 2)) % 4 ≡ 0
+    go true = refl
+    go false = omega arith
+
+-- the size of an item that stands whole does not depend on what follows
+pub size-append : (c rest : List ℕ) → 4 ≤ length c → size (c ++ rest) ≡ size c
+unfolding size
+size-append c rest h = rw (u16-append c rest 2 h)
+
 walk-done : (n : ℕ) (s : List ℕ) (at : ℕ) → length s ≤ at → walkBy n s at ≡ []
 unfolding walkBy
 walk-done zero s at h = refl
 walk-done (suc n) s at h = rw (le-ltb at (length s) h)
 
--- more steps than bytes change nothing
-enough : (n m : ℕ) (s : List ℕ) (at : ℕ) → length s ≤ at + n → length s ≤ at + m → walkBy n s at ≡ walkBy m s at
+-- items are at least 4 bytes long: more steps than that change nothing
+enough : (n m : ℕ) (s : List ℕ) (at : ℕ) → length s ≤ at + 4 * n → length s ≤ at + 4 * m → walkBy n s at ≡ walkBy m s at
 unfolding walkBy
 enough zero m s at h k = sym (walk-done m s at (omega arith))
 enough (suc n) zero s at h k = walk-done (suc n) s at (omega arith)
 enough (suc n) (suc m) s at h k =
     ap (λ (r : List ℕ). pick (ltb at (length s)) (at ∷ r) [])
     (enough n m s (at + size (drop at s)) (omega (arith, size-least (drop at s))) (omega (arith, size-least (drop at s))))
+
+-- so a budget of n items walks all that 4 n bytes can hold
+pub walk-budget : (n : ℕ) (s : List ℕ) (at : ℕ) → length s ≤ at + 4 * n → walk s at ≡ walkBy n s at
+unfolding walk
+walk-budget n s at h = enough (length s) n s at (omega arith) h
 
 pub walk-end : (s : List ℕ) (at : ℕ) → length s ≤ at → walk s at ≡ []
 unfolding walk

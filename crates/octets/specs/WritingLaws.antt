@@ -3,18 +3,18 @@
 use Prim.Native.Nat.{ℕ, zero, suc, _+_, _-_, _*_, _<_, _≤_}
 use mathlib.Core.Path.{_≡_, refl, sym, ap, _∙_}
 use mathlib.Core.Bool.{Bool, true, false}
-use mathlib.Core.List.{List, [], _∷_, _++_, append-assoc}
+use mathlib.Core.List.{List, [], _++_, append-assoc}
 use native.Mathlib.Omega.{arith}
-use borrow.Author.Tests.{lt-ltb, le-ltb}
+use borrow.Author.Tests.{lt-ltb, le-ltb, ltb-false}
 use lib.Dec.{ltb}
-use lib.ListN.{length, take, drop, length-append, length-take, length-drop}
+use lib.ListN.{length, take, drop, length-append, length-drop}
 use lib.Seq.{drop-append-add}
 use Rattle.scans.specs.Scan.{pick}
-use Rattle.octets.specs.Bytes.{u16, be16, up4, zeros, laid}
+use Rattle.octets.specs.Bytes.{u16, up4, zeros, laid}
 use Rattle.octets.specs.BytesLaws.{u16-at, part-is, laid-nil, laid-more, laid-is, length-laid, laid-part, kept-part, zeros-long}
 use Rattle.octets.specs.Walk.{size}
 use Rattle.octets.specs.WalkLaws.{size-is}
-use Rattle.octets.specs.Writing.{head, chunk, items, wroteCount, wroteBytes, Wrote, wroteAt}
+use Rattle.octets.specs.Writing.{chunk, items, wroteCount, wroteBytes, Wrote, wroteAt}
 
 -- ---- a chunk
 
@@ -94,6 +94,21 @@ module _ (at : ℕ) (xs : List ℕ) {bs ys : List ℕ} {r : ℕ} (h : at ≤ len
   pub part-count : r ≡ pick (ltb 65532 (length bs)) 0 (pick (ltb (length xs - at) (length bs)) 0 (length bs))
   unfolding wroteCount
   part-count = rw part-long at (w .count)
+
+-- what a writer answers for the part of out that begins at `at`, and what it leaves there: the bytes, or all as it was
+pub data WroteAt (out : List ℕ) (at : ℕ) (bs : List ℕ) (count : ℕ) (exit : List ℕ) : Type 0 where
+  stayed : count ≡ 0 → exit ≡ out → WroteAt out at bs count exit
+  written : length bs ≤ length out - at → count ≡ length bs → exit ≡ laid out at bs → WroteAt out at bs count exit
+
+pub wrote-at : (out : List ℕ) (at : ℕ) (bs : List ℕ) → WroteAt out at bs (wroteCount (drop at out) bs) (wroteAt out at bs)
+unfolding wroteCount wroteAt
+wrote-at out at bs = rw (length-drop at out) (go (ltb 65532 (length bs)) (ltb (length out - at) (length bs)) refl)
+  where
+    go : (s t : Bool) → ltb (length out - at) (length bs) ≡ t
+        → WroteAt out at bs (pick s 0 (pick t 0 (length bs))) (pick s out (pick t out (laid out at bs)))
+    go true t e = stayed refl refl
+    go false true e = stayed refl refl
+    go false false e = written (ltb-false (length out - at) (length bs) e) refl refl
 
 -- no bytes: nothing is written
 pub wrote-none : (out : List ℕ) → Wrote out [] 0 out

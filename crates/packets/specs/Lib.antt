@@ -3,4 +3,6 @@ pub mod Header
 pub mod HeaderLaws
 pub mod Shape
 pub mod ShapeLaws
+pub mod Body
 pub mod Checks
+pub mod BodyLaws

@@ -21,25 +21,36 @@ const SHUTDOWN: u8 = 7;
 
 const SHUTDOWN_COMPLETE: u8 = 14;
 
-fn least(kind: u8) -> u16
-    ensures { λ r. ⌜ r ≡ leastOf kind ⌝ }
+// Their fixed fields.
+const DATA_LEAST: u16 = 16;
+
+const INIT_LEAST: u16 = 20;
+
+const SACK_LEAST: u16 = 16;
+
+const SHUTDOWN_LEAST: u16 = 8;
+
+const OTHER_LEAST: u16 = 4;
+
+fn least(k: u8) -> u16
+    ensures { λ r. ⌜ r ≡ leastOf k ⌝ }
 {
-    if kind == DATA {
-        return 16;
+    if k == DATA {
+        return DATA_LEAST;
     }
-    if kind == INIT {
-        return 20;
+    if k == INIT {
+        return INIT_LEAST;
     }
-    if kind == INIT_ACK {
-        return 20;
+    if k == INIT_ACK {
+        return INIT_LEAST;
     }
-    if kind == SACK {
-        return 16;
+    if k == SACK {
+        return SACK_LEAST;
     }
-    if kind == SHUTDOWN {
-        return 8;
+    if k == SHUTDOWN {
+        return SHUTDOWN_LEAST;
     }
-    4
+    OTHER_LEAST
 }
 
 fn alone(s: &[u8]) -> bool

@@ -3,33 +3,23 @@ use Rattle.octets.specs.BytesLaws.{u16-past}
 use borrow.Author.Needs.{needs}
 use Rattle.octets.proofs.bytes.get16.Statement.{statement}
 use Rattle.octets.proofs.bytes.get16.Tie as tie
-use Rattle.octets.proofs.bytes.get16.Reads as reads
-use Rattle.octets.proofs.bytes.get16.Lts as lts
-use Rattle.octets.proofs.bytes.get8.Reads as get8-reads
-use Rattle.octets.proofs.bytes.pair.Reads as pair-reads
 
--- src/bytes.rt:31:21
 shared-slice-read-pair : tie.Need-shared-slice-read-pair
 shared-slice-read-pair c = search needs
 
--- src/bytes.rt:31:36
 add-get8 : tie.Need-add-get8
 add-get8 c = search needs
 
--- src/bytes.rt:31:28
 get8-requires : tie.Need-get8-requires
 get8-requires c κs = search needs
 
--- src/bytes.rt:31:9
 pair-requires : tie.Need-pair-requires
 pair-requires c κs = search needs
 
--- src/bytes.rt:31:9
 returns : tie.Need-returns
 unfolding u16
 returns c = search needs
 
--- src/bytes.rt:27:1
 returns-2 : tie.Need-returns-2
 returns-2 c = u16-past _ _ (c .if1 .left)
 

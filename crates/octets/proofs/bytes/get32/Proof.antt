@@ -3,49 +3,35 @@ use Rattle.octets.specs.BytesLaws.{u32-past}
 use borrow.Author.Needs.{needs}
 use Rattle.octets.proofs.bytes.get32.Statement.{statement}
 use Rattle.octets.proofs.bytes.get32.Tie as tie
-use Rattle.octets.proofs.bytes.get32.Reads as reads
-use Rattle.octets.proofs.bytes.get32.Lts as lts
-use Rattle.octets.proofs.bytes.get8.Reads as get8-reads
-use Rattle.octets.proofs.bytes.quad.Reads as quad-reads
 
--- src/bytes.rt:40:21
 shared-slice-read-quad : tie.Need-shared-slice-read-quad
 shared-slice-read-quad c = search needs
 
--- src/bytes.rt:40:36
 add-get8 : tie.Need-add-get8
 add-get8 c = search needs
 
--- src/bytes.rt:40:28
 get8-requires : tie.Need-get8-requires
 get8-requires c κs = search needs
 
--- src/bytes.rt:40:53
 add-get8-2 : tie.Need-add-get8-2
 add-get8-2 c = search needs
 
--- src/bytes.rt:40:45
 get8-requires-2 : tie.Need-get8-requires-2
 get8-requires-2 c κs = search needs
 
--- src/bytes.rt:40:70
 add-get8-3 : tie.Need-add-get8-3
 add-get8-3 c = search needs
 
--- src/bytes.rt:40:62
 get8-requires-3 : tie.Need-get8-requires-3
 get8-requires-3 c κs = search needs
 
--- src/bytes.rt:40:9
 quad-requires : tie.Need-quad-requires
 quad-requires c κs = search needs
 
--- src/bytes.rt:40:9
 returns : tie.Need-returns
 unfolding u32
 returns c = search needs
 
--- src/bytes.rt:36:1
 returns-2 : tie.Need-returns-2
 returns-2 c = u32-past _ _ (c .if1 .left)
 

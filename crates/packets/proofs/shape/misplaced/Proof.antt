@@ -3,42 +3,31 @@ use Rattle.packets.specs.Shape.{misplaced as misplacedAt}
 use borrow.Author.Needs.{needs}
 use Rattle.packets.proofs.shape.misplaced.Statement.{statement}
 use Rattle.packets.proofs.shape.misplaced.Tie as tie
-use Rattle.packets.proofs.shape.misplaced.Reads as reads
-use Rattle.packets.proofs.shape.misplaced.Lts as lts
-use Rattle.octets.proofs.get16.Reads as get16-reads
 
--- src/shape.rt:57:13
 get16-requires : tie.Need-get16-requires
 get16-requires c κs = search needs
 
--- src/shape.rt:57:13
 cast-n : tie.Need-cast-n
 cast-n c = search needs
 
--- src/shape.rt:59:9
 returns : tie.Need-returns
 unfolding misplacedAt
 returns c = rw (← c .before .get16 .ensures, lt-ltb _ 4 (c .if1 .taken))
 
--- src/shape.rt:62:9
 returns-2 : tie.Need-returns-2
 unfolding misplacedAt
 returns-2 c = rw (← c .before .before .get16 .ensures, le-ltb _ 4 (c .before .if1 .left), eq-eqb _ _ (c .if2 .taken))
 
--- src/shape.rt:64:9
 add-if3 : tie.Need-add-if3
 add-if3 c = search needs
 
--- src/shape.rt:64:8
 mul-if3 : tie.Need-mul-if3
 mul-if3 c = search needs
 
--- src/shape.rt:65:9
 returns-3 : tie.Need-returns-3
 unfolding misplacedAt
 returns-3 c = rw (← c .before .before .before .get16 .ensures, le-ltb _ 4 (c .before .before .if1 .left), ne-eqb _ _ (c .before .if2 .left), lt-ltb _ _ (c .if3 .taken))
 
--- src/shape.rt:54:1
 returns-4 : tie.Need-returns-4
 unfolding misplacedAt
 returns-4 c = rw (← c .before .before .before .get16 .ensures, le-ltb _ 4 (c .before .before .if1 .left), ne-eqb _ _ (c .before .if2 .left), le-ltb _ _ (c .if3 .left))

@@ -2,7 +2,8 @@ use borrow.Author.Needs.{needs}
 use native.Mathlib.Omega.{arith}
 use Prim.Native.Nat.{_-_}
 use mathlib.Core.Path.{_∙_, refl}
-use Rattle.numbers.specs.Blocks.{laidOut, blocksOf, Sweeping, sweep-none, sweep-count, sweep-yes, sweep-idle, sweep-no, sweep-done, sweep-end}
+use Rattle.numbers.specs.Blocks.{laidOut, blocksOf}
+use Rattle.numbers.specs.Sweep.{Sweeping, sweep-none, sweep-count, sweep-yes, sweep-idle, sweep-no, sweep-done, sweep-end}
 use Rattle.numbers.proofs.keeping.Keeping.blocks.Statement.{statement}
 use Rattle.numbers.proofs.keeping.Keeping.blocks.Tie as tie
 

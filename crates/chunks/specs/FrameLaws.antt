@@ -1,0 +1,84 @@
+-- Laws of framed chunks: their length, how they are written row by row. Assumes nothing.
+use Prim.Native.Nat.{ℕ, _+_, _-_, _*_, _/_, _%_, _<_, _≤_}
+use mathlib.Core.Path.{_≡_, refl, ap, _∙_}
+use mathlib.Core.List.{List, _++_}
+use native.Mathlib.Omega.{arith}
+use borrow.Author.Tests.{lt-ltb, le-ltb, eq-eqb, ne-eqb}
+use lib.ListN.{length, getD, take, drop, length-append}
+use lib.Seq.{take-at}
+use Rattle.octets.specs.Bytes.{be16, be32, laid, zeros, up4}
+use Rattle.octets.specs.BytesLaws.{laid-is}
+use Rattle.octets.specs.Writing.{head, Wrote}
+use Rattle.octets.specs.WritingLaws.{length-chunk, length-items, Holds, first, then, wrote-none}
+use Rattle.chunks.specs.Frame.{framed, rowsOf, carrying}
+
+pub none-left : (a b : ℕ) → a ≤ b → a - b ≡ 0
+none-left a b h = omega arith
+
+-- two numbers in one row
+pub row-of : (a b : ℕ) → b < 65536 → be32 (a * 65536 + b) ≡ be16 a ++ be16 b
+row-of a b h =
+    let w : (a * 65536 + b) / 16777216 ≡ a / 256 = omega arith in
+    let x : (a * 65536 + b) / 65536 % 256 ≡ a % 256 = omega arith in
+    let y : (a * 65536 + b) / 256 % 256 ≡ b / 256 = omega arith in
+    let z : (a * 65536 + b) % 256 ≡ b % 256 = omega arith in
+    rw (w, x, y, z)
+
+pub framed-long : (k f : ℕ) (v : List ℕ) → length (framed k f v) ≡ up4 (4 + length v)
+framed-long k f v = length-chunk k f (4 + length v) v refl
+
+rows-long : (rows : List ℕ) → length (rowsOf rows) ≡ 4 * length rows
+rows-long rows = length-items (λ (i : ℕ). be32 (getD rows i 0)) (λ i. refl) 0 (length rows)
+
+module _ (k f : ℕ) (rows tail : List ℕ) where
+  body-long : length (rowsOf rows ++ tail) ≡ 4 * length rows + length tail
+  body-long = length-append (rowsOf rows) tail ∙ ap (λ (j : ℕ). j + length tail) (rows-long rows)
+
+  pub framed-rows : length (framed k f (rowsOf rows ++ tail)) ≡ up4 (4 + 4 * length rows + length tail)
+  framed-rows =
+      let e : 4 + length (rowsOf rows ++ tail) ≡ 4 + 4 * length rows + length tail = omega (arith, body-long) in
+      framed-long k f (rowsOf rows ++ tail) ∙ ap up4 e
+
+  -- head, rows, tail and padding, laid one behind the other
+  pub framed-laid : (out : List ℕ) {w x y z : List ℕ} → (n : ℕ) → n ≡ 4 + 4 * length rows + length tail
+      → w ≡ laid out 0 (head k f n) → x ≡ laid w 4 (rowsOf rows) → y ≡ laid x (4 + 4 * length rows) tail → z ≡ laid y n (zeros n)
+      → Holds out (framed k f (rowsOf rows ++ tail)) z
+  framed-laid out {w} {x} {y} {z} n e p q r s =
+      let m : 4 + length (rowsOf rows ++ tail) ≡ n = omega (arith, body-long) in
+      rw m
+      (then (then (then (first out (head k f n) p) 4 (rowsOf rows) refl q)
+      (4 + 4 * length rows) tail (omega (arith, rows-long rows)) r)
+      n (zeros n) (omega (arith, body-long)) s)
+
+-- ---- what was written, in other words
+
+pub wrote-as : {out bs cs exit : List ℕ} {r : ℕ} → bs ≡ cs → Wrote out bs r exit → Wrote out cs r exit
+wrote-as e w = rw (← e) w
+
+-- a row that holds two numbers
+pub row-wrote : (k f : ℕ) (a b : List ℕ) (h : ℕ) {x out exit : List ℕ} {r : ℕ} → be32 h ≡ x
+    → Wrote out (framed k f (a ++ be32 h ++ b)) r exit → Wrote out (framed k f (a ++ x ++ b)) r exit
+row-wrote k f a b h e w = wrote-as (ap (λ (y : List ℕ). framed k f (a ++ y ++ b)) e) w
+
+module _ (most : ℕ) (c bs : List ℕ) where
+  pub carry-over : {out : List ℕ} → most < length c → Wrote out (carrying most c bs) 0 out
+  unfolding carrying
+  carry-over {out} h = rw (lt-ltb most (length c) h) (wrote-none out)
+
+  pub carry-none : {out : List ℕ} → length c ≤ most → length c ≡ 0 → Wrote out (carrying most c bs) 0 out
+  unfolding carrying
+  carry-none {out} h e = rw (le-ltb most (length c) h, eq-eqb (length c) 0 e) (wrote-none out)
+
+  pub carry-is : length c ≤ most → (length c ≡ 0 → ⊥) → carrying most c bs ≡ bs
+  unfolding carrying
+  carry-is h n = rw (le-ltb most (length c) h, ne-eqb (length c) 0 n)
+
+-- ---- what was gathered in an array
+
+pub gathered : (l vs : List ℕ) (n : ℕ) → length vs ≡ n → n ≤ length l → take (n - 0) (drop 0 (laid l 0 vs)) ≡ vs
+gathered l vs n e h =
+    let z : n - 0 ≡ n = omega arith in
+    rw (z, laid-is vs l 0 (omega arith)) (take-at vs (drop (0 + length vs) l) n e)
+
+pub from-start : (n : ℕ) → n - 0 ≡ n
+from-start n = omega arith

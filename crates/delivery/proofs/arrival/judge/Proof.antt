@@ -1,0 +1,88 @@
+use borrow.Author.Tests.{lt-ltb, le-ltb}
+use Prim.Native.Nat.{_-_}
+use Rattle.delivery.specs.Receiving.{lowOf}
+use Rattle.delivery.specs.Arrival.{judgementOf, verdictOf}
+use borrow.Author.Needs.{needs}
+use Rattle.delivery.proofs.arrival.judge.Statement.{statement}
+use Rattle.delivery.proofs.arrival.judge.Tie as tie
+
+returns : tie.Need-returns
+unfolding verdictOf judgementOf lowOf
+returns c = rw (lt-ltb _ _ (c .if1 .taken))
+
+returns-2 : tie.Need-returns-2
+unfolding verdictOf judgementOf lowOf
+returns-2 c = rw (le-ltb _ _ (c .before .if1 .left), lt-ltb _ _ (c .if2 .taken))
+
+low-requires : tie.Need-low-requires
+low-requires c κs = search needs
+
+sub-judge : tie.Need-sub-judge
+sub-judge c = search needs
+
+cast-judge : tie.Need-cast-judge
+cast-judge c = search needs
+
+judge-requires : tie.Need-judge-requires
+judge-requires c κs = search needs
+
+is-old-requires : tie.Need-is-old-requires
+is-old-requires c κs = search needs
+
+returns-3 : tie.Need-returns-3
+unfolding verdictOf judgementOf lowOf
+returns-3 c = rw (le-ltb _ _ (c .before .before .before .before .before .before .before .before .before .if1 .left), le-ltb _ _ (c .before .before .before .before .before .before .before .before .if2 .left), ← c .before .before .before .low .ensures .0, ← c .before .before .judge .ensures, ← c .before .is-old .ensures, c .if3 .taken)
+
+is-repeat-requires : tie.Need-is-repeat-requires
+is-repeat-requires c κs = search needs
+
+returns-4 : tie.Need-returns-4
+unfolding verdictOf judgementOf lowOf
+returns-4 c = rw (le-ltb _ _ (c .before .before .before .before .before .before .before .before .before .before .before .if1 .left), le-ltb _ _ (c .before .before .before .before .before .before .before .before .before .before .if2 .left), ← c .before .before .before .before .before .low .ensures .0, ← c .before .before .before .before .judge .ensures, ← c .before .before .before .is-old .ensures, c .before .before .if3 .left, ← c .before .is-repeat .ensures, c .if4 .taken)
+
+is-wedged-requires : tie.Need-is-wedged-requires
+is-wedged-requires c κs = search needs
+
+returns-5 : tie.Need-returns-5
+unfolding verdictOf judgementOf lowOf
+returns-5 c = rw (le-ltb _ _ (c .before .before .before .before .before .before .before .before .before .before .before .before .before .before .if1 .left), le-ltb _ _ (c .before .before .before .before .before .before .before .before .before .before .before .before .before .if2 .left), ← c .before .before .before .before .before .before .before .before .low .ensures .0, ← c .before .before .before .before .before .before .before .judge .ensures, ← c .before .before .before .before .before .before .is-old .ensures, c .before .before .before .before .before .if3 .left, ← c .before .before .before .before .is-repeat .ensures, c .before .before .before .if4 .left, ← c .before .is-wedged .ensures, c .if5 .taken)
+
+is-beyond-requires : tie.Need-is-beyond-requires
+is-beyond-requires c κs = search needs
+
+returns-6 : tie.Need-returns-6
+unfolding verdictOf judgementOf lowOf
+returns-6 c = rw (le-ltb _ _ (c .before .before .before .before .before .before .before .before .before .before .before .before .before .before .before .before .if1 .left), le-ltb _ _ (c .before .before .before .before .before .before .before .before .before .before .before .before .before .before .before .if2 .left), ← c .before .before .before .before .before .before .before .before .before .before .low .ensures .0, ← c .before .before .before .before .before .before .before .before .before .judge .ensures, ← c .before .before .before .before .before .before .before .before .is-old .ensures, c .before .before .before .before .before .before .before .if3 .left, ← c .before .before .before .before .before .before .is-repeat .ensures, c .before .before .before .before .before .if4 .left, ← c .before .before .before .is-wedged .ensures, c .before .before .if5 .left, ← c .before .is-beyond .ensures, c .if6 .taken)
+
+is-agreed-requires : tie.Need-is-agreed-requires
+is-agreed-requires c κs = search needs
+
+returns-7 : tie.Need-returns-7
+unfolding verdictOf judgementOf lowOf
+returns-7 c = rw (le-ltb _ _ (c .before .before .before .before .before .before .before .before .before .before .before .before .before .before .before .before .before .before .before .if1 .left), le-ltb _ _ (c .before .before .before .before .before .before .before .before .before .before .before .before .before .before .before .before .before .before .if2 .left), ← c .before .before .before .before .before .before .before .before .before .before .before .before .before .low .ensures .0, ← c .before .before .before .before .before .before .before .before .before .before .before .before .judge .ensures, ← c .before .before .before .before .before .before .before .before .before .before .before .is-old .ensures, c .before .before .before .before .before .before .before .before .before .before .if3 .left, ← c .before .before .before .before .before .before .before .before .before .is-repeat .ensures, c .before .before .before .before .before .before .before .before .if4 .left, ← c .before .before .before .before .before .before .is-wedged .ensures, c .before .before .before .before .before .if5 .left, ← c .before .before .before .before .is-beyond .ensures, c .before .before .before .if6 .left, ← c .before .is-agreed .ensures, c .if7 .taken)
+
+returns-8 : tie.Need-returns-8
+unfolding verdictOf judgementOf lowOf
+returns-8 c = rw (le-ltb _ _ (c .before .before .before .before .before .before .before .before .before .before .before .before .before .before .before .before .before .before .before .if1 .left), le-ltb _ _ (c .before .before .before .before .before .before .before .before .before .before .before .before .before .before .before .before .before .before .if2 .left), ← c .before .before .before .before .before .before .before .before .before .before .before .before .before .low .ensures .0, ← c .before .before .before .before .before .before .before .before .before .before .before .before .judge .ensures, ← c .before .before .before .before .before .before .before .before .before .before .before .is-old .ensures, c .before .before .before .before .before .before .before .before .before .before .if3 .left, ← c .before .before .before .before .before .before .before .before .before .is-repeat .ensures, c .before .before .before .before .before .before .before .before .if4 .left, ← c .before .before .before .before .before .before .is-wedged .ensures, c .before .before .before .before .before .if5 .left, ← c .before .before .before .before .is-beyond .ensures, c .before .before .before .if6 .left, ← c .before .is-agreed .ensures, c .if7 .left)
+
+pub judge-spec : {M : Type 1} → statement M
+judge-spec =
+    tie.close
+    (tie.spec
+    returns
+    returns-2
+    low-requires
+    sub-judge
+    cast-judge
+    judge-requires
+    is-old-requires
+    returns-3
+    is-repeat-requires
+    returns-4
+    is-wedged-requires
+    returns-5
+    is-beyond-requires
+    returns-6
+    is-agreed-requires
+    returns-7
+    returns-8)

@@ -1,0 +1,487 @@
+-- The laws of receiving: a fresh record is within its bounds and every call keeps it so; a chunk that passes the checks finds a free place; a
+-- number that has come is answered 11 from then on; a refused call leaves all but what document 01's table names. Over either numbering.
+-- Assumes nothing.
+use Prim.Native.Nat.{ℕ, zero, suc, _+_, _-_, _<_, _≤_}
+use mathlib.Core.Path.{_≡_, refl, sym, ap, _∙_, subst}
+use mathlib.Core.Bool.{Bool, true, false, not}
+use mathlib.Core.List.{List, [], _∷_}
+use mathlib.Core.Logic.{_⊎_, inl, inr, ⊎-elim}
+use native.Mathlib.Omega.{arith}
+use native.Mathlib.Nat.{zero-add}
+use native.Mathlib.Decide.{decLt, decLe}
+use borrow.Author.Tests.{le-ltb, ltb-true, not-true}
+use lib.ListN.{length, set, replicate, getD, length-set, length-replicate}
+use lib.Dec.{ltb, eqb}
+use Rattle.numbers.specs.declared.circle.Tsn.{Tsn}
+use Rattle.numbers.specs.declared.circle.Judgement.{Judgement}
+use Rattle.numbers.specs.declared.circle.Judgement.the-variants.{AtOrBehind, AheadWithin, AheadBeyond, AtOpposite}
+use Rattle.numbers.specs.declared.keeping.Keeping.{Keeping}
+use Rattle.numbers.specs.Numbering.{Numbering}
+use Rattle.numbers.specs.Profile.{Profile}
+use Rattle.numbers.specs.Judgement.{judged}
+use Rattle.numbers.specs.Keeping as keeping
+use Rattle.numbers.specs.Reach.{On, Short}
+use Rattle.numbers.specs.KeepingLaws as number
+use Rattle.numbers.specs.KeepingRoom.{count-numbers, any-numbers, length-numbers, all-numbers, isLate, isAmong, Distinct, has-room, bound-kept, bound-kept-unheld, count-filled, count-freed, distinct-filled, distinct-freed}
+use Rattle.scans.specs.declared.Found.{Found}
+use Rattle.scans.specs.declared.Found.the-variants.{At, Nothing}
+use Rattle.scans.specs.Scan.{pick, tick, count, any, findFrom, find-within}
+use Rattle.scans.specs.Each.{All, all-set, clash, found-at}
+use Rattle.holding.specs.declared.held.Held.{Held}
+use Rattle.holding.specs.declared.taking.Took.{Took}
+use Rattle.holding.specs.Held.{noHeld, ssn0, isFree, holds, any-holds}
+use Rattle.holding.specs.Taking.{emptied, advanced, took, written}
+use Rattle.holding.specs.Taking as taking
+use Rattle.holding.specs.TakingLaws.{Leaves, same, less, took-leaves, advanced-long, took-refused}
+use Rattle.delivery.specs.declared.receiving.Receiving.{Receiving}
+use Rattle.delivery.specs.declared.arrival.Verdict.{Verdict}
+use Rattle.delivery.specs.declared.arrival.Verdict.the-variants.{Kept, Empty, Long, Duplicate, Wedged, Far, Stray}
+use Rattle.delivery.specs.Receiving.{fresh, isLow, lowOf, takenBy, taken}
+use Rattle.delivery.specs.Arrival.{numberOf, isOld, isBeyond, isRepeat, isAgreed, judgementOf, verdictOf, noted, passed, kept, keptIn, after, arrived, storedBy, areaAfter}
+use Rattle.delivery.specs.ArrivalLaws.{Coming, kept-coming, stray-coming}
+use Rattle.delivery.specs.Acknowledging.{told, acknowledged}
+use Rattle.delivery.specs.Bounds.{isUsed, numberIn, heldNumbers, Fit, Sound}
+
+-- ---- what every record has by its type, and every call keeps
+
+pub record Shaped (T : Numbering) (P : Profile) (r : Receiving) : Type 0 where
+  pub numbers : number.Shaped T P (r .keeping)
+  pub long : length (r .held) ≡ P .places
+  pub streams : length (r .next) ≡ P .streams
+  pub each : All (λ (h : Held). h .used ≡ true → On T (h .tsn .0)) (r .held)
+
+-- ---- low, by the numbers held
+
+low-late : (T : Numbering) (k : Keeping) (hs : List Held) → count (isLow T k) hs ≡ count (isLate T k) (heldNumbers hs)
+unfolding isLow
+low-late T k hs = count-numbers isUsed numberIn (isLate T k) hs
+
+low-is : (T : Numbering) (r : Receiving) → lowOf T r ≡ count (isLate T (r .keeping)) (heldNumbers (r .held))
+unfolding lowOf
+low-is T r = low-late T (r .keeping) (r .held)
+
+late-alike : (T : Numbering) (k l : Keeping) (ts : List ℕ) → k .point ≡ l .point → k .come ≡ l .come → count (isLate T k) ts ≡ count (isLate T l) ts
+late-alike T k l [] e f = refl
+late-alike T k l (t ∷ ts) e f = rw (number.come-alike T k l t e f, late-alike T k l ts e f)
+
+among-is : (t : ℕ) (hs : List Held) → isAmong t (heldNumbers hs) ≡ any (holds t) hs
+among-is t hs = sym (any-holds t hs ∙ any-numbers isUsed numberIn (λ (y : ℕ). eqb y t) hs)
+
+-- ---- a fresh record
+
+none-held : (n : ℕ) → heldNumbers (replicate n noHeld) ≡ []
+none-held zero = refl
+none-held (suc n) = none-held n
+
+module _ (Q : Held → Type 0) where
+  all-none : (n : ℕ) → Q noHeld → All Q (replicate n noHeld)
+  all-none zero q = tt
+  all-none (suc n) q = (q, all-none n q)
+
+module _ (T : Numbering) (P : Profile) (t : Tsn) where
+  pub fresh-shaped : On T (t .0) → Shaped T P (fresh T P t)
+  unfolding fresh
+  fresh-shaped h = record {
+    numbers = number.fresh-shaped T P t h;
+    long = length-replicate (P .places) noHeld;
+    streams = length-replicate (P .streams) ssn0;
+    each = all-none (λ (h : Held). h .used ≡ true → On T (h .tsn .0)) (P .places) (λ e. clash e);
+  }
+
+  pub fresh-sound : Sound T P (fresh T P t)
+  unfolding fresh
+  fresh-sound = record {
+    numbers = number.fresh-bounded T P t;
+    fit = all-none (λ (h : Held). h .used ≡ true → Fit P h) (P .places) (λ e. clash e);
+    room = omega (arith, number.fresh-highest T P t, low-is T (fresh T P t), ap (count (isLate T (keeping.fresh T P t))) (none-held (P .places)));
+    apart = subst Distinct (sym (none-held (P .places))) tt;
+  }
+
+-- ---- what a verdict says of the number
+
+module _ (T : Numbering) (P : Profile) (r : Receiving) (h : Held) (w : Shaped T P r) (on : On T (h .tsn .0)) (wide : Short T (P .places + P .places))
+    {streams : ℕ} (c : Coming T P r h streams) where
+  -- it lies ahead, within the room that the low chunks leave
+  within : (0 < keeping.offsetOf T (r .keeping) (h .tsn .0)) × (keeping.offsetOf T (r .keeping) (h .tsn .0) ≤ P .places - lowOf T r)
+  unfolding judgementOf
+  within = go (judgementOf T P r (h .tsn .0)) refl (c .new) (c .near)
+    where
+      go : (j : Judgement) → judgementOf T P r (h .tsn .0) ≡ j → isOld j ≡ false → isBeyond j ≡ false
+          → (0 < keeping.offsetOf T (r .keeping) (h .tsn .0)) × (keeping.offsetOf T (r .keeping) (h .tsn .0) ≤ P .places - lowOf T r)
+      go AtOrBehind e a b = clash (sym a)
+      go AtOpposite e a b = clash (sym a)
+      go (AheadBeyond d) e a b = clash (sym b)
+      go (AheadWithin d) e a b =
+          let o = number.judged-offset T (r .keeping) (P .places - lowOf T r) (h .tsn .0) (AheadWithin d) e in
+          (omega (arith, o .0, o .1), omega (arith, o .0, o .2))
+
+  new-number : (keeping.isCome T (r .keeping) (h .tsn .0) ≡ false) × (any (holds (h .tsn .0)) (r .held) ≡ false)
+  unfolding isRepeat
+  new-number = go (keeping.isCome T (r .keeping) (h .tsn .0)) (c .first)
+    where
+      go : (t : Bool) → pick t true (any (holds (h .tsn .0)) (r .held)) ≡ false → (t ≡ false) × (any (holds (h .tsn .0)) (r .held) ≡ false)
+      go true e = clash (sym e)
+      go false e = (refl, e)
+
+  comes : number.Comes T P (r .keeping) (h .tsn .0)
+  comes = record {
+    point = w .numbers .point;
+    number = on;
+    wide = wide;
+    long = w .numbers .long;
+    ahead = within .0;
+    near = omega (arith, within .1);
+  }
+
+  abbrev ts : List ℕ
+  ts = heldNumbers (r .held)
+
+  new-among : isAmong (h .tsn .0) ts ≡ false
+  new-among = among-is (h .tsn .0) (r .held) ∙ new-number .1
+
+  module _ (s : Sound T P r) where
+    low-room : keeping.highestOf (r .keeping) + count (isLate T (r .keeping)) ts ≤ P .places
+    low-room = omega (arith, s .room, low-is T r)
+
+    low-here : keeping.offsetOf T (r .keeping) (h .tsn .0) + count (isLate T (r .keeping)) ts ≤ P .places
+    low-here = omega (arith, within .0, within .1, low-is T r)
+
+    -- the third wrong build: a chunk that passes the checks finds a free place
+    some-free : count isUsed (r .held) < length (r .held)
+    some-free =
+        omega
+        (arith, length-numbers isUsed numberIn (r .held), w .long, has-room T (r .keeping) (w .numbers .point) (P .places) (h .tsn .0) ts (all-numbers isUsed numberIn (On T) (r .held) (w .each)) (s .apart) (within .0) (new-number .0) low-room low-here)
+
+    pub finds-place : (i : ℕ) × (findFrom isFree 0 (r .held) ≡ At i) × (i < length (r .held)) × (getD (r .held) i noHeld .used ≡ false)
+    finds-place = go (findFrom isFree 0 (r .held)) refl
+      where
+        full : (hs : List Held) (i : ℕ) → findFrom isFree i hs ≡ Nothing → count isUsed hs ≡ length hs
+        full [] i e = refl
+        full (x ∷ hs) i e = used (x .used) e (full hs (i + 1))
+          where
+            used : (u : Bool) → pick (not u) (At i) (findFrom isFree (i + 1) hs) ≡ Nothing
+                → (findFrom isFree (i + 1) hs ≡ Nothing → count isUsed hs ≡ length hs) → tick u (count isUsed hs) ≡ suc (length hs)
+            used true q ih = ap suc (ih q)
+            used false q ih = let z : _≡_ {A = ℕ} 0 1 = cc in absurd (omega arith)
+
+        go : (f : Found) → findFrom isFree 0 (r .held) ≡ f
+            → (i : ℕ) × (findFrom isFree 0 (r .held) ≡ At i) × (i < length (r .held)) × (getD (r .held) i noHeld .used ≡ false)
+        go Nothing e = absurd (omega (arith, full (r .held) 0 e, some-free))
+        go (At i) e =
+            (i, e, rw (zero-add (length (r .held))) at (find-within isFree (r .held) 0 i e), not-true (getD (r .held) i noHeld .used) (found-at isFree noHeld (r .held) i e))
+
+    -- the number comes, and nothing is held
+    pub passed-sound : Sound T P (passed T P r (h .tsn .0))
+    unfolding passed
+    passed-sound = record {
+      numbers = number.marked-bounded T P (r .keeping) (h .tsn .0) (s .numbers);
+      fit = s .fit;
+      room =
+          omega
+          (arith, low-is T (passed T P r (h .tsn .0)), bound-kept-unheld comes ts (all-numbers isUsed numberIn (On T) (r .held) (w .each)) (s .apart) new-among (P .places) low-room low-here);
+      apart = s .apart;
+    }
+
+    -- the chunk is held at a place that was free
+    pub kept-sound : (i : ℕ) → i < length (r .held) → getD (r .held) i noHeld .used ≡ false → h .used ≡ true → Fit P h → Sound T P (kept T P r i h)
+    unfolding kept
+    kept-sound i hi free u fit = record {
+      numbers = number.marked-bounded T P (r .keeping) (h .tsn .0) (s .numbers);
+      fit = all-set (λ (x : Held). x .used ≡ true → Fit P x) (r .held) i h (λ e. fit) (s .fit);
+      room =
+          omega
+          (arith, low-is T (kept T P r i h), count-filled isUsed numberIn (isLate T (keeping.marked T P (r .keeping) (h .tsn .0))) (r .held) i h noHeld hi u free, bound-kept comes ts (all-numbers isUsed numberIn (On T) (r .held) (w .each)) (s .apart) new-among (P .places) low-room low-here);
+      apart = distinct-filled isUsed numberIn (r .held) i h noHeld hi u free new-among (s .apart);
+    }
+
+agreed-below : (P : Profile) (s streams : ℕ) → isAgreed P s streams ≡ true → s < P .streams
+unfolding isAgreed
+agreed-below P s streams e = go (ltb s (P .streams)) refl
+  where
+    go : (t : Bool) → ltb s (P .streams) ≡ t → s < P .streams
+    go true q = ltb-true s (P .streams) q
+    go false q = clash (rw q at e)
+
+-- ---- every call keeps the bounds, and what a record has by its type
+
+module _ (T : Numbering) (P : Profile) (r : Receiving) (w : Shaped T P r) where
+  noted-shaped : (t : Tsn) → Shaped T P (noted P r t)
+  unfolding noted
+  noted-shaped t = record { numbers = number.listed-shaped T P (r .keeping) t (w .numbers); long = w .long; streams = w .streams; each = w .each }
+
+  passed-shaped : (t : ℕ) → Shaped T P (passed T P r t)
+  unfolding passed
+  passed-shaped t = record { numbers = number.marked-shaped T P (r .keeping) t (w .numbers); long = w .long; streams = w .streams; each = w .each }
+
+  kept-shaped : (i : ℕ) (h : Held) → On T (h .tsn .0) → Shaped T P (kept T P r i h)
+  unfolding kept
+  kept-shaped i h on = record {
+    numbers = number.marked-shaped T P (r .keeping) (h .tsn .0) (w .numbers);
+    long = length-set (r .held) i h ∙ w .long;
+    streams = w .streams;
+    each = all-set (λ (x : Held). x .used ≡ true → On T (x .tsn .0)) (r .held) i h (λ e. on) (w .each);
+  }
+
+  pub arrived-shaped : (h : Held) (streams : ℕ) → On T (h .tsn .0) → Shaped T P (arrived T P r h streams .receiving)
+  unfolding arrived
+  arrived-shaped h streams on = go (verdictOf T P r h streams)
+    where
+      place : (f : Found) → Shaped T P (keptIn T P r h f)
+      place (At i) = kept-shaped i h on
+      place Nothing = passed-shaped (h .tsn .0)
+
+      go : (v : Verdict) → Shaped T P (after T P r h v)
+      go Kept = place (findFrom isFree 0 (r .held))
+      go Duplicate = noted-shaped (h .tsn)
+      go Stray = passed-shaped (h .tsn .0)
+      go Empty = w
+      go Long = w
+      go Wedged = w
+      go Far = w
+
+noted-sound : (T : Numbering) (P : Profile) (r : Receiving) (t : Tsn) → Sound T P r → Sound T P (noted P r t)
+unfolding noted
+noted-sound T P r t s =
+    let p = number.listed-point P (r .keeping) t in
+    record {
+      numbers = number.listed-bounded P (r .keeping) t (s .numbers);
+      fit = s .fit;
+      room =
+          omega
+          (arith, s .room, low-is T r, low-is T (noted P r t), late-alike T (keeping.listed P (r .keeping) t) (r .keeping) (heldNumbers (r .held)) (p .0) (p .1), number.highest-alike (keeping.listed P (r .keeping) t) (r .keeping) (p .1));
+      apart = s .apart;
+    }
+
+pub arrived-sound : (T : Numbering) (P : Profile) (r : Receiving) (h : Held) (streams : ℕ) → Short T (P .places + P .places) → Shaped T P r → Sound T P r
+    → On T (h .tsn .0) → h .used ≡ true → Sound T P (arrived T P r h streams .receiving)
+unfolding arrived
+arrived-sound T P r h streams wide w s on u = go (verdictOf T P r h streams) refl
+  where
+    go : (v : Verdict) → verdictOf T P r h streams ≡ v → Sound T P (after T P r h v)
+    go Kept e =
+        let c = kept-coming T P r h streams e in
+        let f = finds-place T P r h w on wide (c .0) s in
+        let a : Fit P h = record { some = c .0 .some; small = c .0 .fits; stream = agreed-below P (h .stream .0) streams (c .1) } in
+        rw (f .1) (kept-sound T P r h w on wide (c .0) s (f .0) (f .2) (f .3) u a)
+    go Duplicate e = noted-sound T P r (h .tsn) s
+    go Stray e = passed-sound T P r h w on wide (stray-coming T P r h streams e) s
+    go Empty e = s
+    go Long e = s
+    go Wedged e = s
+    go Far e = s
+
+-- "a chunk that passes the checks finds a free place"
+pub kept-placed : (T : Numbering) (P : Profile) (r : Receiving) (h : Held) (streams : ℕ) → Short T (P .places + P .places) → Shaped T P r → Sound T P r
+    → On T (h .tsn .0) → verdictOf T P r h streams ≡ Kept
+    → (i : ℕ) × (findFrom isFree 0 (r .held) ≡ At i) × (i < length (r .held)) × (getD (r .held) i noHeld .used ≡ false)
+kept-placed T P r h streams wide w s on e = finds-place T P r h w on wide (kept-coming T P r h streams e .0) s
+
+-- ---- a take
+
+module _ (Q : Held → Type 0) (q : Q noHeld) where
+  all-emptied : (hs : List Held) (is : List ℕ) → All Q hs → All Q (emptied hs is)
+  all-emptied hs [] w = w
+  all-emptied hs (i ∷ is) w = all-emptied (set hs i noHeld) is (all-set Q hs i noHeld q w)
+
+emptied-long : (hs : List Held) (is : List ℕ) → length (emptied hs is) ≡ length hs
+emptied-long hs [] = refl
+emptied-long hs (i ∷ is) = emptied-long (set hs i noHeld) is ∙ length-set hs i noHeld
+
+emptied-apart : (hs : List Held) (is : List ℕ) → Distinct (heldNumbers hs) → Distinct (heldNumbers (emptied hs is))
+emptied-apart hs [] s = s
+emptied-apart hs (i ∷ is) s = emptied-apart (set hs i noHeld) is (distinct-freed isUsed numberIn hs i noHeld refl s)
+
+emptied-count : (q : ℕ → Bool) (hs : List Held) (is : List ℕ) → count q (heldNumbers (emptied hs is)) ≤ count q (heldNumbers hs)
+emptied-count q hs [] = omega arith
+emptied-count q hs (i ∷ is) = omega (arith, emptied-count q (set hs i noHeld) is, count-freed isUsed numberIn q hs i noHeld refl)
+
+module _ (T S : Numbering) (P : Profile) (r : Receiving) (room : ℕ) where
+  abbrev leaves : Took → Receiving
+  leaves t = takenBy r t .receiving
+
+  pub taken-shaped : Shaped T P r → Shaped T P (taken T S P r room .receiving)
+  unfolding taken
+  taken-shaped w = go (took T S P (r .held) (r .next) (r .keeping .point .0) room) (took-leaves T S P (r .held) (r .next) (r .keeping .point .0) room)
+    where
+      go : (t : Took) → Leaves S (r .held) (r .next) t → Shaped T P (leaves t)
+      go _ (same a) = record { numbers = w .numbers; long = w .long; streams = w .streams; each = w .each }
+      go _ (less m is first) = record {
+        numbers = w .numbers;
+        long = emptied-long (r .held) is ∙ w .long;
+        streams = advanced-long S (r .next) first ∙ w .streams;
+        each = all-emptied (λ (x : Held). x .used ≡ true → On T (x .tsn .0)) (λ e. clash e) (r .held) is (w .each);
+      }
+
+  pub taken-sound : Sound T P r → Sound T P (taken T S P r room .receiving)
+  unfolding taken
+  taken-sound s = go (took T S P (r .held) (r .next) (r .keeping .point .0) room) (took-leaves T S P (r .held) (r .next) (r .keeping .point .0) room)
+    where
+      go : (t : Took) → Leaves S (r .held) (r .next) t → Sound T P (leaves t)
+      go _ (same a) = record { numbers = s .numbers; fit = s .fit; room = omega (arith, s .room, low-is T r, low-is T (leaves (record { answer = a; held = r .held; next = r .next }))); apart = s .apart }
+      go _ (less m is first) = record {
+        numbers = s .numbers;
+        fit = all-emptied (λ (x : Held). x .used ≡ true → Fit P x) (λ e. clash e) (r .held) is (s .fit);
+        room =
+            omega
+            (arith, s .room, low-is T r, low-is T (record { keeping = r .keeping; held = emptied (r .held) is; next = advanced S (r .next) first }), emptied-count (isLate T (r .keeping)) (r .held) is);
+        apart = emptied-apart (r .held) is (s .apart);
+      }
+
+-- ---- a SACK
+
+module _ (T : Numbering) (P : Profile) (r : Receiving) where
+  pub told-shaped : Shaped T P r → Shaped T P (acknowledged P r .receiving)
+  unfolding acknowledged told
+  told-shaped w = record { numbers = number.told-shaped T P (r .keeping) (w .numbers); long = w .long; streams = w .streams; each = w .each }
+
+  pub told-sound : Sound T P r → Sound T P (acknowledged P r .receiving)
+  unfolding acknowledged told
+  told-sound s =
+      let p = number.told-point P (r .keeping) in
+      record {
+        numbers = number.told-bounded P (r .keeping) (s .numbers);
+        fit = s .fit;
+        room =
+            omega
+            (arith, s .room, low-is T r, low-is T (record { keeping = keeping.told P (r .keeping); held = r .held; next = r .next }), late-alike T (keeping.told P (r .keeping)) (r .keeping) (heldNumbers (r .held)) (p .0) (p .1), number.highest-alike (keeping.told P (r .keeping)) (r .keeping) (p .1));
+        apart = s .apart;
+      }
+
+-- ---- never twice: the second wrong build
+
+-- what is at or behind the point, or has come above it, is old or a repeat
+known-old : (T : Numbering) (P : Profile) (r : Receiving) (t : ℕ) → number.isKnown T (r .keeping) t ≡ true
+    → (isOld (judgementOf T P r t) ≡ true) ⊎ (isRepeat T (r .keeping) (r .held) t ≡ true)
+unfolding isRepeat judgementOf
+known-old T P r t k = go (judged T (r .keeping .point .0) (P .places - lowOf T r) t) refl
+  where
+    again : (d : ℕ) → keeping.offsetOf T (r .keeping) t ≡ d → 0 < d → pick (keeping.isCome T (r .keeping) t) true (any (holds t) (r .held)) ≡ true
+    again d e l =
+        let m : 1 ≤ keeping.offsetOf T (r .keeping) t = omega arith in
+        let c : keeping.isCome T (r .keeping) t ≡ true = rw (le-ltb (keeping.offsetOf T (r .keeping) t) 1 m) at k in
+        rw c
+
+    go : (j : Judgement) → judged T (r .keeping .point .0) (P .places - lowOf T r) t ≡ j
+        → (isOld j ≡ true) ⊎ (pick (keeping.isCome T (r .keeping) t) true (any (holds t) (r .held)) ≡ true)
+    go AtOrBehind e = inl refl
+    go AtOpposite e = inl refl
+    go (AheadWithin d) e = let o = number.judged-offset T (r .keeping) (P .places - lowOf T r) t (AheadWithin d) e in inr (again d (o .0) (o .1))
+    go (AheadBeyond d) e = let o = number.judged-offset T (r .keeping) (P .places - lowOf T r) t (AheadBeyond d) e in inr (again d (o .0) (o .1))
+
+-- and is answered 11, whatever else the record holds
+pub known-again : (T : Numbering) (P : Profile) (r : Receiving) (h : Held) (streams : ℕ) → 1 ≤ h .len → h .len ≤ P .payload
+    → number.isKnown T (r .keeping) (h .tsn .0) ≡ true → verdictOf T P r h streams ≡ Duplicate
+unfolding verdictOf
+known-again T P r h streams a b k =
+    rw (le-ltb (h .len) 1 a, le-ltb (P .payload) (h .len) b)
+    (⊎-elim (λ e. rw e) (λ e. rw e (either-way (isOld (judgementOf T P r (h .tsn .0))))) (known-old T P r (h .tsn .0) k))
+  where
+    either-way : (t : Bool) → pick t Duplicate Duplicate ≡ Duplicate
+    either-way true = refl
+    either-way false = refl
+
+-- what has come is known from then on, held or refused 14
+pub arrived-comes : (T : Numbering) (P : Profile) (r : Receiving) (h : Held) (streams : ℕ) → Short T (P .places + P .places) → Shaped T P r
+    → On T (h .tsn .0) → (verdictOf T P r h streams ≡ Kept) ⊎ (verdictOf T P r h streams ≡ Stray)
+    → number.isKnown T (arrived T P r h streams .receiving .keeping) (h .tsn .0) ≡ true
+unfolding arrived kept passed
+arrived-comes T P r h streams wide w on =
+    ⊎-elim
+    (λ e. rw e (place (findFrom isFree 0 (r .held)) (kept-coming T P r h streams e .0)))
+    (λ e. rw e (number.known-marked (comes T P r h w on wide (stray-coming T P r h streams e))))
+  where
+    place : (f : Found) → Coming T P r h streams → number.isKnown T (keptIn T P r h f .keeping) (h .tsn .0) ≡ true
+    place (At i) c = number.known-marked (comes T P r h w on wide c)
+    place Nothing c = number.known-marked (comes T P r h w on wide c)
+
+-- and stays known through every arrival, as long as it does not lie ahead beyond every offset, as what is half a circle behind does
+module _ (T : Numbering) (P : Profile) (r : Receiving) (wide : Short T (P .places + P .places)) (w : Shaped T P r) (y : ℕ) (hy : On T y)
+    (k : number.isKnown T (r .keeping) y ≡ true) where
+  marked-known : (t : ℕ) → On T t → keeping.offsetOf T (keeping.marked T P (r .keeping) t) y ≤ P .places
+      → number.isKnown T (keeping.marked T P (r .keeping) t) y ≡ true
+  marked-known t on l = go (decLt 0 (keeping.offsetOf T (r .keeping) t)) (decLe (keeping.offsetOf T (r .keeping) t) (P .places))
+    where
+      out : (keeping.offsetOf T (r .keeping) t ≡ 0) ⊎ (P .places < keeping.offsetOf T (r .keeping) t) → number.isKnown T (keeping.marked T P (r .keeping) t) y ≡ true
+      out e = ap (λ (x : Keeping). number.isKnown T x y) (number.marked-out T P (r .keeping) t e) ∙ k
+
+      go : Dec (0 < keeping.offsetOf T (r .keeping) t) → Dec (keeping.offsetOf T (r .keeping) t ≤ P .places)
+          → number.isKnown T (keeping.marked T P (r .keeping) t) y ≡ true
+      go (no a) b = out (inl (omega arith))
+      go (yes a) (no b) = out (inr (omega arith))
+      go (yes a) (yes b) =
+          number.known-stays (record { point = w .numbers .point; number = on; wide = wide; long = w .numbers .long; ahead = a; near = b }) y hy k l
+
+  noted-known : (t : Tsn) → number.isKnown T (keeping.listed P (r .keeping) t) y ≡ true
+  noted-known t =
+      let p = number.listed-point P (r .keeping) t in
+      ap (λ (d : ℕ). pick (ltb d 1) true (keeping.isCome T (keeping.listed P (r .keeping) t) y)) (number.offset-alike T (keeping.listed P (r .keeping) t) (r .keeping) y (p .0))
+      ∙ (ap (λ (b : Bool). pick (ltb (keeping.offsetOf T (r .keeping) y) 1) true b) (number.come-alike T (keeping.listed P (r .keeping) t) (r .keeping) y (p .0) (p .1)) ∙ k)
+
+  pub arrived-known : (h : Held) (streams : ℕ) → On T (h .tsn .0)
+      → keeping.offsetOf T (arrived T P r h streams .receiving .keeping) y ≤ P .places
+      → number.isKnown T (arrived T P r h streams .receiving .keeping) y ≡ true
+  unfolding arrived noted passed kept
+  arrived-known h streams on = go (verdictOf T P r h streams)
+    where
+      place : (f : Found) → keeping.offsetOf T (keptIn T P r h f .keeping) y ≤ P .places → number.isKnown T (keptIn T P r h f .keeping) y ≡ true
+      place (At i) l = marked-known (h .tsn .0) on l
+      place Nothing l = marked-known (h .tsn .0) on l
+
+      go : (v : Verdict) → keeping.offsetOf T (after T P r h v .keeping) y ≤ P .places → number.isKnown T (after T P r h v .keeping) y ≡ true
+      go Kept l = place (findFrom isFree 0 (r .held)) l
+      go Duplicate l = noted-known (h .tsn)
+      go Stray l = marked-known (h .tsn .0) on l
+      go Empty l = k
+      go Long l = k
+      go Wedged l = k
+      go Far l = k
+
+  -- a take leaves number-keeping alone, and a SACK its point and offsets
+  pub taken-known : (S : Numbering) (room : ℕ) → number.isKnown T (taken T S P r room .receiving .keeping) y ≡ true
+  unfolding taken
+  taken-known S room = k
+
+-- ---- a refused call leaves all but what the table names
+
+-- 9, 10, 12, 13: all; 11: "TSN listed if room"; 14: "TSN comes, point moves, nothing held"
+pub data LeftBy (T : Numbering) (P : Profile) (r : Receiving) (h : Held) : Verdict → Receiving → Type 0 where
+  all : (v : Verdict) → (numberOf v ≡ 9) ⊎ (numberOf v ≡ 10) ⊎ (numberOf v ≡ 12) ⊎ (numberOf v ≡ 13) → LeftBy T P r h v r
+  but-listed : LeftBy T P r h Duplicate (noted P r (h .tsn))
+  but-come : LeftBy T P r h Stray (passed T P r (h .tsn .0))
+
+module _ (T : Numbering) (P : Profile) (r : Receiving) (h : Held) (streams : ℕ) where
+  pub arrived-refused : 0 < numberOf (verdictOf T P r h streams)
+      → LeftBy T P r h (verdictOf T P r h streams) (arrived T P r h streams .receiving)
+  unfolding arrived
+  arrived-refused n = go (verdictOf T P r h streams) n
+    where
+      go : (v : Verdict) → 0 < numberOf v → LeftBy T P r h v (after T P r h v)
+      go Kept n = absurd (omega arith)
+      go Empty n = all Empty (inl refl)
+      go Long n = all Long (inr (inl refl))
+      go Wedged n = all Wedged (inr (inr (inl refl)))
+      go Far n = all Far (inr (inr (inr refl)))
+      go Duplicate n = but-listed
+      go Stray n = but-come
+
+  -- and the lent area as it was
+  pub area-refused : (area bytes : List ℕ) → 0 < numberOf (verdictOf T P r h streams) → areaAfter T P r h streams area bytes ≡ area
+  unfolding areaAfter
+  area-refused area bytes n = go (verdictOf T P r h streams) n
+    where
+      go : (v : Verdict) → 0 < numberOf v → storedBy P (r .held) area bytes v ≡ area
+      go Kept n = absurd (omega arith)
+      go Empty n = refl
+      go Long n = refl
+      go Wedged n = refl
+      go Far n = refl
+      go Duplicate n = refl
+      go Stray n = refl
+
+-- a take refused 17 or 18 leaves the record and the output
+pub taken-refused : (T S : Numbering) (P : Profile) (r : Receiving) (area out : List ℕ) → 0 < taking.numberOf (taken T S P r (length out) .answer)
+    → (taken T S P r (length out) .receiving ≡ r) × (written T P (r .held) (r .next) (r .keeping .point .0) area out ≡ out)
+unfolding taken
+taken-refused T S P r area out n =
+    let l = took-refused T S P (r .held) (r .next) (r .keeping .point .0) area out n in
+    (rw (l .held, l .streams), l .output)

@@ -1,0 +1,56 @@
+use borrow.Author.Needs.{needs}
+use Prim.Native.Nat.{_-_}
+use mathlib.Core.Path.{refl, sym, _∙_}
+use Rattle.scans.specs.Scan.{long-mapped, Seeking, seek-yes, seek-no, seek-end}
+use Rattle.holding.specs.Held.{holds}
+use Rattle.holding.proofs.held.is_held.Statement.{statement}
+use Rattle.holding.proofs.held.is_held.Tie as tie
+
+abbrev Inv-loop : tie.InvT-loop
+Inv-loop tsn held i₀ i = Seeking (holds (tsn .0)) held 128 i
+
+abbrev μ-loop : tie.MeasureT-loop
+μ-loop tsn held i₀ i = 128 - i
+
+loop-holds : tie.Need-loop-holds Inv-loop μ-loop
+loop-holds c = record { long = search (needs, long-mapped); rest = refl }
+
+mul-h : tie.Need-mul-h Inv-loop μ-loop
+mul-h c = search needs
+
+array-copy-out-h : tie.Need-array-copy-out-h Inv-loop μ-loop
+array-copy-out-h c = search needs
+
+is-of-requires : tie.Need-is-of-requires Inv-loop μ-loop
+is-of-requires c κs = search needs
+
+returns : tie.Need-returns Inv-loop μ-loop
+returns c = seek-yes (c .before .before .before .before .loop .inv) _ (c .before .before .before .loop-test .taken) (sym (c .before .is-of .ensures) ∙ c .if1 .taken)
+
+add-i : tie.Need-add-i Inv-loop μ-loop
+add-i c = search needs
+
+loop-less : tie.Need-loop-less Inv-loop μ-loop
+loop-less c = search needs
+
+loop-again : tie.Need-loop-again Inv-loop μ-loop
+loop-again c = seek-no (c .before .before .before .before .loop .inv) _ (c .before .before .before .loop-test .taken) (sym (c .before .is-of .ensures) ∙ c .if1 .left)
+
+returns-2 : tie.Need-returns-2 Inv-loop μ-loop
+returns-2 c = seek-end (c .before .loop .inv) (c .loop-test .left)
+
+pub is-held-spec : {M : Type 1} → statement M
+is-held-spec =
+    tie.close
+    (tie.spec
+    Inv-loop
+    μ-loop
+    loop-holds
+    mul-h
+    array-copy-out-h
+    is-of-requires
+    returns
+    add-i
+    loop-less
+    loop-again
+    returns-2)

@@ -1,0 +1,13 @@
+pub mod Agreement
+pub mod Runs
+pub mod Sender
+pub mod Reduce
+pub mod Agree
+pub mod Count
+pub mod Chosen
+pub mod Sound
+pub mod Arrives
+pub mod Takes
+pub mod Sequence
+pub mod Payloads
+pub mod Example

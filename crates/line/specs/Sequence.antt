@@ -1,0 +1,342 @@
+-- Any sequence of events: the circle answers as the line, each number that came is held or was given once, and each stream's ordered messages are
+-- given in order. Assumes nothing.
+use Prim.Native.Nat.{ℕ, zero, suc, _+_, _-_, _%_, _<_, _≤_}
+use mathlib.Core.Path.{_≡_, refl, sym, ap, _∙_, subst}
+use mathlib.Core.Bool.{Bool, true, false}
+use mathlib.Core.List.{List, [], _∷_, _++_, map}
+use mir.Val.{boolByte as bit}
+use native.Mathlib.Omega.{arith}
+use native.Mathlib.Decide.{decLt}
+use borrow.Author.Tests.{le-ltb, leb-false}
+use lib.ListN.{length, getD, replicate, length-replicate}
+use lib.Dec.{eqb, leb, ltb}
+use Rattle.scans.specs.Scan.{pick, count, any, findFrom}
+use Rattle.scans.specs.Each.{All, if-not, clash}
+use Rattle.numbers.specs.declared.circle.Tsn.{Tsn}
+use Rattle.numbers.specs.declared.circle.Ssn.{Ssn}
+use Rattle.numbers.specs.Numbering.{ring, line, before, Within}
+use Rattle.numbers.specs.Profile.{Profile}
+use Rattle.numbers.specs.Keeping as keeping
+use Rattle.numbers.specs.KeepingLaws.{told-point}
+use Rattle.numbers.specs.Blocks.{blocksOf}
+use Rattle.numbers.specs.BlocksLaws.{has, listedIn, blocks-have, blocks-listed}
+use Rattle.holding.specs.declared.held.Chunk.{Chunk}
+use Rattle.holding.specs.declared.held.Held.{Held}
+use Rattle.holding.specs.declared.taking.Answer.{Answer as Taking}
+use Rattle.holding.specs.declared.taking.Answer.the-variants.{Taken, Nothing as None, Short}
+use Rattle.holding.specs.Held.{noHeld, ssn0, asHeld, holds, isFree}
+use Rattle.holding.specs.Taking.{firstOf, written}
+use Rattle.delivery.specs.declared.receiving.Receiving.{Receiving}
+use Rattle.delivery.specs.declared.receiving.Taken.{Taken as Left}
+use Rattle.delivery.specs.declared.arrival.Arrival.{Arrival}
+use Rattle.delivery.specs.declared.arrival.Verdict.{Verdict}
+use Rattle.delivery.specs.declared.arrival.Verdict.the-variants.{Kept, Empty, Long, Duplicate, Wedged, Far, Stray}
+use Rattle.delivery.specs.declared.acknowledging.Acknowledged.{Acknowledged}
+use Rattle.scans.specs.declared.Found.{Found}
+use Rattle.scans.specs.declared.Found.the-variants.{At, Nothing}
+use Rattle.delivery.specs.Receiving.{fresh, taken}
+use Rattle.delivery.specs.Arrival as arrival
+use Rattle.delivery.specs.Arrival.{verdictOf, noted, passed, keptIn, after, arrived, areaAfter}
+use Rattle.delivery.specs.Acknowledging.{sackOf, told, acknowledged}
+use Rattle.line.specs.Reduce.{reduceHeld, reduceSsn, reduce, reduceTaken}
+use Rattle.line.specs.Runs.{Event, arrive, take, sack, Answer, judges, gives, tells, Lent, Turn, turn, start, answers, finally, reduceEvent, reduceAnswer, reduceLent, Fair, copies, handed, handedOver, joinedAll, isOrderedIn, ssnOf, orderGiven, upFrom, acknowledges}
+use Rattle.line.specs.Sender.{Sender}
+use Rattle.line.specs.Agree.{Near, arrived-law, area-law, taken-law, written-law, sack-law}
+use Rattle.line.specs.Count.{tick-bit, holds-none, copies-nil, copies-cons}
+use Rattle.line.specs.Chosen.{Real}
+use Rattle.line.specs.Sound.{Sound, came, Wide, came-before, came-ahead, near}
+use Rattle.line.specs.Arrives.{SoundOf, arrived-sound}
+use Rattle.line.specs.Takes.{TakenSound, taken-sound}
+
+-- ---- one event, where what is held is near: the circle's turn is the line's, reduced
+
+module _ (P : Profile) (h k streams : ℕ) where
+  abbrev N : ℕ
+  N = h + h
+
+  abbrev M : ℕ
+  M = k + k
+
+  abbrev pub Alike : Lent → Event → Type 0
+  Alike l e = turn (ring N) (ring M) P streams (reduceLent N M l) (reduceEvent N M e) ≡ record {
+    answer = reduceAnswer N M (turn line line P streams l e .answer);
+    lent = reduceLent N M (turn line line P streams l e .lent);
+  }
+
+  module _ (l : Lent) where
+    abbrev r : Receiving
+    r = l .receiving
+
+    pub arrive-alike : Near h k r → (c : Chunk) (bytes : List ℕ) → Within h (r .keeping .point .0) (c .tsn .0) → Alike l (arrive c bytes)
+    arrive-alike near c bytes w =
+        ap (λ (a : Arrival). record { answer = judges (a .verdict); lent = record { receiving = a .receiving; area = areaAfter (ring N) P (reduce N M r) (reduceHeld N M x) streams (l .area) bytes } })
+        (arrived-law P h k r near x w streams)
+        ∙ ap (λ (a : List ℕ). record { answer = judges (arrived line P r x streams .verdict); lent = record { receiving = reduce N M (arrived line P r x streams .receiving); area = a } })
+        (area-law P h k r near x w streams (l .area) bytes)
+      where
+        x : Held
+        x = asHeld c (length bytes)
+
+    pub take-alike : Near h k r → (out : List ℕ) → Alike l (take out)
+    take-alike near out =
+        ap (λ (t : Left). record { answer = gives (t .answer) (written (ring N) P (map (reduceHeld N M) (r .held)) (map (reduceSsn M) (r .next)) (r .keeping .point .0 % N) (l .area) out); lent = record { receiving = t .receiving; area = l .area } })
+        (taken-law P h k r near (length out))
+        ∙ ap (λ (o : List ℕ). record { answer = gives (reduceTaken M (taken line line P r (length out) .answer)) o; lent = record { receiving = reduce N M (taken line line P r (length out) .receiving); area = l .area } })
+        (written-law P h k r near (l .area) out)
+
+    pub sack-alike : Alike l sack
+    unfolding acknowledged
+    sack-alike = ap (λ (a : Acknowledged). record { answer = tells (a .sack); lent = record { receiving = a .receiving; area = l .area } }) (sack-law P h k r)
+
+  -- any sequence: equal answers, and then again the line's record reduced, with the same area
+  abbrev pub Agrees : Lent → List Event → Type 0
+  Agrees l es =
+      (answers (ring N) (ring M) P streams (reduceLent N M l) (map (reduceEvent N M) es) ≡ map (reduceAnswer N M) (answers line line P streams l es))
+      × (finally (ring N) (ring M) P streams (reduceLent N M l) (map (reduceEvent N M) es) ≡ reduceLent N M (finally line line P streams l es))
+
+  then : (l : Lent) (e : Event) (es : List Event) → Alike l e → Agrees (turn line line P streams l e .lent) es → Agrees l (e ∷ es)
+  unfolding answers finally
+  then l e es a b = (
+    ap (λ (t : Turn). t .answer ∷ answers (ring N) (ring M) P streams (t .lent) (map (reduceEvent N M) es)) a
+        ∙ ap (λ (zs : List Answer). reduceAnswer N M (turn line line P streams l e .answer) ∷ zs) (b .0),
+    ap (λ (t : Turn). finally (ring N) (ring M) P streams (t .lent) (map (reduceEvent N M) es)) a ∙ b .1,
+  )
+
+  none-left : (l : Lent) → Agrees l []
+  unfolding answers finally
+  none-left l = (refl, refl)
+
+-- ---- the line receiver is sound
+
+none-copies : (k n : ℕ) → copies (replicate k noHeld) n ≡ 0
+unfolding copies holds
+none-copies zero n = refl
+none-copies (suc k) n = none-copies k n
+
+pub same-at : {A : Type 0} (k i : ℕ) (a : A) → getD (replicate k a) i a ≡ a
+same-at zero i a = refl
+same-at (suc k) zero a = refl
+same-at (suc k) (suc i) a = same-at k i a
+
+all-same : {A : Type 0} (Q : A → Type 0) (k : ℕ) (a : A) → Q a → All Q (replicate k a)
+all-same Q zero a h = tt
+all-same Q (suc k) a h = (h, all-same Q k a h)
+
+module _ (P : Profile) (chunk : ℕ → Chunk) (size : ℕ → ℕ) (t : Tsn) (some : 0 < t .0) where
+  pub fresh-sound : SoundOf P (t .0) chunk size (fresh line P t) (λ n. 0) (t .0)
+  unfolding fresh keeping.fresh before
+  fresh-sound = record {
+    held-long = length-replicate (P .places) noHeld;
+    come-long = length-replicate (P .places) false;
+    next-long = length-replicate (P .streams) ssn0;
+    real = all-same (Real (t .0) chunk size) (P .places) noHeld (λ e. clash e);
+    start = omega arith;
+    once = once;
+    room = λ d e. clash (sym (same-at (P .places) d false) ∙ e);
+    from = omega arith;
+    stays = refl;
+    lower = λ n a b. absurd (omega arith);
+    upper = λ n a. absurd (omega arith);
+    whole = λ n a b. refl;
+    order = order;
+  }
+    where
+      p : ℕ
+      p = t .0 - 1
+
+      once : (n : ℕ) → copies (replicate (P .places) noHeld) n + 0 ≡ bit (came (t .0) p (replicate (P .places) false) n)
+      once n = omega (arith, none-copies (P .places) n, zero-came (decLt n (t .0)))
+        where
+          zero-came : Dec (n < t .0) → bit (came (t .0) p (replicate (P .places) false) n) ≡ 0
+          zero-came (yes l) = ap bit (came-before (t .0) p (replicate (P .places) false) n l)
+          zero-came (no l) =
+              ap bit (came-ahead (t .0) p (replicate (P .places) false) n (omega arith) (omega arith) ∙ same-at (P .places) (n - suc p) false)
+
+      order : (n : ℕ) → t .0 ≤ n → chunk n .begin ≡ true → chunk n .unordered ≡ false
+          → 0 ≡ bit (ltb (chunk n .ssn .0) (getD (replicate (P .streams) ssn0) (chunk n .stream .0) ssn0 .0))
+      order n a b u =
+          let e : getD (replicate (P .streams) ssn0) (chunk n .stream .0) ssn0 .0 ≡ 0 = ap (λ (x : Ssn). x .0) (same-at (P .streams) (chunk n .stream .0) ssn0) in
+          sym (ap bit (le-ltb (chunk n .ssn .0) (getD (replicate (P .streams) ssn0) (chunk n .stream .0) ssn0 .0) (omega arith)))
+
+  pub fresh-next : (q : ℕ) → getD (fresh line P t .next) q ssn0 .0 ≡ 0
+  unfolding fresh
+  fresh-next q = ap (λ (x : Ssn). x .0) (same-at (P .streams) q ssn0)
+
+pub acknowledged-sound : {P : Profile} {base : ℕ} {chunk : ℕ → Chunk} {size : ℕ → ℕ} {gone : ℕ → ℕ} {least : ℕ} (r : Receiving)
+    → SoundOf P base chunk size r gone least → SoundOf P base chunk size (acknowledged P r .receiving) gone least
+unfolding acknowledged told
+acknowledged-sound {P} {base} {chunk} {size} {gone} {least} r s =
+    let w = told-point P (r .keeping) in
+    subst (λ (x : Tsn). Sound P base chunk size (x .0) (keeping.told P (r .keeping) .come) (r .held) (r .next) gone least) (sym (w .0))
+    (subst (λ (x : List Bool). Sound P base chunk size (r .keeping .point .0) x (r .held) (r .next) gone least) (sym (w .1)) s)
+
+module _ {P : Profile} {base streams : ℕ} {chunk : ℕ → Chunk} (payload : ℕ → List ℕ) (send : Sender P base streams chunk) where
+  abbrev size : ℕ → ℕ
+  size n = length (payload n)
+
+  pub arrive-sound : {gone : ℕ → ℕ} {least : ℕ} (r : Receiving) → SoundOf P base chunk size r gone least → (n : ℕ) → base ≤ n
+      → (c : Chunk) (bytes : List ℕ) → c ≡ chunk n → bytes ≡ payload n
+      → SoundOf P base chunk size (arrived line P r (asHeld c (length bytes)) streams .receiving) gone least
+  arrive-sound {gone} {least} r s n l c bytes e b =
+      subst (λ (x : Chunk). SoundOf P base chunk size (arrived line P r (asHeld x (length bytes)) streams .receiving) gone least) (sym e)
+      (subst (λ (x : List ℕ). SoundOf P base chunk size (arrived line P r (asHeld (chunk n) (length x)) streams .receiving) gone least) (sym b)
+      (arrived-sound send r s n l))
+
+  module _ (h k : ℕ) (lh : Wide P h) (lk : Wide P k) where
+    pub agree-from : (es : List Event) (l : Lent) {gone : ℕ → ℕ} {least : ℕ} → SoundOf P base chunk size (l .receiving) gone least
+        → Fair P h base chunk payload streams l es → Agrees P h k streams l es
+    agree-from [] l s f = none-left P h k streams l
+    agree-from (arrive c bytes ∷ es) l s f =
+        let x = f .0 in
+        let e : c .tsn .0 ≡ x .0 = ap (λ (y : Chunk). y .tsn .0) (x .2) ∙ send .number (x .0) in
+        then P h k streams l (arrive c bytes) es (arrive-alike P h k streams l (near send s h k lh lk) c bytes (omega (arith, x .4)))
+        (agree-from es (turn line line P streams l (arrive c bytes) .lent) (arrive-sound (l .receiving) s (x .0) (x .1) c bytes (x .2) (x .3)) (f .1))
+    agree-from (take out ∷ es) l s f =
+        then P h k streams l (take out) es (take-alike P h k streams l (near send s h k lh lk) out)
+        (agree-from es (turn line line P streams l (take out) .lent) (taken-sound send (l .receiving) s (length out) .sound) f)
+    agree-from (sack ∷ es) l s f =
+        then P h k streams l sack es (sack-alike P h k streams l)
+        (agree-from es (turn line line P streams l sack .lent) (acknowledged-sound (l .receiving) s) f)
+
+-- ---- given once, and in order
+
+pub copies-append : (xs ys : List Held) (n : ℕ) → copies (xs ++ ys) n ≡ copies xs n + copies ys n
+copies-append [] ys n = omega (arith, copies-nil n)
+copies-append (x ∷ xs) ys n = omega (arith, copies-cons x (xs ++ ys) n, copies-cons x xs n, copies-append xs ys n)
+
+after-next : (P : Profile) (r : Receiving) (c : Held) (v : Verdict) → after line P r c v .next ≡ r .next
+unfolding noted passed arrival.kept
+after-next P r c Kept = place (findFrom isFree 0 (r .held))
+  where
+    place : (f : Found) → keptIn line P r c f .next ≡ r .next
+    place (At i) = refl
+    place Nothing = refl
+after-next P r c Empty = refl
+after-next P r c Long = refl
+after-next P r c Duplicate = refl
+after-next P r c Wedged = refl
+after-next P r c Far = refl
+after-next P r c Stray = refl
+
+arrive-next : (P : Profile) (r : Receiving) (c : Held) (streams : ℕ) → arrived line P r c streams .receiving .next ≡ r .next
+unfolding arrived
+arrive-next P r c streams = after-next P r c (verdictOf line P r c streams)
+
+sack-next : (P : Profile) (r : Receiving) → acknowledged P r .receiving .next ≡ r .next
+unfolding acknowledged told
+sack-next P r = refl
+
+module _ {P : Profile} {base streams : ℕ} {chunk : ℕ → Chunk} (payload : ℕ → List ℕ) (send : Sender P base streams chunk) (h : ℕ) where
+  abbrev next : Lent → Event → Lent
+  next l e = turn line line P streams l e .lent
+
+  abbrev SoundHere : Lent → (ℕ → ℕ) → ℕ → Type 0
+  SoundHere l gone least = SoundOf P base chunk (λ n. length (payload n)) (l .receiving) gone least
+
+  -- after any sequence the line receiver is sound
+  pub sound-from : (es : List Event) (l : Lent) {gone : ℕ → ℕ} {least : ℕ} → SoundHere l gone least → Fair P h base chunk payload streams l es
+      → (now : ℕ → ℕ) × (low : ℕ) × SoundHere (finally line line P streams l es) now low
+  unfolding finally
+  sound-from [] l {gone} {least} s f = (gone, least, s)
+  sound-from (arrive c bytes ∷ es) l s f =
+      let x = f .0 in
+      sound-from es (next l (arrive c bytes)) (arrive-sound payload send (l .receiving) s (x .0) (x .1) c bytes (x .2) (x .3)) (f .1)
+  sound-from (take out ∷ es) l s f = sound-from es (next l (take out)) (taken-sound send (l .receiving) s (length out) .sound) f
+  sound-from (sack ∷ es) l s f = sound-from es (next l sack) (acknowledged-sound (l .receiving) s) f
+
+  pub once-from : (es : List Event) (l : Lent) {gone : ℕ → ℕ} {least : ℕ} → SoundHere l gone least → Fair P h base chunk payload streams l es
+      → (n : ℕ) → gone n + copies (joinedAll (handedOver P streams l es)) n + copies (finally line line P streams l es .receiving .held) n
+      ≡ bit (came base (finally line line P streams l es .receiving .keeping .point .0) (finally line line P streams l es .receiving .keeping .come) n)
+  unfolding finally
+  once-from [] l s f n = omega (arith, s .once n, copies-nil n)
+  once-from (arrive c bytes ∷ es) l s f n =
+      let x = f .0 in
+      once-from es (next l (arrive c bytes)) (arrive-sound payload send (l .receiving) s (x .0) (x .1) c bytes (x .2) (x .3)) (f .1) n
+  once-from (take out ∷ es) l s f n =
+      let w = taken-sound send (l .receiving) s (length out) in
+      omega
+      (arith, copies-append (handed line P (l .receiving) (length out)) (joinedAll (handedOver P streams (next l (take out)) es)) n, w .more n, once-from es (next l (take out)) (w .sound) f n)
+  once-from (sack ∷ es) l s f n = once-from es (next l sack) (acknowledged-sound (l .receiving) s) f n
+
+  abbrev Orderly : ℕ → Lent → List Event → Type 0
+  Orderly q l es =
+      orderGiven q (answers line line P streams l es) ≡ upFrom (getD (l .receiving .next) q ssn0 .0) (length (orderGiven q (answers line line P streams l es)))
+
+  -- an event that changes no next expected number
+  orderly-as : (q : ℕ) (l m : Lent) (es : List Event) → m .receiving .next ≡ l .receiving .next → Orderly q m es
+      → orderGiven q (answers line line P streams m es) ≡ upFrom (getD (l .receiving .next) q ssn0 .0) (length (orderGiven q (answers line line P streams m es)))
+  orderly-as q l m es e o = o ∙ ap (λ (x : List Ssn). upFrom (getD x q ssn0 .0) (length (orderGiven q (answers line line P streams m es)))) e
+
+  pub order-from : (q : ℕ) (es : List Event) (l : Lent) {gone : ℕ → ℕ} {least : ℕ} → SoundHere l gone least → Fair P h base chunk payload streams l es
+      → Orderly q l es
+  unfolding answers
+  order-from q [] l s f = refl
+  order-from q (arrive c bytes ∷ es) l s f =
+      let x = f .0 in
+      orderly-as q l (next l (arrive c bytes)) es (arrive-next P (l .receiving) (asHeld c (length bytes)) streams)
+      (order-from q es (next l (arrive c bytes)) (arrive-sound payload send (l .receiving) s (x .0) (x .1) c bytes (x .2) (x .3)) (f .1))
+  order-from q (take out ∷ es) l {gone} s f = go (isOrderedIn q (t .answer)) refl (order-from q es (next l (take out)) (w .sound) f)
+    where
+      t : Left
+      t = taken line line P (l .receiving) (length out)
+
+      w : TakenSound P base chunk (λ n. length (payload n)) gone (l .receiving .next) (handed line P (l .receiving) (length out)) t
+      w = taken-sound send (l .receiving) s (length out)
+
+      rest : List ℕ
+      rest = orderGiven q (answers line line P streams (next l (take out)) es)
+
+      go : (b : Bool) → isOrderedIn q (t .answer) ≡ b → rest ≡ upFrom (getD (t .receiving .next) q ssn0 .0) (length rest)
+          → pick b (ssnOf (t .answer) ∷ rest) rest ≡ upFrom (getD (l .receiving .next) q ssn0 .0) (length (pick b (ssnOf (t .answer) ∷ rest) rest))
+      go true e ih =
+          let a : getD (t .receiving .next) q ssn0 .0 ≡ getD (l .receiving .next) q ssn0 .0 + 1 = w .ahead q ∙ ap (λ (b : Bool). getD (l .receiving .next) q ssn0 .0 + bit b) e in
+          ap (λ (x : ℕ). x ∷ rest) (w .given q e)
+          ∙ ap (λ (x : List ℕ). getD (l .receiving .next) q ssn0 .0 ∷ x) (ih ∙ ap (λ (x : ℕ). upFrom x (length rest)) a)
+      go false e ih =
+          let a : getD (t .receiving .next) q ssn0 .0 ≡ getD (l .receiving .next) q ssn0 .0 = omega (arith, w .ahead q, ap bit e) in
+          ih ∙ ap (λ (x : ℕ). upFrom x (length rest)) a
+  order-from q (sack ∷ es) l s f =
+      orderly-as q l (next l sack) es (sack-next P (l .receiving)) (order-from q es (next l sack) (acknowledged-sound (l .receiving) s) f)
+
+-- the same of the circle's answers
+pub order-reduced : (n m q : ℕ) (zs : List Answer) → orderGiven q (map (reduceAnswer n m) zs) ≡ map (λ (x : ℕ). x % m) (orderGiven q zs)
+order-reduced n m q [] = refl
+order-reduced n m q (judges v ∷ zs) = order-reduced n m q zs
+order-reduced n m q (gives t out ∷ zs) = go t (orderGiven q (map (reduceAnswer n m) zs)) (orderGiven q zs) (order-reduced n m q zs)
+  where
+    both : (b : Bool) (x : ℕ) (cs bs : List ℕ) → cs ≡ map (λ (y : ℕ). y % m) bs → pick b (x % m ∷ cs) cs ≡ map (λ (y : ℕ). y % m) (pick b (x ∷ bs) bs)
+    both true x cs bs e = ap (λ (l : List ℕ). x % m ∷ l) e
+    both false x cs bs e = e
+
+    go : (t : Taking) (cs bs : List ℕ) → cs ≡ map (λ (y : ℕ). y % m) bs
+        → pick (isOrderedIn q (reduceTaken m t)) (ssnOf (reduceTaken m t) ∷ cs) cs ≡ map (λ (y : ℕ). y % m) (pick (isOrderedIn q t) (ssnOf t ∷ bs) bs)
+    go (Taken x) cs bs e = both (pick (x .unordered) false (eqb (x .stream .0) q)) (x .ssn .0) cs bs e
+    go None cs bs e = e
+    go (Short x) cs bs e = e
+order-reduced n m q (tells s ∷ zs) = order-reduced n m q zs
+
+-- a message given more than once would have its first chunk given more than once
+pub firsts-copies : (css : List (List Held)) (n : ℕ) → count (λ (cs : List Held). holds n (firstOf cs)) css ≤ copies (joinedAll css) n
+firsts-copies [] n = omega (arith, copies-nil n)
+firsts-copies (cs ∷ css) n = one cs (firsts-copies css n)
+  where
+    one : (cs : List Held) → count (λ (xs : List Held). holds n (firstOf xs)) css ≤ copies (joinedAll css) n
+        → count (λ (xs : List Held). holds n (firstOf xs)) (cs ∷ css) ≤ copies (cs ++ joinedAll css) n
+    one [] ih = rw (holds-none n) ih
+    one (x ∷ xs) ih =
+        omega
+        (arith, tick-bit (holds n x) (count (λ (ys : List Held). holds n (firstOf ys)) css), copies-append (x ∷ xs) (joinedAll css) n, copies-cons x xs n, ih)
+
+-- what a SACK tells is what has come
+pub told-come : (P : Profile) (r : Receiving) (base n : ℕ) → acknowledges base (acknowledged P r .sack) n ≡ came base (r .keeping .point .0) (r .keeping .come) n
+unfolding acknowledges acknowledged sackOf came
+told-come P r base n = if-not false (ltb n base) (λ _. if-not true (leb n p) (λ e. blocks (leb-false n p e)))
+  where
+    p : ℕ
+    p = r .keeping .point .0
+
+    blocks : p < n → any (has (n - p)) (listedIn (blocksOf P (r .keeping))) ≡ getD (r .keeping .come) (n - suc p) false
+    blocks l =
+        let e : n - p - 1 ≡ n - suc p = omega arith in
+        ap (any (has (n - p))) (blocks-listed P (r .keeping))
+        ∙ (blocks-have (r .keeping .come) (n - p) ∙ rw (le-ltb (n - p) 1 (omega arith), e))

@@ -1,0 +1,46 @@
+-- `line_run::held` is safe and ends. Assumes nothing.
+use Prim.Native.Nat.{_-_}
+use borrow.Author.Needs.{needs}
+use Rattle.line_run.proofs.held.Statement.{statement}
+use Rattle.line_run.proofs.held.Tie as tie
+
+abbrev Inv-loop : tie.InvT-loop
+Inv-loop status to n₀ i₀ n i = Unit
+
+abbrev μ-loop : tie.MeasureT-loop
+μ-loop status to n₀ i₀ n i = to - i
+
+loop-holds : tie.Need-loop-holds Inv-loop μ-loop
+loop-holds c = search needs
+
+at-requires : tie.Need-at-requires Inv-loop μ-loop
+at-requires c κs = search needs
+
+plus-requires : tie.Need-plus-requires Inv-loop μ-loop
+plus-requires c κs = search needs
+
+add-i : tie.Need-add-i Inv-loop μ-loop
+add-i c = search needs
+
+loop-less : tie.Need-loop-less Inv-loop μ-loop
+loop-less c = search needs
+
+loop-again : tie.Need-loop-again Inv-loop μ-loop
+loop-again c = search needs
+
+returns : tie.Need-returns Inv-loop μ-loop
+returns c = search needs
+
+pub held-spec : {M : Type 1} → statement M
+held-spec =
+    tie.close
+    (tie.spec
+    Inv-loop
+    μ-loop
+    loop-holds
+    at-requires
+    plus-requires
+    add-i
+    loop-less
+    loop-again
+    returns)

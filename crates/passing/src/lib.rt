@@ -1,0 +1,1 @@
+// What our writers leave passes the checks of a reader: the laws are in specs/.

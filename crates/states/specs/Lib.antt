@@ -1,0 +1,4 @@
+-- The states, their counts, the state table and the table of calls.
+pub mod Tries
+pub mod Rows
+pub mod Calls

@@ -1,0 +1,54 @@
+use borrow.Author.Tests.{eq-eqb, ne-eqb}
+use Rattle.octets.specs.WritingLaws.{wrote-none}
+use Rattle.steps.specs.Closing.{repeatShutdownAck}
+use borrow.Author.Needs.{needs}
+use Rattle.steps.proofs.closing.repeat_shutdown_ack.Statement.{statement}
+use Rattle.steps.proofs.closing.repeat_shutdown_ack.Tie as tie
+use Rattle.steps.proofs.closing.repeat_shutdown_ack.Reads as reads
+use Rattle.steps.proofs.closing.repeat_shutdown_ack.Lts as lts
+use Rattle.steps.proofs.carrying.sack_call.Reads as sack-call-reads
+use Rattle.steps.proofs.closing.acknowledge_shutdown.Reads as acknowledge-shutdown-reads
+use Rattle.steps.proofs.closing.hear_shutdown.Reads as hear-shutdown-reads
+use Rattle.steps.proofs.verdict.Done.refused.Reads as refused-reads
+
+-- src/closing.rt:85:9
+hear-shutdown-requires : tie.Need-hear-shutdown-requires
+hear-shutdown-requires c κs = search needs
+
+-- src/closing.rt:90:9
+acknowledge-shutdown-requires : tie.Need-acknowledge-shutdown-requires
+acknowledge-shutdown-requires c κs = search needs
+
+-- src/closing.rt:90:9
+same-length : tie.Need-same-length
+same-length c = search needs
+
+-- src/closing.rt:90:9
+returns : tie.Need-returns
+unfolding repeatShutdownAck
+returns c = (rw (← c .before .before .before .before .before .before .before .hear-shutdown .ensures, eq-eqb _ _ (c .before .before .before .before .before .if1 .taken)) (c .before .before .acknowledge-shutdown .ensures .0), rw (← c .before .before .before .before .before .before .before .hear-shutdown .ensures, eq-eqb _ _ (c .before .before .before .before .before .if1 .taken)) (c .before .before .acknowledge-shutdown .ensures .1))
+
+-- src/closing.rt:92:32
+sack-call-requires : tie.Need-sack-call-requires
+sack-call-requires c κs = search needs
+
+-- src/closing.rt:92:5
+refused-requires : tie.Need-refused-requires
+refused-requires c κs = search needs
+
+-- src/closing.rt:82:1
+returns-2 : tie.Need-returns-2
+unfolding repeatShutdownAck
+returns-2 c = (rw (← c .before .before .before .before .hear-shutdown .ensures, ne-eqb _ _ (c .before .before .if1 .left), ← c .before .sack-call .ensures, ← wrote-none (c .before .before .before .before .before .before .before .args .space .now) .count) (c .refused .ensures), rw (← c .before .before .before .before .hear-shutdown .ensures, ne-eqb _ _ (c .before .before .if1 .left)) (wrote-none (c .before .before .before .before .before .before .before .args .space .now) .bytes))
+
+pub repeat-shutdown-ack-spec : {M : Type 1} → statement M
+repeat-shutdown-ack-spec =
+    tie.close
+    (tie.spec
+    hear-shutdown-requires
+    acknowledge-shutdown-requires
+    same-length
+    returns
+    sack-call-requires
+    refused-requires
+    returns-2)

@@ -1,0 +1,157 @@
+-- The chunks of an open association: DATA, SACK, HEARTBEAT and HEARTBEAT ACK (RFC 9260 sections 6 and 8.3).
+use Prim.Native.Nat.{ℕ, _^_}
+use mathlib.Core.Bool.{Bool, true, false}
+use mathlib.Core.List.{List, []}
+use lib.Dec.{eqb}
+use lib.ListN.{length}
+use Rattle.scans.specs.Scan.{pick}
+use Rattle.numbers.specs.declared.circle.Tsn.{Tsn}
+use Rattle.numbers.specs.declared.circle.StreamId.{StreamId}
+use Rattle.numbers.specs.Numbering.{ring}
+use Rattle.numbers.specs.Profile.{rail}
+use Rattle.path.specs.Sizes.{railSizes}
+use Rattle.chunks.specs.Frame.{framed, partFrom}
+use Rattle.chunks.specs.DataChunk.{dataOf}
+use Rattle.chunks.specs.SackChunk.{sackOf, blocksIn}
+use Rattle.holding.specs.declared.held.Chunk.{Chunk}
+use Rattle.holding.specs.Held.{asHeld}
+use Rattle.delivery.specs.declared.arrival.Verdict.{Verdict}
+use Rattle.delivery.specs.declared.arrival.Verdict.the-variants.{Kept, Empty, Long, Duplicate, Wedged, Far, Stray}
+use Rattle.delivery.specs.declared.arrival.Arrival.{Arrival}
+use Rattle.delivery.specs.Arrival.{arrived, areaAfter}
+use Rattle.places.specs.declared.blocks.Blocks.{Blocks}
+use Rattle.sending.specs.declared.acknowledging.Answer.{Answer}
+use Rattle.sending.specs.Acknowledge as sender
+use Rattle.sending.specs.Sending.{isBare, heard}
+use Rattle.states.specs.declared.state.State.the-variants.{ShutdownSent, ShutdownAckSent}
+use Rattle.association.specs.declared.ends.Association.{Association}
+use Rattle.association.specs.Fresh.{withState, withReceiving, withSending}
+use Rattle.steps.specs.declared.verdict.Fate.{Fate}
+use Rattle.steps.specs.declared.verdict.Fate.the-variants.{Accepted, Refused}
+use Rattle.steps.specs.declared.verdict.Named.{Named}
+use Rattle.steps.specs.declared.verdict.Named.the-variants.{NoCall, AbortNoData, AbortViolation, ErrorStream}
+use Rattle.steps.specs.declared.verdict.Event.the-variants.{NoEvent}
+use Rattle.steps.specs.declared.verdict.Owed.the-variants.{Nothing, Shutdown}
+use Rattle.steps.specs.Verdict.{Step, accepted, owing, refused}
+use Rattle.steps.specs.Opening.{bytesOf}
+
+-- ---- DATA
+
+unfoldable pub chunkOf : List ℕ → Chunk
+chunkOf s = record {
+  begin = dataOf s .begin;
+  end = dataOf s .end;
+  unordered = dataOf s .unordered;
+  tsn = dataOf s .tsn;
+  stream = dataOf s .stream;
+  ssn = dataOf s .ssn;
+  ppid = dataOf s .ppid;
+}
+
+abbrev pub payloadOf : List ℕ → List ℕ
+payloadOf s = bytesOf (partFrom 16 s) s
+
+abbrev pub isKept : Verdict → Bool
+isKept Kept = true
+isKept Empty = false
+isKept Long = false
+isKept Duplicate = false
+isKept Wedged = false
+isKept Far = false
+isKept Stray = false
+
+abbrev pub fateOf : Verdict → Fate
+fateOf Kept = Accepted
+fateOf Empty = Refused 9
+fateOf Long = Refused 10
+fateOf Duplicate = Refused 11
+fateOf Wedged = Refused 12
+fateOf Far = Refused 13
+fateOf Stray = Refused 14
+
+-- "9 calls for ABORT with cause 9, 12 … with cause 13, 14 for ERROR with cause 1"
+abbrev pub callOf : Verdict → Tsn → StreamId → Named
+callOf Kept t s = NoCall
+callOf Empty t s = AbortNoData t
+callOf Long t s = NoCall
+callOf Duplicate t s = NoCall
+callOf Wedged t s = AbortViolation
+callOf Far t s = NoCall
+callOf Stray t s = ErrorStream s
+
+-- the receiver's answer to a chunk
+unfoldable pub arrivalOf : Association → List ℕ → Arrival
+arrivalOf a s =
+    arrived (ring (2 ^ 32)) rail (a .receiving) (asHeld (chunkOf s) (length (payloadOf s))) (a .ends .«streams_in»)
+
+unfoldable pub dataRead : Association → List ℕ → Arrival → Step
+dataRead a s o = record {
+  association = withReceiving a (o .receiving);
+  fate = fateOf (o .verdict);
+  named = callOf (o .verdict) (chunkOf s .tsn) (chunkOf s .stream);
+  event = NoEvent;
+  unread = false;
+  owed = Nothing;
+  reply = [];
+}
+
+unfoldable pub readData : Association → List ℕ → Step
+readData a s = dataRead a s (arrivalOf a s)
+
+-- in SHUTDOWN-SENT a chunk that is held is answered by a SHUTDOWN (section 9.2), and the tries begin anew
+unfoldable pub readLateData : Association → List ℕ → Step
+readLateData a s =
+    pick (isKept (arrivalOf a s .verdict))
+    (owing (withState (withReceiving a (arrivalOf a s .receiving)) (ShutdownSent 0)) NoEvent Shutdown)
+    (dataRead a s (arrivalOf a s))
+
+unfoldable pub areaData : Association → List ℕ → List ℕ → List ℕ
+areaData a area s =
+    areaAfter (ring (2 ^ 32)) rail (a .receiving) (asHeld (chunkOf s) (length (payloadOf s))) (a .ends .«streams_in») area (payloadOf s)
+
+-- ---- SACK
+
+-- the first 64 blocks, with the count that the chunk gives: more are never all valid
+unfoldable pub blocksOf : List ℕ → Blocks
+blocksOf s = record { count = sackOf s .blocks; starts = blocksIn rail s .starts; ends = blocksIn rail s .ends }
+
+unfoldable pub heardSack : Association → List ℕ → Answer
+heardSack a s = sender.acknowledged railSizes (a .sending) (sender.sackOf (sackOf s .point) (sackOf s .window) (blocksOf s))
+
+-- "16 with cause 13"
+abbrev pub sackCall : ℕ → Named
+sackCall n = pick (eqb n 16) AbortViolation NoCall
+
+abbrev pub sackRead : Association → Answer → Step
+sackRead a o =
+    pick (eqb (o .number) 0) (accepted (withSending a (o .sending)) NoEvent []) (refused a (o .number) (sackCall (o .number)))
+
+unfoldable pub readSack : Association → List ℕ → Step
+readSack a s = sackRead a (heardSack a s)
+
+-- taken in, and nothing is left to send
+abbrev pub isLast : Answer → Bool
+isLast o = pick (eqb (o .number) 0) (isBare (o .sending)) false
+
+-- SHUTDOWN-PENDING: once all is acknowledged, SHUTDOWN goes out (section 9.2)
+unfoldable pub readSackPending : Association → List ℕ → Step
+readSackPending a s =
+    pick (isLast (heardSack a s))
+    (owing (withState (withSending a (heardSack a s .sending)) (ShutdownSent 0)) NoEvent Shutdown)
+    (sackRead a (heardSack a s))
+
+-- SHUTDOWN-RECEIVED: the same with SHUTDOWN ACK
+unfoldable pub readSackReceived : Association → List ℕ → Step
+readSackReceived a s =
+    pick (isLast (heardSack a s))
+    (accepted (withState (withSending a (heardSack a s .sending)) (ShutdownAckSent 0)) NoEvent (framed 8 0 []))
+    (sackRead a (heardSack a s))
+
+-- ---- HEARTBEAT
+
+-- "the Heartbeat Information field … is echoed" (section 8.3)
+unfoldable pub echoHeartbeat : Association → List ℕ → Step
+echoHeartbeat a s = accepted a NoEvent (framed 5 0 (bytesOf (partFrom 4 s) s))
+
+unfoldable pub clearTries : Association → Step
+clearTries a = accepted (withSending a (heard (a .sending))) NoEvent []

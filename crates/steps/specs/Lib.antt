@@ -1,0 +1,8 @@
+-- What one chunk does to an association: the rows of the state table, and the verdict.
+pub mod Verdict
+pub mod Lent
+pub mod Opening
+pub mod Carrying
+pub mod Closing
+pub mod Unknown
+pub mod VerdictLaws

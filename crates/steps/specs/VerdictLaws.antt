@@ -1,0 +1,88 @@
+-- A step with no reply, and the bytes of a part. Assumes nothing.
+use Prim.Native.Nat.{ℕ, _+_, _-_}
+use mathlib.Core.Path.{_≡_, refl, sym, ap, _∙_}
+use mathlib.Core.List.{List, []}
+use native.Mathlib.Omega.{arith}
+use lib.ListN.{take, drop}
+use Rattle.octets.specs.Writing.{wroteCount, wroteBytes}
+use Rattle.octets.specs.WritingLaws.{wrote-none}
+use Rattle.chunks.specs.declared.frame.Part.{Part}
+use mathlib.Core.Bool.{Bool, true, false}
+use lib.Dec.{eqb}
+use Rattle.scans.specs.Scan.{pick}
+use Rattle.chunks.specs.declared.kind.Handling.{Handling}
+use Rattle.chunks.specs.declared.kind.Handling.the-variants.{Stop, StopAndReport, Skip, SkipAndReport}
+use Rattle.parameters.specs.Stale.{staleIn}
+use Rattle.delivery.specs.declared.arrival.Arrival.{Arrival}
+use Rattle.sending.specs.declared.acknowledging.Answer.{Answer}
+use Rattle.states.specs.declared.state.State.the-variants.{Closed, ShutdownSent}
+use Rattle.association.specs.declared.ends.Association.{Association}
+use Rattle.association.specs.Fresh.{withState, withReceiving, withSending}
+use Rattle.steps.specs.declared.verdict.Event.the-variants.{NoEvent, Down}
+use Rattle.steps.specs.declared.verdict.Reason.the-variants.{StaleCookie}
+use Rattle.steps.specs.declared.verdict.Owed.the-variants.{Shutdown}
+use Rattle.steps.specs.Verdict.{Step, doneWith, doneIn, accepted, owing, refused}
+use Rattle.steps.specs.Opening.{bytesOf}
+use Rattle.steps.specs.Carrying.{isKept, arrivalOf, dataRead, readData, readLateData, heardSack, sackCall, sackRead, isLast, readSack, readSackPending, clearTries}
+use Rattle.steps.specs.Closing.{readError}
+use Rattle.steps.specs.Unknown.{passUnknown}
+
+-- nothing is written of it, and the space stays
+pub quiet-done : (space : List ℕ) (s : Step) → s .reply ≡ [] → doneWith 0 s ≡ doneIn space s
+quiet-done space s e =
+    ap (λ (n : ℕ). doneWith n s) (wrote-none space .count ∙ ap (λ (bs : List ℕ). wroteCount space bs) (sym e))
+
+pub quiet-space : (space : List ℕ) (s : Step) → s .reply ≡ [] → space ≡ wroteBytes space (s .reply)
+quiet-space space s e = wrote-none space .bytes ∙ ap (λ (bs : List ℕ). wroteBytes space bs) (sym e)
+
+-- a part of a slice, cut from where it starts to where it ends
+pub part-bytes : (p : Part) (s : List ℕ) → take (p .at + p .len - p .at) (drop (p .at) s) ≡ bytesOf p s
+part-bytes p s = let e : p .at + p .len - p .at ≡ p .len = omega arith in ap (λ (n : ℕ). take n (drop (p .at) s)) e
+
+-- rows that add nothing to the reply
+
+data-quiet : (a : Association) (s : List ℕ) (o : Arrival) → dataRead a s o .reply ≡ []
+unfolding dataRead
+data-quiet a s o = refl
+
+either-quiet : (t : Bool) (x y : Step) → x .reply ≡ [] → y .reply ≡ [] → pick t x y .reply ≡ []
+either-quiet true x y e f = e
+either-quiet false x y e f = f
+
+module _ (a : Association) (s : List ℕ) where
+  pub read-data-quiet : readData a s .reply ≡ []
+  unfolding readData
+  read-data-quiet = data-quiet a s (arrivalOf a s)
+
+  pub late-data-quiet : readLateData a s .reply ≡ []
+  unfolding readLateData
+  late-data-quiet =
+      either-quiet (isKept (arrivalOf a s .verdict)) (owing (withState (withReceiving a (arrivalOf a s .receiving)) (ShutdownSent 0)) NoEvent Shutdown) (dataRead a s (arrivalOf a s)) refl (data-quiet a s (arrivalOf a s))
+
+  sack-read-quiet : (o : Answer) → sackRead a o .reply ≡ []
+  sack-read-quiet o =
+      either-quiet (eqb (o .number) 0) (accepted (withSending a (o .sending)) NoEvent []) (refused a (o .number) (sackCall (o .number))) refl refl
+
+  pub read-sack-quiet : readSack a s .reply ≡ []
+  unfolding readSack
+  read-sack-quiet = sack-read-quiet (heardSack a s)
+
+  pub pending-quiet : readSackPending a s .reply ≡ []
+  unfolding readSackPending
+  pending-quiet =
+      either-quiet (isLast (heardSack a s)) (owing (withState (withSending a (heardSack a s .sending)) (ShutdownSent 0)) NoEvent Shutdown) (sackRead a (heardSack a s)) refl (sack-read-quiet (heardSack a s))
+
+  pub clear-quiet : clearTries a .reply ≡ []
+  unfolding clearTries
+  clear-quiet = refl
+
+  pub error-quiet : readError a s .reply ≡ []
+  unfolding readError
+  error-quiet =
+      either-quiet (staleIn s) (accepted (withState a Closed) (Down StaleCookie) []) (accepted a NoEvent []) refl refl
+
+pub pass-quiet : (a : Association) (h : Handling) → passUnknown a h .reply ≡ []
+pass-quiet a Stop = refl
+pass-quiet a StopAndReport = refl
+pass-quiet a Skip = refl
+pass-quiet a SkipAndReport = refl
