@@ -10,3 +10,5 @@ pub mod Bounds
 pub mod Laws
 pub mod ChooseLaws
 pub mod BoundsLaws
+pub mod SoundLaws
+pub mod AcknowledgeLaws
