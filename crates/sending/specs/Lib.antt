@@ -12,3 +12,4 @@ pub mod ChooseLaws
 pub mod BoundsLaws
 pub mod SoundLaws
 pub mod AcknowledgeLaws
+pub mod ChooseSound
