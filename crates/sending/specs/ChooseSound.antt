@@ -158,11 +158,11 @@ best-least a o r (x ∷ ps) b i e = go (eqb (rankOf a o x) r) refl (best-least a
     go true q ih = omega (arith, best-start a o ps (better a o b i x) (i + 1), better-least a o b i x .1, eqb-true (rankOf a o x) r q)
     go false q ih = ih (rw q at e)
 
-key-waits : (a : Tsn) (o : ℕ) (p : Place) → p .status ≡ 1 → keyOf false a o p ≡ steps (2 ^ 32) o (p .chunk .order) + 1
+pub key-waits : (a : Tsn) (o : ℕ) (p : Place) → p .status ≡ 1 → keyOf false a o p ≡ steps (2 ^ 32) o (p .chunk .order) + 1
 unfolding keyOf
 key-waits a o p e = rw (eq-eqb (p .status) 1 e)
 
-key-none : (a : Tsn) (o : ℕ) (p : Place) → (p .status ≡ 1 → ⊥) → keyOf false a o p ≡ 0
+pub key-none : (a : Tsn) (o : ℕ) (p : Place) → (p .status ≡ 1 → ⊥) → keyOf false a o p ≡ 0
 unfolding keyOf
 key-none a o p n = rw (ne-eqb (p .status) 1 n)
 

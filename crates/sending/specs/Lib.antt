@@ -13,3 +13,4 @@ pub mod BoundsLaws
 pub mod SoundLaws
 pub mod AcknowledgeLaws
 pub mod ChooseSound
+pub mod HandInSound
