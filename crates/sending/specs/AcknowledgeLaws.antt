@@ -5,12 +5,12 @@ use mathlib.Core.Bool.{Bool, true, false}
 use mathlib.Core.List.{List, [], _∷_, map}
 use native.Mathlib.Omega.{arith}
 use native.Mathlib.Decide.{decLt, ℕ-discrete}
-use borrow.Author.Tests.{lt-ltb, le-ltb, eq-eqb, ne-eqb, eqb-true, ltb-true, ltb-false}
+use borrow.Author.Tests.{lt-ltb, le-ltb, eq-eqb, ne-eqb, eqb-true}
 use lib.Dec.{eqb, ltb}
 use Rattle.numbers.specs.declared.circle.Tsn.{Tsn}
 use Rattle.numbers.specs.declared.circle.Judgement.{Judgement}
 use Rattle.numbers.specs.declared.circle.Judgement.the-variants.{AtOrBehind, AheadWithin, AheadBeyond, AtOpposite}
-use Rattle.numbers.specs.Numbering.{ring, far, on, on-far, ahead-half}
+use Rattle.numbers.specs.Numbering.{ring, on, on-far, ahead-half}
 use Rattle.numbers.specs.Reach.{on-none, nearer, passed}
 use Rattle.numbers.specs.Judgement.{judged}
 use Rattle.numbers.specs.JudgementLaws.{judged-says}
@@ -23,12 +23,12 @@ use Rattle.places.specs.declared.place.Place.{Place}
 use Rattle.places.specs.declared.sack.Sack.{Sack}
 use Rattle.places.specs.Places.{being, aheadOf, offsetOf, hasStatus, isSent, missed, missedAll}
 use Rattle.places.specs.Sack.{settled, takenIn}
-use Rattle.places.specs.Laws.{Alike, sent-status, unsent, missed-alike, settled-unsent, settled-freed, settled-alike, taken-places, missed-places}
+use Rattle.places.specs.Laws.{sent-status, unsent, missed-alike, settled-unsent, settled-freed, settled-alike, taken-places, missed-places}
 use Rattle.sending.specs.declared.sending.Sending.{Sending}
 use Rattle.sending.specs.declared.acknowledging.Answer.{Answer}
 use Rattle.sending.specs.Sending.{roomOf}
 use Rattle.sending.specs.Acknowledge.{judgedBy, judgedBlocks, judgedPoint, limitOf, accepted, acknowledged, shutOf, shutdownPoint}
-use Rattle.sending.specs.Bounds.{keyOf, hasKey, Cut, Fit, Successive, Sound}
+use Rattle.sending.specs.Bounds.{keyOf, hasKey, Fit, Successive, Sound}
 use Rattle.sending.specs.Laws.{accepted-sums, accepted-path}
 use Rattle.sending.specs.SoundLaws.{alike-key, alike-fit, alike-members, alike-successive, alike-all}
 
@@ -157,8 +157,7 @@ module _ (k : Sack) (a : Tsn) (d : ℕ) (ha : a .0 < 2 ^ 32) (hp : k .point .0 �
 
           at : Dec (d < offsetOf a p) → (keyOf true (k .point) o (settled k p) ≡ keyOf true a o p - d) × (isSent (settled k p) ≡ ltb d (keyOf true a o p))
           at (yes l) =
-              let w = settled-alike k p e (omega (arith, near l)) in
-              (
+              let w = settled-alike k p e (omega (arith, near l)) in (
                 alike-key true (k .point) o p (settled k p) w ∙ (key-sent (k .point) o p e ∙ (near l ∙ ap (λ (x : ℕ). x - d) (sym (key-sent a o p e)))),
                 w .sent ∙ (e ∙ sym (ap (ltb d) (key-sent a o p e) ∙ lt-ltb d (offsetOf a p) l)),
               )

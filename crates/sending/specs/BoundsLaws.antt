@@ -11,18 +11,18 @@ use lib.Seq.{getD-set-same, getD-set-other}
 use lib.Dec.{eqb, ltb, leb}
 use Rattle.numbers.specs.declared.circle.Tsn.{Tsn}
 use Rattle.numbers.specs.Profile.{Profile}
-use Rattle.scans.specs.Scan.{pick, tick, any, count, either, total, foldFrom}
+use Rattle.scans.specs.Scan.{pick, tick, any, count, either, foldFrom}
 use Rattle.scans.specs.Each.{All, all-map, clash}
 use Rattle.scans.specs.Upto.{anyUpto}
 use Rattle.path.specs.Sizes.{Sizes}
 use Rattle.path.specs.Path as way
 use Rattle.path.specs.Laws.{within-so, so-within}
 use Rattle.places.specs.declared.place.Place.{Place}
-use Rattle.places.specs.Places.{aheadOf, hasStatus, isSent, flightOf, tallied}
+use Rattle.places.specs.Places.{aheadOf, hasStatus, isSent, tallied}
 use Rattle.places.specs.Laws.{tallied-flight}
 use Rattle.sending.specs.declared.sending.Sending.{Sending}
 use Rattle.sending.specs.Sending.{roomOf}
-use Rattle.sending.specs.Bounds.{isOdd, keyOf, membersOf, spotOf, markedBy, seenOf, isGap, hasGap, isSuccessive, isWithin, Cut, Fit, hasKey, Successive, Sound}
+use Rattle.sending.specs.Bounds.{isOdd, keyOf, membersOf, spotOf, markedBy, seenOf, isGap, hasGap, isSuccessive, isWithin, Fit, hasKey, Successive, Sound}
 
 -- ---- scans
 

@@ -4,13 +4,13 @@ use Prim.Native.Nat.{ℕ, zero, suc, _+_, _-_, _%_, _^_, _<_, _≤_, zero-le}
 use mathlib.Core.Path.{_≡_, refl, sym, ap, _∙_}
 use mathlib.Core.Bool.{Bool, true, false}
 use mathlib.Core.List.{List, [], _∷_}
-use mathlib.Core.Logic.{_⊎_, inl, inr, ⊎-elim}
+use mathlib.Core.Logic.{inl, inr, ⊎-elim}
 use native.Mathlib.Nat.{mod-lt, mod-eq-of-lt}
 use native.Mathlib.Omega.{arith}
 use native.Mathlib.Decide.{decLt, decLe, ℕ-discrete}
-use borrow.Author.Tests.{lt-ltb, le-ltb, le-leb, lt-leb, eq-eqb, ne-eqb, eqb-true, eqb-false, ltb-true, ltb-false}
+use borrow.Author.Tests.{le-leb, lt-leb, eq-eqb, ne-eqb, eqb-true, eqb-false, ltb-true, ltb-false}
 use lib.ListN.{length, set, getD, length-set}
-use lib.Dec.{eqb, ltb, leb}
+use lib.Dec.{eqb, ltb}
 use Rattle.numbers.specs.declared.circle.Tsn.{Tsn}
 use Rattle.numbers.specs.Circle.{steps}
 use Rattle.numbers.specs.Numbering.{ring, on}
@@ -20,18 +20,18 @@ use Rattle.scans.specs.Scan.{pick, tick, any, count, foldFrom}
 use Rattle.scans.specs.Each.{All, all-at, all-set, clash}
 use Rattle.path.specs.Sizes.{Sizes}
 use Rattle.places.specs.declared.place.Place.{Place}
-use Rattle.places.specs.Places.{being, aheadOf, offsetOf, hasStatus, isSent}
+use Rattle.places.specs.Places.{being, aheadOf, hasStatus, isSent}
 use Rattle.places.specs.Laws.{Alike, sent-alike, status-sent, unsent}
 use Rattle.sending.specs.declared.sending.Sending.{Sending}
 use Rattle.sending.specs.declared.choosing.Best.{Best}
 use Rattle.sending.specs.declared.choosing.Chosen.{Chosen}
 use Rattle.sending.specs.Sending.{noPlace, roomOf}
-use Rattle.sending.specs.Choose.{rankOf, better, bestOf, goes, put, again, first, numbered, sent, going, filling, begun, filled}
-use Rattle.sending.specs.Bounds.{keyOf, membersOf, hasKey, Cut, Fit, Successive, Sound}
+use Rattle.sending.specs.Choose.{rankOf, better, bestOf, put, again, first, numbered, sent, going, filling, begun, filled}
+use Rattle.sending.specs.Bounds.{keyOf, membersOf, hasKey, Fit, Successive, Sound}
 use Rattle.sending.specs.BoundsLaws.{count-most}
-use Rattle.sending.specs.ChooseLaws.{run-kept, Ranked, Ready, best-or, goes-low, going-ready, put-sums, begun-sums, begun-path}
+use Rattle.sending.specs.ChooseLaws.{run-kept, Ranked, best-or, goes-low, going-ready, put-sums, begun-sums, begun-path}
 use Rattle.sending.specs.SoundLaws.{alike-key, alike-fit}
-use Rattle.sending.specs.AcknowledgeLaws.{OnCircle, any-some, key-sent, key-unsent}
+use Rattle.sending.specs.AcknowledgeLaws.{OnCircle, key-sent, key-unsent}
 
 -- ---- one place replaced
 

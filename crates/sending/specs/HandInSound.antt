@@ -1,21 +1,20 @@
 -- Cutting a message keeps the bounds: its chunks wait behind those that wait already. Assumes nothing.
-use Prim.Native.Nat.{ℕ, zero, suc, _+_, _-_, _*_, _/_, _%_, _^_, _<_, _≤_, zero-le}
+use Prim.Native.Nat.{ℕ, suc, _+_, _-_, _*_, _%_, _^_, _<_, _≤_, zero-le}
 use mathlib.Core.Path.{_≡_, refl, sym, ap, _∙_}
 use mathlib.Core.Bool.{Bool, true, false}
 use mathlib.Core.List.{List, [], _∷_}
-use native.Mathlib.Nat.{mod-add-mod, mul-div-le, mul-suc, mul-le-mul-left, lt-mul-div-succ}
+use native.Mathlib.Nat.{mod-add-mod, mul-div-le, mul-suc, mul-le-mul-left}
 use native.Mathlib.Omega.{arith}
-use native.Mathlib.Decide.{decLt, decLe, ℕ-discrete}
-use borrow.Author.Tests.{lt-ltb, le-ltb, eq-eqb, ne-eqb, eqb-true, eqb-false, ltb-true, ltb-false, leb-false}
-use lib.ListN.{length}
+use native.Mathlib.Decide.{decLe, ℕ-discrete}
+use borrow.Author.Tests.{lt-ltb, eq-eqb, ne-eqb, eqb-true, ltb-false, leb-false}
 use lib.Dec.{eqb, ltb, leb}
 use Rattle.numbers.specs.declared.circle.Tsn.{Tsn}
 use Rattle.numbers.specs.declared.circle.StreamId.{StreamId}
-use Rattle.numbers.specs.Circle.{steps, steps-are}
+use Rattle.numbers.specs.Circle.{steps-are}
 use Rattle.numbers.specs.Profile.{Profile}
 use Rattle.scans.specs.Scan.{pick, tick, any, count}
 use Rattle.scans.specs.Each.{All, clash}
-use Rattle.scans.specs.Upto.{smaller, pick-keeps}
+use Rattle.scans.specs.Upto.{pick-keeps}
 use Rattle.path.specs.Sizes.{Sizes}
 use Rattle.path.specs.Laws.{smaller-right}
 use Rattle.places.specs.declared.place.Place.{Place}
@@ -23,11 +22,10 @@ use Rattle.places.specs.Places.{hasStatus, isSent}
 use Rattle.places.specs.Laws.{unsent}
 use Rattle.sending.specs.declared.sending.Sending.{Sending}
 use Rattle.sending.specs.declared.cutting.Message.{Message}
-use Rattle.sending.specs.Sending.{roomOf}
 use Rattle.sending.specs.Carry.{carried}
 use Rattle.sending.specs.HandIn.{chunksOf, isRefused, refusal, partLen, chunkAt, waitingAt, takes, after, laidOut, waited, handedIn}
 use Rattle.sending.specs.HandInLaws.{takes-so}
-use Rattle.sending.specs.Bounds.{keyOf, hasKey, Cut, Fit, Successive, Sound}
+use Rattle.sending.specs.Bounds.{keyOf, hasKey, Fit, Successive, Sound}
 use Rattle.sending.specs.BoundsLaws.{count-most}
 use Rattle.sending.specs.Laws.{waited-sums}
 use Rattle.sending.specs.AcknowledgeLaws.{key-unsent}
@@ -71,11 +69,11 @@ module _ (P : Profile) (m : Message) (n : ℕ) where
   unfolding waitingAt chunkAt
   waiting-order k = refl
 
-  takes-not : (k : ℕ) (p : Place) → (p .status ≡ 0 → ⊥) → takes n k p ≡ false
+  pub takes-not : (k : ℕ) (p : Place) → (p .status ≡ 0 → ⊥) → takes n k p ≡ false
   unfolding takes
   takes-not k p h = rw (ne-eqb (p .status) 0 h)
 
-  takes-yes : (k : ℕ) (p : Place) → p .status ≡ 0 → k < n → takes n k p ≡ true
+  pub takes-yes : (k : ℕ) (p : Place) → p .status ≡ 0 → k < n → takes n k p ≡ true
   unfolding takes
   takes-yes k p e h = rw (eq-eqb (p .status) 0 e) (lt-ltb k n h)
 
@@ -201,7 +199,7 @@ not-refused P len stream streams e = go (ltb len 1) (ltb (P .places * P .payload
     go false false false e = leb-false (P .streams) (stream .0) e
 
 -- what is taken is on a stream that there is, and the free places suffice
-taken-whole : (P : Profile) (s : Sending) (len : ℕ) (stream : StreamId) (streams : ℕ) → refusal P s len stream streams ≡ 0
+pub taken-whole : (P : Profile) (s : Sending) (len : ℕ) (stream : StreamId) (streams : ℕ) → refusal P s len stream streams ≡ 0
     → (stream .0 < P .streams) × (chunksOf P len ≤ count (hasStatus 0) (s .places))
 unfolding refusal
 taken-whole P s len stream streams e = go (isRefused P len stream streams) (ltb (count (hasStatus 0) (s .places)) (chunksOf P len)) refl refl e

@@ -14,3 +14,4 @@ pub mod SoundLaws
 pub mod AcknowledgeLaws
 pub mod ChooseSound
 pub mod HandInSound
+pub mod SumLaws

@@ -1,6 +1,6 @@
 -- A fresh record is within the bounds; T3, a sample, doubling and a sign of life keep them. Assumes nothing.
-use Prim.Native.Nat.{ℕ, zero, suc, _+_, _-_, _^_, _<_, _≤_}
-use mathlib.Core.Path.{_≡_, refl, sym, ap, _∙_}
+use Prim.Native.Nat.{ℕ, zero, suc, _-_, _^_, _<_}
+use mathlib.Core.Path.{_≡_, refl, ap, _∙_}
 use mathlib.Core.Bool.{Bool, true, false}
 use mathlib.Core.List.{List, [], _∷_, map}
 use native.Mathlib.Omega.{arith}
@@ -11,8 +11,7 @@ use Rattle.numbers.specs.declared.circle.Tsn.{Tsn}
 use Rattle.numbers.specs.Numbering.{ring, on}
 use Rattle.numbers.specs.Reach.{on-ahead, on-on, on-On}
 use Rattle.numbers.specs.Profile.{Profile}
-use Rattle.scans.specs.Scan.{pick, any, count}
-use Rattle.scans.specs.Each.{All, all-map, all-of, count-map, any-map}
+use Rattle.scans.specs.Each.{All, all-of, count-map, any-map}
 use Rattle.scans.specs.Upto.{pick-keeps}
 use Rattle.path.specs.Sizes.{Sizes, Fair}
 use Rattle.path.specs.Path as way
