@@ -1,5 +1,6 @@
 -- The bounds of a sending record: 01, "Bounds for 1: every limit above; .. flight equal to its sum; sent TSNs successive".
-use Prim.Native.Nat.{ℕ, _+_, _-_, _^_}
+use Prim.Native.Nat.{ℕ, _+_, _-_, _^_, _<_, _≤_}
+use mathlib.Core.Path.{_≡_}
 use mathlib.Core.Bool.{Bool, true, false, not}
 use mathlib.Core.List.{List}
 use lib.ListN.{set, getD, replicate}
@@ -7,12 +8,15 @@ use lib.Dec.{eqb, ltb, leb}
 use Rattle.numbers.specs.declared.circle.Tsn.{Tsn}
 use Rattle.numbers.specs.Circle.{steps}
 use Rattle.numbers.specs.Profile.{Profile}
-use Rattle.scans.specs.Scan.{pick, any, count, foldFrom}
+use Rattle.scans.specs.Scan.{pick, any, count, total, foldFrom}
 use Rattle.scans.specs.Upto.{anyUpto}
+use Rattle.scans.specs.Each.{All}
 use Rattle.path.specs.Sizes.{Sizes}
 use Rattle.path.specs.Path as way
+use Rattle.path.specs.Laws.{Within}
+use Rattle.places.specs.declared.place.Chunk.{Chunk}
 use Rattle.places.specs.declared.place.Place.{Place}
-use Rattle.places.specs.Places.{hasStatus, isSent, offsetOf, tallied}
+use Rattle.places.specs.Places.{aheadOf, hasStatus, isSent, offsetOf, flightOf, tallied}
 use Rattle.sending.specs.declared.sending.Sending.{Sending}
 use Rattle.sending.specs.Sending.{roomOf}
 
@@ -65,13 +69,44 @@ isSuccessive P s sent n =
 
 -- ---- the record
 
--- the path's limits; "flight equal to its sum"; every place's; what is sent has the TSNs from our point plus 1 to the next less 1; what waits has
--- successive orders
+-- the path's limits; "flight equal to its sum"; every place's; the next TSN is ahead of our point, and what is sent has the TSNs between them;
+-- what waits has successive orders
 unfoldable pub isWithin : Sizes → Profile → Sending → Bool
 isWithin z P s =
     pick (way.isWithin z (s .path))
     (pick (eqb (tallied (s .acked) (s .places) .flight) (s .path .flight))
     (pick (any (isOdd P) (s .places)) false
-    (pick (isSuccessive P s true (roomOf s)) (isSuccessive P s false (count (hasStatus 1) (s .places))) false))
+    (pick (ltb (aheadOf (s .acked) (s .«next_tsn»)) 1) false
+    (pick (isSuccessive P s true (roomOf s)) (isSuccessive P s false (count (hasStatus 1) (s .places))) false)))
     false)
     false
+
+-- ---- the same as a statement
+
+-- a chunk has a payload of 1 to 512 and a stream below 128
+pub record Cut (P : Profile) (c : Chunk) : Type 0 where
+  pub some : 1 ≤ c .len
+  pub small : c .len ≤ P .payload
+  pub stream : c .stream .0 < P .streams
+
+-- a status there is, misses at most 3, and a chunk that is cut so unless the place is free
+pub record Fit (P : Profile) (p : Place) : Type 0 where
+  pub status : p .status ≤ 4
+  pub misses : p .misses ≤ 3
+  pub cut : (p .status ≡ 0 → ⊥) → Cut P (p .chunk)
+
+abbrev pub hasKey : Bool → Tsn → ℕ → ℕ → Place → Bool
+hasKey sent acked oldest k p = eqb (keyOf sent acked oldest p) k
+
+-- there are n, and each of the numbers 1 to n is one's
+pub record Successive (sent : Bool) (acked : Tsn) (oldest : ℕ) (ps : List Place) (n : ℕ) : Type 0 where
+  pub many : membersOf sent ps ≡ n
+  pub each : (k : ℕ) → 0 < k → k ≤ n → any (hasKey sent acked oldest k) ps ≡ true
+
+pub record Sound (z : Sizes) (P : Profile) (s : Sending) : Type 0 where
+  pub path : Within z (s .path)
+  pub summed : s .path .flight ≡ total flightOf (s .places)
+  pub fit : All (Fit P) (s .places)
+  pub ahead : 0 < aheadOf (s .acked) (s .«next_tsn»)
+  pub sent : Successive true (s .acked) (s .oldest) (s .places) (roomOf s)
+  pub waiting : Successive false (s .acked) (s .oldest) (s .places) (count (hasStatus 1) (s .places))

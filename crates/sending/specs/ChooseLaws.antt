@@ -44,11 +44,11 @@ better-not : (a : Tsn) (o : ℕ) (b : Best) (i : ℕ) (x : Place) → ltb (rankO
 unfolding better
 better-not a o b i x e = rw e
 
-abbrev Ranked : Tsn → ℕ → List Place → ℕ → Best → Type 0
+abbrev pub Ranked : Tsn → ℕ → List Place → ℕ → Best → Type 0
 Ranked a o ps i r = (k : ℕ) × (r .place ≡ i + k) × (r .rank ≡ rankOf a o (getD ps k noPlace))
 
 -- the best is the one to begin with, or one of the places with its rank
-best-or : (a : Tsn) (o : ℕ) (ps : List Place) (b : Best) (i : ℕ) → (foldFrom (better a o) b i ps ≡ b) ⊎ Ranked a o ps i (foldFrom (better a o) b i ps)
+pub best-or : (a : Tsn) (o : ℕ) (ps : List Place) (b : Best) (i : ℕ) → (foldFrom (better a o) b i ps ≡ b) ⊎ Ranked a o ps i (foldFrom (better a o) b i ps)
 best-or a o [] b i = inl refl
 best-or a o (x ∷ ps) b i =
     ⊎-elim (at (ltb (rankOf a o x) (b .rank)) refl) (λ w. inr (suc (w .0), omega arith, w .2)) (best-or a o ps (better a o b i x) (i + 1))
@@ -61,7 +61,7 @@ best-or a o (x ∷ ps) b i =
     at false e h = inl (h ∙ better-not a o b i x e)
 
 -- a rank below the last is that of a place that is marked or waits
-abbrev Ready : Place → Type 0
+abbrev pub Ready : Place → Type 0
 Ready p = (p .status ≡ 3) ⊎ (p .status ≡ 1)
 
 rank-by : (t u : Bool) (x y : ℕ) → pick t x (pick u y 8589934592) < 8589934592 → (t ≡ true) ⊎ (u ≡ true)
@@ -81,7 +81,7 @@ first-not : (t c : Bool) → pick t false c ≡ true → t ≡ false
 first-not true c e = clash e
 first-not false c e = refl
 
-goes-low : (f : Chosen) (b : Best) (p : Place) → goes f b p ≡ true → b .rank < 8589934592
+pub goes-low : (f : Chosen) (b : Best) (p : Place) → goes f b p ≡ true → b .rank < 8589934592
 unfolding goes
 goes-low f b p e = leb-false 8589934592 (b .rank) (first-not (leb 8589934592 (b .rank)) _ e)
 
@@ -110,7 +110,7 @@ put-total [] i q r = ⊎-elim (λ (e : _≡_ {A = ℕ} 0 3). absurd (omega arith
 put-total (x ∷ ps) zero q r = omega (arith, ready-still x r)
 put-total (x ∷ ps) (suc i) q r = omega (arith, put-total ps i q r)
 
-put-sums : (s : Sending) (i : ℕ) (q : Place) → eqb (q .status) 2 ≡ true → Ready (getD (s .places) i noPlace) → Summed s → Summed (put s i q)
+pub put-sums : (s : Sending) (i : ℕ) (q : Place) → eqb (q .status) 2 ≡ true → Ready (getD (s .places) i noPlace) → Summed s → Summed (put s i q)
 unfolding put
 put-sums s i q e r h = omega (arith, h, put-total (s .places) i q r, flight-flying q e)
 
@@ -129,7 +129,7 @@ step-sums : (P : Profile) (f : Chosen) → going f .go ≡ true → Kept f → K
 unfolding filling
 step-sums P f e h = sent-sums P (f .sending) (going f .place) (going-ready f e) h
 
-begun-sums : (z : Sizes) (s : Sending) → Kept (begun z s)
+pub begun-sums : (z : Sizes) (s : Sending) → Kept (begun z s)
 unfolding begun
 begun-sums z s = tallied-flight (s .acked) (s .places)
 
@@ -151,7 +151,7 @@ step-path : (z : Sizes) (P : Profile) (f : Chosen) → going f .go ≡ true → 
 unfolding filling
 step-path z P f e w = sent-path z P (f .sending) (going f .place) _ w
 
-begun-path : (z : Sizes) (s : Sending) → Within z (s .path) → Within z (begun z s .sending .path)
+pub begun-path : (z : Sizes) (s : Sending) → Within z (s .path) → Within z (begun z s .sending .path)
 unfolding begun
 begun-path z s w = record { controlled = w .controlled; clocked = w .clocked; tried = w .tried }
 

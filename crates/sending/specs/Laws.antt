@@ -44,7 +44,7 @@ pub fresh-sums : (z : Sizes) (P : Profile) (t : Tsn) (window : ℕ) → Summed (
 unfolding fresh
 fresh-sums z P t window = fresh-flight z ∙ sym (none-flies (P .places))
 
-accepted-sums : (z : Sizes) (s : Sending) (k : Sack) → Summed (accepted z s k)
+pub accepted-sums : (z : Sizes) (s : Sending) (k : Sack) → Summed (accepted z s k)
 unfolding accepted
 accepted-sums z s k = tallied-flight (s .acked) _
 
@@ -57,7 +57,7 @@ unfolding shutdownPoint
 shutdown-sums z s point h =
     pick-keeps (λ (a : Answer). Summed (a .sending)) (eqb (judgedPoint s (shutOf s point)) 15) _ _ h (acknowledged-sums z s (shutOf s point) h)
 
-overdue-sums : (z : Sizes) (s : Sending) → Summed (overdue z s)
+pub overdue-sums : (z : Sizes) (s : Sending) → Summed (overdue z s)
 unfolding overdue
 overdue-sums z s = tallied-flight (s .acked) _
 
@@ -92,7 +92,7 @@ laid-alike P m n k p = go (takes n k p) refl
         flight-other (waitingAt P m n k) refl ∙ sym (flight-other p q)
     go false e = refl
 
-waited-sums : (P : Profile) (s : Sending) (len : ℕ) (stream : StreamId) (unordered : Bool) (ppid : ℕ) → Summed s → Summed (waited P s len stream unordered ppid)
+pub waited-sums : (P : Profile) (s : Sending) (len : ℕ) (stream : StreamId) (unordered : Bool) (ppid : ℕ) → Summed s → Summed (waited P s len stream unordered ppid)
 unfolding waited laidOut
 waited-sums P s len stream unordered ppid h = h ∙ sym (carry-total flightOf _ _ (laid-alike P _ _) 0 (s .places))
 
@@ -117,7 +117,7 @@ module _ (z : Sizes) (f : Fair z) where
   after-within p newly moved struck last left point w =
       ended-keeps z f _ point (rested-keeps z f _ left (struck-keeps z f _ struck last (grew-keeps z f p newly moved w)))
 
-  accepted-path : (s : Sending) (k : Sack) → Within z (s .path) → Within z (accepted z s k .path)
+  pub accepted-path : (s : Sending) (k : Sack) → Within z (s .path) → Within z (accepted z s k .path)
   unfolding accepted
   accepted-path s k w = with-flight z _ _ (after-within (s .path) _ _ _ _ _ _ w)
 
@@ -125,7 +125,7 @@ module _ (z : Sizes) (f : Fair z) where
   unfolding acknowledged
   acknowledged-path s k w = pick-keeps (λ (t : Sending). Within z (t .path)) (eqb (judgedPoint s k) 0) (accepted z s k) s (accepted-path s k w) w
 
-  overdue-path : (s : Sending) → Within z (s .path) → Within z (overdue z s .path)
+  pub overdue-path : (s : Sending) → Within z (s .path) → Within z (overdue z s .path)
   unfolding overdue
   overdue-path s w = with-flight z _ _ (expired-keeps z f (s .path) w)
 

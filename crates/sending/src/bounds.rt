@@ -152,6 +152,10 @@ pub fn is_within(s: Sending) -> bool
             if any_odd(ps) {
                 return false;
             }
+            let d = places::place::ahead(s.acked, s.next_tsn);
+            if d < 1 {
+                return false;
+            }
             if is_successive(s, true, s.room()) {
                 let waiting = members(ps, false);
                 return is_successive(s, false, waiting as u32);

@@ -1,0 +1,265 @@
+-- The computed test of the bounds says what the bounds say, both ways. Assumes nothing.
+use Prim.Native.Nat.{ℕ, zero, suc, _+_, _-_, _<_, _≤_, zero-le}
+use mathlib.Core.Path.{_≡_, refl, sym, ap, _∙_}
+use mathlib.Core.Bool.{Bool, true, false, not}
+use mathlib.Core.List.{List, [], _∷_}
+use native.Mathlib.Omega.{arith}
+use native.Mathlib.Decide.{decLt, ℕ-discrete}
+use borrow.Author.Tests.{lt-ltb, le-ltb, lt-leb, eq-eqb, ne-eqb, ltb-false, leb-false, eqb-true, eqb-false, not-true}
+use lib.ListN.{length, set, getD, replicate, length-replicate, length-set}
+use lib.Seq.{getD-set-same, getD-set-other}
+use lib.Dec.{eqb, ltb, leb}
+use Rattle.numbers.specs.declared.circle.Tsn.{Tsn}
+use Rattle.numbers.specs.Profile.{Profile}
+use Rattle.scans.specs.Scan.{pick, tick, any, count, either, foldFrom}
+use Rattle.scans.specs.Each.{All, all-map, clash}
+use Rattle.scans.specs.Upto.{anyUpto}
+use Rattle.path.specs.Sizes.{Sizes}
+use Rattle.path.specs.Path as way
+use Rattle.path.specs.Laws.{within-so, so-within}
+use Rattle.places.specs.declared.place.Place.{Place}
+use Rattle.places.specs.Places.{aheadOf, hasStatus, isSent, tallied}
+use Rattle.places.specs.Laws.{tallied-flight}
+use Rattle.sending.specs.declared.sending.Sending.{Sending}
+use Rattle.sending.specs.Sending.{roomOf}
+use Rattle.sending.specs.Bounds.{isOdd, keyOf, membersOf, spotOf, markedBy, seenOf, isGap, hasGap, isSuccessive, isWithin, Fit, hasKey, Successive, Sound}
+
+-- ---- scans
+
+module _ {A : Type 0} (p : A → Bool) where
+  pub any-none : (xs : List A) → any p xs ≡ false → All (λ (x : A). p x ≡ false) xs
+  any-none [] e = tt
+  any-none (x ∷ xs) e = go (p x) refl (any-none xs)
+    where
+      go : (t : Bool) → p x ≡ t → (any p xs ≡ false → All (λ (y : A). p y ≡ false) xs) → (p x ≡ false) × All (λ (y : A). p y ≡ false) xs
+      go true q ih = clash (sym (rw q at e))
+      go false q ih = (q, ih (rw q at e))
+
+  pub none-any : (xs : List A) → All (λ (x : A). p x ≡ false) xs → any p xs ≡ false
+  none-any [] w = refl
+  none-any (x ∷ xs) w = rw (w .0) (none-any xs (w .1))
+
+  pub count-most : (xs : List A) → count p xs ≤ length xs
+  count-most [] = zero-le
+  count-most (x ∷ xs) = go (p x) (count-most xs)
+    where
+      go : (t : Bool) → count p xs ≤ length xs → tick t (count p xs) ≤ suc (length xs)
+      go true h = omega arith
+      go false h = omega arith
+
+module _ (p : ℕ → Bool) where
+  upto-none : (i n : ℕ) → anyUpto p i n ≡ false → (j : ℕ) → i ≤ j → j < i + n → p j ≡ false
+  upto-none i zero e j a b = absurd (omega arith)
+  upto-none i (suc n) e j a b = go (p i) refl (ℕ-discrete i j) (λ q l. upto-none (i + 1) n q j l (omega arith))
+    where
+      go : (t : Bool) → p i ≡ t → Dec (i ≡ j) → (anyUpto p (i + 1) n ≡ false → i + 1 ≤ j → p j ≡ false) → p j ≡ false
+      go true q d ih = clash (sym (rw q at e))
+      go false q (yes d) ih = rw (← d) q
+      go false q (no d) ih = ih (rw q at e) (omega arith)
+
+  none-upto : (i n : ℕ) → ((j : ℕ) → i ≤ j → j < i + n → p j ≡ false) → anyUpto p i n ≡ false
+  none-upto i zero f = refl
+  none-upto i (suc n) f = rw (f i (omega arith) (omega arith)) (none-upto (i + 1) n (λ j a b. f j (omega arith) (omega arith)))
+
+-- past the end there is nothing
+beyond : {A : Type 0} (xs : List A) (j : ℕ) (d : A) → length xs ≤ j → getD xs j d ≡ d
+beyond [] j d h = refl
+beyond (x ∷ xs) zero d h = absurd (omega arith)
+beyond (x ∷ xs) (suc j) d h = beyond xs j d (omega arith)
+
+none-set : (n j : ℕ) → getD (replicate n false) j false ≡ false
+none-set zero j = refl
+none-set (suc n) zero = refl
+none-set (suc n) (suc j) = none-set n j
+
+-- ---- which numbers are there
+
+module _ (P : Profile) where
+  marked-long : (seen : List Bool) (k : ℕ) → length (markedBy P seen k) ≡ length seen
+  unfolding markedBy
+  marked-long seen k = go (ltb (spotOf P k) (P .places))
+    where
+      go : (t : Bool) → length (pick t (set seen (spotOf P k) true) seen) ≡ length seen
+      go true = length-set seen (spotOf P k) true
+      go false = refl
+
+  -- a number from 1 on that has a place is noted there
+  spot-in : (k : ℕ) → 0 < k → k ≤ P .places → spotOf P k ≡ k - 1
+  unfolding spotOf
+  spot-in k a b = rw (le-ltb k 1 a, le-ltb (P .places) k b)
+
+  spot-none : (k : ℕ) → k < 1 → spotOf P k ≡ P .places
+  unfolding spotOf
+  spot-none k a = rw (lt-ltb k 1 a)
+
+  spot-past : (k : ℕ) → 0 < k → P .places < k → spotOf P k ≡ P .places
+  unfolding spotOf
+  spot-past k a b = rw (le-ltb k 1 a, lt-ltb (P .places) k b)
+
+  unnoted : (seen : List Bool) (k j : ℕ) → j < P .places → spotOf P k ≡ P .places → (k ≡ suc j → ⊥) → getD (markedBy P seen k) j false ≡ either (eqb k (suc j)) (getD seen j false)
+  unfolding markedBy
+  unnoted seen k j h e q = rw (e, le-ltb (P .places) (P .places) (omega arith), ne-eqb k (suc j) q)
+
+  noted : (seen : List Bool) (k j : ℕ) → length seen ≡ P .places → j < P .places → 0 < k → k ≤ P .places → getD (markedBy P seen k) j false ≡ either (eqb k (suc j)) (getD seen j false)
+  unfolding markedBy
+  noted seen k j l h a b = rw (spot-in k a b, lt-ltb (k - 1) (P .places) (omega arith)) (go (ℕ-discrete k (suc j)))
+    where
+      go : Dec (k ≡ suc j) → getD (set seen (k - 1) true) j false ≡ either (eqb k (suc j)) (getD seen j false)
+      go (yes q) =
+          let m : k - 1 ≡ j = omega arith in
+          rw (eq-eqb k (suc j) q, m) (getD-set-same seen j true false (omega arith))
+      go (no q) = rw (ne-eqb k (suc j) q) (getD-set-other seen (k - 1) j true false (λ m. q (omega arith)))
+
+  marked-at : (seen : List Bool) (k j : ℕ) → length seen ≡ P .places → j < P .places → getD (markedBy P seen k) j false ≡ either (eqb k (suc j)) (getD seen j false)
+  marked-at seen k j l h = go (decLt k 1) (decLt (P .places) k)
+    where
+      go : Dec (k < 1) → Dec (P .places < k) → getD (markedBy P seen k) j false ≡ either (eqb k (suc j)) (getD seen j false)
+      go (yes a) b = unnoted seen k j h (spot-none k a) (λ q. omega arith)
+      go (no a) (yes b) = unnoted seen k j h (spot-past k (omega arith) b) (λ q. omega arith)
+      go (no a) (no b) = noted seen k j l h (omega arith) (omega arith)
+
+  module _ (sent : Bool) (acked : Tsn) (oldest : ℕ) where
+    abbrev noting : List Bool → ℕ → Place → List Bool
+    noting seen i p = markedBy P seen (keyOf sent acked oldest p)
+
+    seen-long : (seen : List Bool) (i : ℕ) (ps : List Place) → length (foldFrom noting seen i ps) ≡ length seen
+    seen-long seen i [] = refl
+    seen-long seen i (p ∷ ps) = seen-long (noting seen i p) (i + 1) ps ∙ marked-long seen (keyOf sent acked oldest p)
+
+    either-turn : (a b c : Bool) → either (either a b) c ≡ either b (either a c)
+    either-turn true true c = refl
+    either-turn true false c = refl
+    either-turn false b c = refl
+
+    seen-from : (j : ℕ) → j < P .places → (ps : List Place) (seen : List Bool) (i : ℕ) → length seen ≡ P .places
+        → getD (foldFrom noting seen i ps) j false ≡ either (getD seen j false) (any (hasKey sent acked oldest (suc j)) ps)
+    seen-from j h [] seen i l = go (getD seen j false)
+      where
+        go : (t : Bool) → t ≡ either t false
+        go true = refl
+        go false = refl
+    seen-from j h (p ∷ ps) seen i l =
+        let k = keyOf sent acked oldest p in
+        seen-from j h ps (noting seen i p) (i + 1) (marked-long seen k ∙ l)
+        ∙ (ap (λ (t : Bool). either t (any (hasKey sent acked oldest (suc j)) ps)) (marked-at seen k j l h)
+        ∙ either-turn (eqb k (suc j)) (getD seen j false) (any (hasKey sent acked oldest (suc j)) ps))
+
+    seen-at : (ps : List Place) (j : ℕ) → j < P .places → getD (seenOf P sent acked oldest ps) j false ≡ any (hasKey sent acked oldest (suc j)) ps
+    unfolding seenOf
+    seen-at ps j h =
+        seen-from j h ps (replicate (P .places) false) 0 (length-replicate (P .places) false)
+        ∙ ap (λ (t : Bool). either t (any (hasKey sent acked oldest (suc j)) ps)) (none-set (P .places) j)
+
+    seen-past : (ps : List Place) (j : ℕ) → P .places ≤ j → getD (seenOf P sent acked oldest ps) j false ≡ false
+    unfolding seenOf
+    seen-past ps j h =
+        beyond (foldFrom noting (replicate (P .places) false) 0 ps) j false (omega (arith, seen-long (replicate (P .places) false) 0 ps, length-replicate (P .places) false))
+
+    no-gap : (ps : List Place) (n : ℕ) → hasGap (seenOf P sent acked oldest ps) n ≡ false → (k : ℕ) → 0 < k → k ≤ n → any (hasKey sent acked oldest k) ps ≡ true
+    unfolding hasGap
+    no-gap ps n e k a b =
+        let f : getD (seenOf P sent acked oldest ps) (k - 1) false ≡ true = back (getD (seenOf P sent acked oldest ps) (k - 1) false) (upto-none (isGap (seenOf P sent acked oldest ps)) 0 n e (k - 1) zero-le (omega arith)) in
+        let m : suc (k - 1) ≡ k = omega arith in
+        go f m (decLt (k - 1) (P .places))
+      where
+        back : (t : Bool) → not t ≡ false → t ≡ true
+        back true q = refl
+        back false q = clash (sym q)
+
+        go : getD (seenOf P sent acked oldest ps) (k - 1) false ≡ true → suc (k - 1) ≡ k → Dec (k - 1 < P .places) → any (hasKey sent acked oldest k) ps ≡ true
+        go f m (yes l) = rw m at (sym (seen-at ps (k - 1) l) ∙ f)
+        go f m (no l) = clash (sym (seen-past ps (k - 1) (omega arith)) ∙ f)
+
+    gapless : (ps : List Place) (n : ℕ) → n ≤ P .places → ((k : ℕ) → 0 < k → k ≤ n → any (hasKey sent acked oldest k) ps ≡ true) → hasGap (seenOf P sent acked oldest ps) n ≡ false
+    unfolding hasGap
+    gapless ps n l f = none-upto (isGap (seenOf P sent acked oldest ps)) 0 n (λ j a b. ap not (seen-at ps j (omega arith) ∙ f (suc j) (omega arith) (omega arith)))
+
+  members-most : (sent : Bool) (ps : List Place) → membersOf sent ps ≤ length ps
+  members-most true ps = count-most isSent ps
+  members-most false ps = count-most (hasStatus 1) ps
+
+  pub so-successive : (s : Sending) (sent : Bool) (n : ℕ) → isSuccessive P s sent n ≡ true → Successive sent (s .acked) (s .oldest) (s .places) n
+  unfolding isSuccessive
+  so-successive s sent n e = go (eqb (membersOf sent (s .places)) n) refl e
+    where
+      go : (t : Bool) → eqb (membersOf sent (s .places)) n ≡ t → pick t (not (hasGap (seenOf P sent (s .acked) (s .oldest) (s .places)) n)) false ≡ true
+          → Successive sent (s .acked) (s .oldest) (s .places) n
+      go true q f = record { many = eqb-true (membersOf sent (s .places)) n q; each = no-gap sent (s .acked) (s .oldest) (s .places) n (not-true _ f) }
+      go false q f = clash f
+
+  pub successive-so : (s : Sending) (sent : Bool) (n : ℕ) → length (s .places) ≤ P .places → Successive sent (s .acked) (s .oldest) (s .places) n → isSuccessive P s sent n ≡ true
+  unfolding isSuccessive
+  successive-so s sent n l w =
+      rw (eq-eqb (membersOf sent (s .places)) n (w .many), gapless sent (s .acked) (s .oldest) (s .places) n (omega (arith, members-most sent (s .places), w .many)) (w .each))
+
+  -- ---- each place
+
+  so-fit : (p : Place) → isOdd P p ≡ false → Fit P p
+  unfolding isOdd
+  so-fit p e = go (ltb 4 (p .status)) (ltb 3 (p .misses)) (eqb (p .status) 0) (ltb (p .chunk .len) 1) (ltb (P .payload) (p .chunk .len)) refl refl refl refl refl e
+    where
+      go : (a b c d f : Bool) → ltb 4 (p .status) ≡ a → ltb 3 (p .misses) ≡ b → eqb (p .status) 0 ≡ c → ltb (p .chunk .len) 1 ≡ d → ltb (P .payload) (p .chunk .len) ≡ f
+          → pick a true (pick b true (pick c false (pick d true (pick f true (leb (P .streams) (p .chunk .stream .0)))))) ≡ false → Fit P p
+      go true b c d f u v w x y e = clash (sym e)
+      go false true c d f u v w x y e = clash (sym e)
+      go false false true d f u v w x y e = record { status = ltb-false 4 (p .status) u; misses = ltb-false 3 (p .misses) v; cut = λ n. absurd (n (eqb-true (p .status) 0 w)) }
+      go false false false true f u v w x y e = clash (sym e)
+      go false false false false true u v w x y e = clash (sym e)
+      go false false false false false u v w x y e = record {
+        status = ltb-false 4 (p .status) u;
+        misses = ltb-false 3 (p .misses) v;
+        cut = λ n. record { some = ltb-false (p .chunk .len) 1 x; small = ltb-false (P .payload) (p .chunk .len) y; stream = leb-false (P .streams) (p .chunk .stream .0) e };
+      }
+
+  fit-so : (p : Place) → Fit P p → isOdd P p ≡ false
+  unfolding isOdd
+  fit-so p w = rw (le-ltb 4 (p .status) (w .status), le-ltb 3 (p .misses) (w .misses)) (go (eqb (p .status) 0) refl)
+    where
+      go : (c : Bool) → eqb (p .status) 0 ≡ c → pick c false (pick (ltb (p .chunk .len) 1) true (pick (ltb (P .payload) (p .chunk .len)) true (leb (P .streams) (p .chunk .stream .0)))) ≡ false
+      go true q = refl
+      go false q =
+          let c = w .cut (eqb-false (p .status) 0 q) in
+          rw (le-ltb (p .chunk .len) 1 (c .some), le-ltb (P .payload) (p .chunk .len) (c .small), lt-leb (P .streams) (p .chunk .stream .0) (c .stream))
+
+-- ---- the record
+
+module _ (z : Sizes) (P : Profile) (s : Sending) where
+  abbrev tried : Bool → Bool → Bool → Bool → Bool → Bool → Bool
+  tried a b c d e f = pick a (pick b (pick c false (pick d false (pick e f false))) false) false
+
+  pub test-sound : isWithin z P s ≡ true → Sound z P s
+  unfolding isWithin
+  test-sound h =
+      go
+      (way.isWithin z (s .path))
+      (eqb (tallied (s .acked) (s .places) .flight) (s .path .flight))
+      (any (isOdd P) (s .places))
+      (ltb (aheadOf (s .acked) (s .«next_tsn»)) 1)
+      (isSuccessive P s true (roomOf s))
+      (isSuccessive P s false (count (hasStatus 1) (s .places)))
+      refl refl refl refl refl refl h
+    where
+      go : (a b c d e f : Bool) → way.isWithin z (s .path) ≡ a → eqb (tallied (s .acked) (s .places) .flight) (s .path .flight) ≡ b → any (isOdd P) (s .places) ≡ c
+          → ltb (aheadOf (s .acked) (s .«next_tsn»)) 1 ≡ d → isSuccessive P s true (roomOf s) ≡ e → isSuccessive P s false (count (hasStatus 1) (s .places)) ≡ f
+          → tried a b c d e f ≡ true → Sound z P s
+      go false b c d e f u v w x y k h = clash h
+      go true false c d e f u v w x y k h = clash h
+      go true true true d e f u v w x y k h = clash h
+      go true true false true e f u v w x y k h = clash h
+      go true true false false false f u v w x y k h = clash h
+      go true true false false true false u v w x y k h = clash h
+      go true true false false true true u v w x y k h = record {
+        path = within-so z (s .path) u;
+        summed = sym (eqb-true _ (s .path .flight) v) ∙ tallied-flight (s .acked) (s .places);
+        fit = all-map (λ p q. so-fit P p q) (s .places) (any-none (isOdd P) (s .places) w);
+        ahead = ltb-false (aheadOf (s .acked) (s .«next_tsn»)) 1 x;
+        sent = so-successive P s true (roomOf s) y;
+        waiting = so-successive P s false (count (hasStatus 1) (s .places)) k;
+      }
+
+  -- the record has its places, and no more
+  pub sound-test : length (s .places) ≤ P .places → Sound z P s → isWithin z P s ≡ true
+  unfolding isWithin
+  sound-test l w =
+      rw
+      (so-within z (s .path) (w .path), eq-eqb _ _ (tallied-flight (s .acked) (s .places) ∙ sym (w .summed)), none-any (isOdd P) (s .places) (all-map (λ p q. fit-so P p q) (s .places) (w .fit)), le-ltb (aheadOf (s .acked) (s .«next_tsn»)) 1 (w .ahead), successive-so P s true (roomOf s) l (w .sent), successive-so P s false (count (hasStatus 1) (s .places)) l (w .waiting))
