@@ -154,3 +154,8 @@ module _ (n a b d : ℕ) (ha : a < n) (hb : b < n) where
   pub ahead-half : far (ring n) a b ≡ Ahead d → d + d < n
   unfolding far
   ahead-half e = (rw e at (right ha hb)) .0
+
+-- a whole turn leads back
+pub on-round : (n a : ℕ) → a < n → on (ring n) a n ≡ a
+unfolding on
+on-round n a h = add-mod-right a n ∙ mod-eq-of-lt h
