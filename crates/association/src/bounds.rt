@@ -7,7 +7,8 @@ use states::State;
 ghost use mathlib.Core.Path.{_≡_};
 ghost use Rattle.association.specs.Bounds.{areStreams, lacksTag, isEcho, areEnds, isHead, isSound};
 
-fn are_streams(n: u16) -> bool
+// At least one stream, and no more than the profile has.
+pub fn are_streams(n: u16) -> bool
     ensures { λ r. ⌜ r ≡ areStreams n ⌝ }
 {
     if n < 1 {

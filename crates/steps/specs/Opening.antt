@@ -5,6 +5,7 @@ use mathlib.Core.List.{List, []}
 use lib.Dec.{ltb, eqb}
 use lib.ListN.{length, take, drop}
 use Rattle.scans.specs.Scan.{pick}
+use Rattle.scans.specs.Upto.{smaller}
 use Rattle.chunks.specs.declared.frame.Part.{Part}
 use Rattle.chunks.specs.declared.init.Init.{Init}
 use Rattle.chunks.specs.Frame.{framed, partFrom}
@@ -22,9 +23,6 @@ use Rattle.steps.specs.declared.lent.Echoed.the-variants.{Bad, Stale, Go
 use Rattle.steps.specs.declared.verdict.Event.the-variants.{NoEvent, Up}
 use Rattle.steps.specs.declared.verdict.Named.the-variants.{NoCall, ErrorStale}
 use Rattle.steps.specs.Verdict.{Step, accepted, refused, ending}
-
-abbrev pub lesser : ℕ → ℕ → ℕ
-lesser a b = pick (ltb a b) a b
 
 -- the bytes of a chunk that a part names
 abbrev pub bytesOf : Part → List ℕ → List ℕ
@@ -47,7 +45,7 @@ unfoldable pub ackOf : Lent → Init → Init
 ackOf l v = record {
   tag = l .tag;
   window = 65536;
-  outs = lesser (lesser (l .streams) 128) (v .ins);
+  outs = smaller (smaller (l .streams) 128) (v .ins);
   ins = 128;
   tsn = l .tsn;
 }

@@ -1,8 +1,8 @@
 // What the host lends beside a packet.
-use numbers::Rail;
+use association::bounds::are_streams;
 use numbers::Tsn;
 ghost use mathlib.Core.Path.{_≡_};
-ghost use Rattle.steps.specs.Lent.{isAgreeable, isMade, heeded};
+ghost use Rattle.steps.specs.Lent.{isMade, heeded};
 
 // For an INIT: our tag, our first TSN, and how many streams we want; the cookie is lent beside it.
 pub struct Lent {
@@ -32,16 +32,6 @@ pub enum Echoed {
 // The least window of an INIT (RFC 9260 section 3.3.2).
 pub const LEAST_WINDOW: u32 = 1500;
 
-// Streams that can have been agreed.
-fn is_agreeable(n: u16) -> bool
-    ensures { λ r. ⌜ r ≡ isAgreeable n ⌝ }
-{
-    if n < 1 {
-        return false;
-    }
-    (n as usize) <= Rail::STREAMS
-}
-
 impl Made {
     // Whether an association can start from it.
     pub fn is_made(self) -> bool
@@ -56,8 +46,8 @@ impl Made {
         if self.window < LEAST_WINDOW {
             return false;
         }
-        if is_agreeable(self.streams_in) {
-            return is_agreeable(self.streams_out);
+        if are_streams(self.streams_in) {
+            return are_streams(self.streams_out);
         }
         false
     }

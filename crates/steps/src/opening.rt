@@ -13,9 +13,10 @@ use numbers::Rail;
 use numbers::Tsn;
 use states::State;
 ghost use mathlib.Core.Path.{_≡_};
+ghost use Rattle.scans.specs.Upto.{smaller};
 ghost use Rattle.octets.specs.Writing.{wroteBytes};
 ghost use Rattle.steps.specs.Verdict.{doneIn};
-ghost use Rattle.steps.specs.Opening.{isPoor, isOdd, isPoorLent, lesser, ackOf, answerInit, established, readEcho};
+ghost use Rattle.steps.specs.Opening.{isPoor, isOdd, isPoorLent, ackOf, answerInit, established, readEcho};
 
 // What is sent as our window: all places free.
 const WINDOW: u32 = 65536;
@@ -58,7 +59,7 @@ fn is_poor_lent(lent: Lent, cookie: usize) -> bool
 }
 
 fn lesser(a: u16, b: u16) -> u16
-    ensures { λ r. ⌜ r ≡ lesser a b ⌝ }
+    ensures { λ r. ⌜ r ≡ smaller a b ⌝ }
 {
     if a < b {
         return a;
