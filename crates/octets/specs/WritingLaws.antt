@@ -14,7 +14,7 @@ use Rattle.octets.specs.Bytes.{u16, up4, zeros, laid}
 use Rattle.octets.specs.BytesLaws.{u16-at, part-is, laid-nil, laid-more, laid-is, length-laid, laid-part, kept-part, zeros-long}
 use Rattle.octets.specs.Walk.{size}
 use Rattle.octets.specs.WalkLaws.{size-is}
-use Rattle.octets.specs.Writing.{chunk, items, wroteCount, wroteBytes, Wrote, wroteAt}
+use Rattle.octets.specs.Writing.{chunk, items, fitting, bothFitting, wroteCount, wroteBytes, Wrote, wroteAt}
 
 -- ---- a chunk
 
@@ -122,6 +122,64 @@ wrote-none out = record { count = nought (ltb (length out) 0); bytes = same (ltb
     same : (t : Bool) → out ≡ pick t out (laid out 0 [])
     same true = refl
     same false = sym (laid-nil out 0)
+
+-- ---- one writer behind another
+
+-- count bytes, those of bs that fit, stand at a place of out
+record Laid (out : List ℕ) (at room : ℕ) (bs : List ℕ) (count : ℕ) (exit : List ℕ) : Type 0 where
+  within : count ≤ room
+  most : count ≤ length bs
+  count-is : count ≡ length (fitting room bs)
+  exit-is : exit ≡ laid out at (fitting room bs)
+
+laid-fitting : (out : List ℕ) (at room : ℕ) (bs : List ℕ) → length bs ≤ 65532 → {count : ℕ} {exit : List ℕ}
+    → count ≡ pick (ltb 65532 (length bs)) 0 (pick (ltb room (length bs)) 0 (length bs))
+    → exit ≡ pick (ltb 65532 (length bs)) out (pick (ltb room (length bs)) out (laid out at bs)) → Laid out at room bs count exit
+laid-fitting out at room bs h {count} {exit} c x =
+    go (ltb room (length bs)) refl (rw (le-ltb 65532 (length bs) h) at c) (rw (le-ltb 65532 (length bs) h) at x)
+  where
+    go : (t : Bool) → ltb room (length bs) ≡ t → count ≡ pick t 0 (length bs) → exit ≡ pick t out (laid out at bs) → Laid out at room bs count exit
+    go true e p q =
+        let z : count ≡ 0 = p in
+        record { within = omega arith; most = omega arith; count-is = rw e p; exit-is = rw e (q ∙ sym (laid-nil out at)) }
+    go false e p q =
+        let z : count ≡ length bs = p in
+        record { within = omega (arith, ltb-false room (length bs) e); most = omega arith; count-is = rw e p; exit-is = rw e q }
+
+module _ {xs ys zs a b : List ℕ} {n m : ℕ} (short : length a + length b ≤ 65532) (w : Wrote xs a n ys) (v : Wrote (take (length ys - n) (drop n ys)) b m zs) where
+  one : Laid xs 0 (length xs) a n ys
+  unfolding wroteCount wroteBytes
+  one = laid-fitting xs 0 (length xs) a (omega arith) (w .count) (w .bytes)
+
+  long : length ys ≡ length xs
+  long = ap (λ (l : List ℕ). length l) (one .exit-is) ∙ length-laid xs 0 (fitting (length xs) a)
+
+  room-is : length ys - n ≡ length xs - length (fitting (length xs) a)
+  room-is = let c : n ≡ length (fitting (length xs) a) = one .count-is in omega (arith, long)
+
+  abbrev behind : List ℕ
+  behind = take n ys ++ (zs ++ drop (length ys - n) (drop n ys))
+
+  two : Laid ys n (length ys - n) b m behind
+  unfolding wroteAt
+  two =
+      let h : n ≤ length ys = omega (arith, long, one .within) in
+      laid-fitting ys n (length ys - n) b (omega arith) (part-count n ys h v) (wrote-part n ys h v)
+
+  both-holds : Holds xs (bothFitting (length xs) a b) behind
+  both-holds =
+      rw (← room-is)
+      (then (first xs (fitting (length xs) a) (one .exit-is)) n (fitting (length ys - n) b) (sym (one .count-is)) (two .exit-is))
+
+  both-long : length (bothFitting (length xs) a b) ≡ n + m
+  both-long =
+      rw (← room-is)
+      (length-append (fitting (length xs) a) (fitting (length ys - n) b) ∙ (λ i. sym (one .count-is) i + sym (two .count-is) i))
+
+  -- a second writer in the part of the space behind the first
+  pub wrote-both : Wrote xs (bothFitting (length xs) a b) (n + m) behind
+  wrote-both =
+      wrote-all both-long (omega (arith, one .most, two .most)) (omega (arith, long, one .within, two .within)) both-holds
 
 -- ---- lists of items of four bytes
 
