@@ -26,7 +26,14 @@ pub struct Beside {
 }
 
 // The chunk at the head of `s`; its reply goes to the head of `space`.
-pub fn step(a: Association, area: &mut [u8], b: Beside, cookie: &[u8], s: &[u8], space: &mut [u8]) -> Done
+pub fn step(
+    a: Association,
+    area: &mut [u8],
+    b: Beside,
+    cookie: &[u8],
+    s: &[u8],
+    space: &mut [u8],
+) -> Done
     ensures { λ r. ⌜ (r ≡ doneIn (now (space .entry)) (stepOf (length (now (space .entry))) a b (now (cookie .entry)) (now (s .entry))))
         × (now (area .exit) ≡ areaOf a b (now (area .entry)) (now (s .entry)))
         × (now (space .exit) ≡ wroteBytes (now (space .entry)) (stepOf (length (now (space .entry))) a b (now (cookie .entry)) (now (s .entry)) .reply)) ⌝ }
