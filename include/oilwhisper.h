@@ -12,9 +12,9 @@
  *   - a `bool` is 0 or 1, in a record too.
  * Addresses and counts have 64 bits. A call needs some stack, since it works on copies of a record of 7 KB.
  *
- * Every answer begins with `number`: 0, or one of the numbers below. A refused call gives the record back as it came, but for what is said at OW_DUPLICATE
- * and OW_STRAY, and writes no byte. A call that is not refused writes to `out` the bytes of its packet, exactly `length` of them, and no other.
- * All that goes to the peer is a whole SCTP packet, with header and checksum, from the 12 bytes of the header on.
+ * Every answer begins with `number`: 0, or one of the numbers below. A refused call gives the record back as it came and writes no byte; a packet that is
+ * let in may have refused chunks, each of which leaves all but what is said at OW_DUPLICATE and OW_STRAY. A call that is not refused writes the bytes of its
+ * packet to `out`, exactly `length` of them, and no other. What goes to the peer is a whole SCTP packet, header and checksum in it.
  */
 #ifndef OILWHISPER_H
 #define OILWHISPER_H
@@ -365,7 +365,7 @@ struct ow_transmitted {
 };
 
 /*
- * One packet of DATA chunks, as far as flight and the peer's window allow, or `length` 0: call it until it answers that. After a packet T3 runs.
+ * One packet of DATA chunks, as far as flight and the peer's window allow, or `length` 0: call it until it answers that. T3 runs while anything is outstanding.
  * In OW_ESTABLISHED, OW_SHUTDOWN_PENDING, OW_SHUTDOWN_RECEIVED. Refused 1, 18 (`area`, the one for sending, or `out`), 7.
  */
 struct ow_transmitted ow_transmit(struct ow_association association, const uint8_t *area, size_t area_len, uint8_t *out, size_t out_len);

@@ -162,3 +162,36 @@ AT(blocks, 2, ends);
 
 SIZE(value, 1);
 AT(value, 0, bytes);
+
+SIZE(lent, 3);
+AT(lent, 0, tag);
+AT(lent, 1, tsn);
+AT(lent, 2, streams);
+
+SIZE(echoed, 2);
+AT(echoed, 0, word);
+AT(echoed, 1, made);
+
+SIZE(made, 7);
+AT(made, 0, my_tag);
+AT(made, 1, peer_tag);
+AT(made, 2, streams_in);
+AT(made, 3, streams_out);
+AT(made, 4, my_tsn);
+AT(made, 5, peer_tsn);
+AT(made, 6, window);
+
+SIZE(arrived, 5);
+AT(arrived, 0, number);
+AT(arrived, 1, count);
+AT(arrived, 2, verdicts);
+AT(arrived, 3, length);
+AT(arrived, 4, association);
+
+SIZE(verdict, 6);
+AT(verdict, 0, at);
+AT(verdict, 1, value);
+AT(verdict, 2, fate);
+AT(verdict, 3, number);
+AT(verdict, 4, cause);
+AT(verdict, 5, event);

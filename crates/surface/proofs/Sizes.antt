@@ -13,6 +13,9 @@ use Rattle.surface.proofs.messages.Delivered.Laws as D′
 use Rattle.surface.proofs.transmitting.Transmitted.Laws as T′
 use Rattle.surface.proofs.acknowledging.Acknowledged.Laws as K′
 use Rattle.surface.proofs.telling.Value.Laws as V′
+use Rattle.surface.proofs.arrival.Arrived.Laws as R′
+use Rattle.surface.proofs.arrival.Word.Laws as W′
+use Rattle.steps.proofs.lent.Lent.Laws as L′
 
 -- the fields of a struct; of an array, its element
 abbrev parts : Ty → Tys
@@ -126,3 +129,18 @@ blocks-laid = refl
 
 pub value-laid : laid V′.mir ≡ 8 ∷ 0 ∷ []
 value-laid = refl
+
+pub lent-laid : laid L′.mir ≡ 12 ∷ 0 ∷ 4 ∷ 8 ∷ []
+lent-laid = refl
+
+pub echoed-laid : laid W′.mir ≡ 28 ∷ 0 ∷ 4 ∷ []
+echoed-laid = refl
+
+pub made-laid : laid (within W′.mir 1) ≡ 24 ∷ 0 ∷ 4 ∷ 8 ∷ 10 ∷ 12 ∷ 16 ∷ 20 ∷ []
+made-laid = refl
+
+pub arrived-laid : laid R′.mir ≡ 13072 ∷ 0 ∷ 8 ∷ 16 ∷ 5856 ∷ 5864 ∷ []
+arrived-laid = refl
+
+pub verdict-laid : laid (within (within R′.mir 2) 0) ≡ 16 ∷ 0 ∷ 8 ∷ 12 ∷ 13 ∷ 14 ∷ 15 ∷ []
+verdict-laid = refl

@@ -8,6 +8,7 @@ use Rattle.surface.proofs.stored.pack.Reads as pack-reads
 use Rattle.surface.proofs.opening.ow_closed.Reads as closed-reads
 use Rattle.surface.proofs.opening.ow_associate.Reads as associate-reads
 use Rattle.surface.proofs.peeking.ow_peek.Reads as peek-reads
+use Rattle.surface.proofs.arrival.ow_arrive.Reads as arrive-reads
 use Rattle.surface.proofs.messages.ow_hand_in.Reads as hand-in-reads
 use Rattle.surface.proofs.messages.ow_take.Reads as take-reads
 use Rattle.surface.proofs.transmitting.ow_transmit.Reads as transmit-reads
@@ -78,3 +79,6 @@ error-stale-unique κs a r q s t x y = answered-one x y
 
 pub heartbeat-unique : (κs : _) (a : _) (r q : _) (s t : _) → heartbeat-reads.Post κs a r s → heartbeat-reads.Post κs a q t → (r ≡ q) × (now (s .1 .1 .0) ≡ now (t .1 .1 .0))
 heartbeat-unique κs a r q s t x y = answered-one x y
+
+pub arrive-unique : (κs : _) (a : _) (r q : _) (s t : _) → arrive-reads.Post κs a r s → arrive-reads.Post κs a q t → (r ≡ q) × (now (s .1 .0) ≡ now (t .1 .0)) × (now (s .1 .1 .1 .1 .1 .1 .0) ≡ now (t .1 .1 .1 .1 .1 .1 .0))
+arrive-unique κs a r q s t x y = (x .0 ∙ sym (y .0), x .1 ∙ sym (y .1), x .2 ∙ sym (y .2))

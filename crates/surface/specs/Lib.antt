@@ -3,6 +3,7 @@ pub mod Stored
 pub mod StoredLaws
 pub mod Answer
 pub mod AnswerLaws
+pub mod Arrival
 pub mod Closing
 pub mod Peek
 pub mod Messages
