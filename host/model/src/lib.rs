@@ -17,10 +17,16 @@
 
 mod arrive;
 mod association;
+mod bend;
+mod born;
+pub mod call;
 mod calls;
 pub mod channel;
 pub mod checksum;
 mod core;
+pub mod coverage;
+mod craft;
+pub mod drive;
 pub mod numbers;
 mod path;
 pub mod random;
@@ -29,7 +35,9 @@ mod receiving;
 pub mod record;
 mod sending;
 pub mod soak;
+pub mod twin;
 pub mod write;
 
 pub use crate::association::is_sound;
 pub use crate::core::{Core, Model};
+pub use crate::drive::drive;
