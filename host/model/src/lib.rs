@@ -27,6 +27,7 @@ mod core;
 pub mod coverage;
 mod craft;
 pub mod drive;
+mod letting;
 pub mod numbers;
 mod path;
 pub mod random;
