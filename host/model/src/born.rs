@@ -230,7 +230,7 @@ fn sending(r: &mut Random) -> Sending {
         clock: clock(r),
         flight,
         running: r.one_in(2),
-        until: if r.one_in(4) { tsn(r) } else { acked.wrapping_add(r.below(12) as u32).wrapping_sub(2) },
+        until: acked.wrapping_add(r.pick(&[0, 0, 1 << 31, u32::MAX])).wrapping_add(r.below(12) as u32).wrapping_sub(2),
         tries: r.pick(&[0, 1, 9, 10]),
     };
     let advertised = window(r, &places, oldest);
