@@ -19,6 +19,13 @@ fn the_library_answers_as_the_model() {
     let seen = drive(&Linked::<Proved>::new(), &Model, SEED, CALLS).unwrap_or_else(|d| panic!("{d}"));
     println!("{seen}");
     assert!(seen.calls >= CALLS);
+    assert_eq!(seen.missing(), [] as [String; 0]);
+}
+
+#[test]
+fn the_library_keeps_the_state_table() {
+    let faults = model::table::faults(&Linked::<Proved>::new());
+    assert!(faults.is_empty(), "{}", faults.join("\n"));
 }
 
 /// Both circles close: the first TSN is 100 below 2^32, and one stream carries more than 65,536 messages.

@@ -60,6 +60,61 @@ impl Coverage {
         (a.state, a.tries)
     }
 
+    /// What a drive of some hundred thousand calls should have met and has not.
+    pub fn missing(&self) -> Vec<String> {
+        let mut missing = Vec::new();
+        let mut want = |met: usize, what: String| {
+            if met == 0 {
+                missing.push(what);
+            }
+        };
+        let common = [0, 1, 18, 7];
+        let numbers: [(usize, &[usize]); 17] = [
+            (0, &[0]),
+            (1, &[0, 2, 3, 5, 6]),
+            (2, &[0, 1, 18, 2, 3, 4, 5, 6]),
+            (3, &[0, 1, 18, 7, 4, 8]),
+            (4, &[0, 1, 18, 7, 19, 20]),
+            (5, &common),
+            (6, &[0, 1, 18, 17]),
+            (7, &common),
+            (8, &common),
+            (9, &common),
+            (10, &[0, 1, 7]),
+            (11, &[0, 1, 7]),
+            (12, &common),
+            (13, &common),
+            (14, &common),
+            (15, &common),
+            (16, &common),
+        ];
+        for (call, numbers) in numbers {
+            for &n in numbers {
+                want(self.answered[call][n], format!("{} answered {n}", KINDS[call]));
+            }
+            for state in 0..8 {
+                want(self.states[call][state] + usize::from(call < 2), format!("{} in state {state}", KINDS[call]));
+            }
+        }
+        for n in [0, 7, 8, 9, 10, 11, 12, 13, 14, 15, 16, 27] {
+            want(self.numbers[n], format!("a chunk answered {n}"));
+        }
+        for state in 1..8 {
+            for t in (0..=11).chain([14, 16]) {
+                want(self.rows[state][t], format!("a packet of type {t} let in in state {state}"));
+            }
+        }
+        for (name, counts) in [("fate", &self.fates[..]), ("event", &self.events)] {
+            counts.iter().enumerate().for_each(|(i, &n)| want(n, format!("{name} {i}")));
+        }
+        for cause in [0, 1, 3, 9, 13] {
+            want(self.causes[cause], format!("cause {cause}"));
+        }
+        want(self.expiries, "an expiry that closes".into());
+        want(self.replies, "a packet that is answered".into());
+        missing
+    }
+
     pub fn add(&mut self, other: &Coverage) {
         fn each(a: &mut [usize], b: &[usize]) {
             a.iter_mut().zip(b).for_each(|(x, y)| *x += y);

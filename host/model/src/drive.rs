@@ -28,7 +28,7 @@ pub fn drive(left: &dyn Maker, right: &dyn Maker, seed: u64, calls: usize) -> Re
         if i >= episodes || stop.load(Ordering::Relaxed) {
             return;
         }
-        let done = episode(left, right, seed.wrapping_add(i as u64), EPISODE);
+        let done = episode(left, right, seed.wrapping_add(i as u64));
         let mut result = result.lock().expect("no thread panics with it");
         match (&mut *result, done) {
             (Ok(all), Ok(one)) => all.add(&one),
@@ -65,16 +65,24 @@ struct Episode<'m> {
     seen: Coverage,
 }
 
-/// One episode, which its seed settles: a difference is met again by the same seed.
-pub fn episode(left: &dyn Maker, right: &dyn Maker, seed: u64, calls: usize) -> Result<Coverage, Difference> {
+/// One episode, which its seed settles. A difference is met once more with the areas compared at each call, so that the call which made it is named.
+pub fn episode(left: &dyn Maker, right: &dyn Maker, seed: u64) -> Result<Coverage, Difference> {
+    patiently(left, right, seed, 64).map_err(|found| patiently(left, right, seed, 1).err().unwrap_or(found))
+}
+
+fn patiently(left: &dyn Maker, right: &dyn Maker, seed: u64, patience: usize) -> Result<Coverage, Difference> {
     let mut r = Random::new(seed);
     let mood = r.pick(&[Mood::Fair, Mood::Rough, Mood::Hostile]);
-    let end = |port| Twin::new(left, right, association::closed(port));
+    let end = |port| {
+        let mut twin = Twin::new(left, right, association::closed(port));
+        twin.patience = patience;
+        twin
+    };
     let mut e = Episode { r, mood, ends: [end(1), end(2)], pool: Vec::new(), seed, seen: Coverage::default() };
     for who in 0..2 {
         e.make(who, &Call::Closed { port: who as u16 + 1 })?;
     }
-    while e.seen.calls < calls {
+    while e.seen.calls < EPISODE {
         e.step()?;
     }
     for who in 0..2 {
@@ -314,8 +322,8 @@ impl<'m> Episode<'m> {
             4 => self.hand_in(streams, area),
             5 => Call::Transmit { area, out },
             6 => {
-                let size = r.pick(&[0, 100, 3_000, MESSAGE_MOST]);
-                Call::Take { area, out: if r.one_in(10) { r.within(0, size) } else { MESSAGE_MOST } }
+                let size = r.pick(&[1, 100, 1_000, 3_000, 3_000, 3_000, 3_000, 3_000, 3_000, MESSAGE_MOST]);
+                Call::Take { area, out: if size < 3_000 { r.below(size) } else { size } }
             }
             7 => Call::Sack { out },
             8 => Call::T1 { out },

@@ -36,6 +36,7 @@ mod receiving;
 pub mod record;
 mod sending;
 pub mod soak;
+pub mod table;
 pub mod twin;
 pub mod write;
 

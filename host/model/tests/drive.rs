@@ -1,7 +1,6 @@
 //! The driver, with the model on both sides: what every core must keep is kept, what a drive should meet is met, and a core that is bent is found.
 
 use model::call::{Buffers, Call, Maker, Reply};
-use model::coverage::Coverage;
 use model::record::*;
 use model::{drive, is_sound, Model};
 
@@ -37,42 +36,7 @@ impl Maker for Watched {
 fn a_drive_meets_what_it_should() {
     let seen = drive(&Watched, &Model, SEED, CALLS).unwrap_or_else(|d| panic!("{d}"));
     println!("{seen}");
-    check(&seen);
-}
-
-fn check(seen: &Coverage) {
-    for n in [1, 2, 3, 4, 5, 6, 18] {
-        assert!(seen.answered[2][n] > 0, "no packet was refused {n}");
-    }
-    for n in [0, 7, 8, 9, 10, 11, 12, 13, 14, 15, 16, 27] {
-        assert!(seen.numbers[n] > 0, "no chunk was answered {n}");
-    }
-    for n in [0, 2, 3, 5, 6] {
-        assert!(seen.answered[1][n] > 0, "no packet was seen as {n}");
-    }
-    for (call, numbers) in [(3, &[0, 1, 18, 7, 4, 8][..]), (4, &[0, 1, 18, 7, 19, 20]), (5, &[0, 1, 18, 7]), (6, &[0, 1, 17, 18]), (10, &[0, 1, 7])] {
-        for &n in numbers {
-            assert!(seen.answered[call][n] > 0, "call {call} was never answered {n}");
-        }
-    }
-    for call in [7, 8, 9, 12, 13, 14, 15, 16] {
-        for n in [0, 1, 7, 18] {
-            assert!(seen.answered[call][n] > 0, "call {call} was never answered {n}");
-        }
-    }
-    for call in 2..17 {
-        for state in 0..8 {
-            assert!(seen.states[call][state] > 0, "call {call} was never made in state {state}");
-        }
-    }
-    assert!(seen.fates.iter().all(|&n| n > 0) && seen.events.iter().all(|&n| n > 0), "fates or events");
-    assert!([0, 1, 3, 9, 13].iter().all(|&c| seen.causes[c] > 0), "causes");
-    assert!(seen.expiries > 0 && seen.replies > 0);
-    for state in 1..8 {
-        for t in (0..=11).chain([14, 16]) {
-            assert!(seen.rows[state][t] > 0, "no packet with a first chunk of type {t} was let in in state {state}");
-        }
-    }
+    assert_eq!(seen.missing(), [] as [String; 0]);
 }
 
 /// A core that is wrong in one place.
