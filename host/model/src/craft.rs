@@ -310,11 +310,11 @@ pub fn packet(r: &mut Random, a: &Association) -> Crafted {
     let first = chunk(r, a, kind);
     let tag = tag(r, a, &first, &echoed);
     let alone = matches!(kind, read::INIT | read::INIT_ACK | read::SHUTDOWN_COMPLETE);
-    let count = match r.below(10) {
+    let count = match r.below(40) {
         _ if alone && !r.one_in(30) => 0,
         0 => 364,
-        1..=3 => r.within(1, 12),
-        4..=6 => 1,
+        1..=12 => r.within(1, 12),
+        13..=24 => 1,
         _ => 0,
     };
     let tiny = count == 364 && r.one_in(2);
