@@ -34,12 +34,12 @@ fn every_message_comes_once_and_in_order() {
     let library = Linked::<Proved>::new();
     let first = u32::MAX - 99;
     let mut soak = Soak::new(&library, SEED, Faults::MANY, [first, first]);
-    let messages = 65_636;
+    let messages = 65_700;
     for id in 0..messages {
         soak.hand_in_later(0, Due { id, stream: 5, unordered: false, length: 1 + id as usize % 40 });
     }
     soak.shut_down_after(0);
     let report = soak.run();
     assert_eq!((report.taken[1], report.states), (messages as usize, [CLOSED; 2]), "{report:?}");
-    assert!(report.points[1] > 65_536 && report.points[1] < first, "the circle of TSNs did not close");
+    assert_eq!(report.points[1], first.wrapping_add(messages - 1), "the last TSN");
 }
