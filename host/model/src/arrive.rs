@@ -58,7 +58,7 @@ fn named(number: u8, cause: u8, value: u32) -> Verdict {
 pub fn arrive(a: &mut Association, area: &mut [u8], packet: &[u8], lent: Lent, cookie: &[u8], echoed: Echoed, out: &mut [u8]) -> Arrived {
     let echoed = heeded(echoed);
     let number = check(a, area, packet, &echoed, out);
-    let mut answer = Arrived { number, count: 0, verdicts: [Verdict::default(); VERDICTS], length: 0 };
+    let mut answer = Arrived { number, count: 0, verdicts: [NO_VERDICT; VERDICTS], length: 0 };
     if number != 0 {
         return answer;
     }
@@ -66,8 +66,8 @@ pub fn arrive(a: &mut Association, area: &mut [u8], packet: &[u8], lent: Lent, c
     let reply = Reply { body: Vec::new(), port: head.source, tag: 0, shutdown: false, complete: None };
     let mut now = Arriving { a, area, head, lent, cookie, echoed, reply, ended: false };
     for c in read::walk(packet) {
-        let v = if now.ended { Verdict { fate: UNREAD, ..Verdict::default() } } else { now.chunk(c) };
-        answer.verdicts[answer.count] = Verdict { at: c.at as u16, ..v };
+        let v = if now.ended { NO_VERDICT } else { now.chunk(c) };
+        answer.verdicts[answer.count] = Verdict { at: c.at, ..v };
         answer.count += 1;
     }
     // "MUST NOT respond to any received packet that contains an ABORT" (section 9.1).

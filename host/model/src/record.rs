@@ -241,13 +241,16 @@ pub const CAUSE_VIOLATION: u8 = 13;
 #[repr(C)]
 #[derive(Clone, Copy, Debug, Default, PartialEq, Eq)]
 pub struct Verdict {
-    pub at: u16,
+    pub at: usize,
+    pub value: u32,
     pub fate: u8,
     pub number: u8,
     pub cause: u8,
     pub event: u8,
-    pub value: u32,
 }
+
+/// What stands behind the verdicts of a packet's chunks.
+pub const NO_VERDICT: Verdict = Verdict { at: 0, value: 0, fate: UNREAD, number: 0, cause: CAUSE_NONE, event: NO_EVENT };
 
 #[derive(Clone, Copy, Debug, PartialEq, Eq)]
 pub struct Arrived {

@@ -174,7 +174,7 @@ impl<'c> Soak<'c> {
         self.called(who, r.number);
         self.send(who, r.length);
         let verdicts = &r.verdicts[..r.count];
-        let kind = |v: &Verdict| packet[usize::from(v.at)];
+        let kind = |v: &Verdict| packet[v.at];
         for v in verdicts {
             self.report.refused[usize::from(v.number)] += 1;
         }

@@ -89,9 +89,7 @@ impl<'m> Twin<'m> {
 /// Whether a payload went into the receive area.
 fn holds(call: &Call, reply: &Reply) -> bool {
     match (call, reply) {
-        (Call::Arrive { packet, .. }, Reply::Arrived(r)) => {
-            r.verdicts[..r.count].iter().any(|v| v.fate == ACCEPTED && packet[usize::from(v.at)] == read::DATA)
-        }
+        (Call::Arrive { packet, .. }, Reply::Arrived(r)) => r.verdicts[..r.count].iter().any(|v| v.fate == ACCEPTED && packet[v.at] == read::DATA),
         _ => false,
     }
 }
