@@ -1,0 +1,85 @@
+//! The driver, with the model on both sides: what every core must keep is kept, what a drive should meet is met, and a core that is bent is found.
+
+use model::call::{Buffers, Call, Maker, Reply};
+use model::record::*;
+use model::{drive, is_sound, Model};
+
+const CALLS: usize = 300_000;
+const SEED: u64 = 9260;
+
+/// The model, and what 01 says of every call: "1 … leaves all", a refused call leaves the record, no byte but the answer's is written, bounds are kept.
+struct Watched;
+
+impl Maker for Watched {
+    fn make(&self, call: &Call, b: &mut Buffers) -> Reply {
+        let a = b.a;
+        let out = b.out.clone();
+        let reply = Model.make(call, b);
+        if matches!(call, Call::Peek { .. }) {
+            return reply;
+        }
+        let number = reply.number();
+        assert_eq!(number == 1, !is_sound(&a) && !matches!(call, Call::Closed { .. }), "{call:?}");
+        assert!(number == 0 || b.a == a, "refused, and the record changed: {call:?}");
+        assert!(number == 1 || is_sound(&b.a), "bounds: {call:?}");
+        let written = match &reply {
+            Reply::Delivered(d) if number == 0 => d.message.length,
+            _ => reply.length(),
+        };
+        assert_eq!(out[written..], b.out[written..], "{call:?}");
+        assert!(number == 0 || written == 0);
+        reply
+    }
+}
+
+#[test]
+fn a_drive_meets_what_it_should() {
+    let seen = drive(&Watched, &Model, SEED, CALLS).unwrap_or_else(|d| panic!("{d}"));
+    println!("{seen}");
+    assert_eq!(seen.missing(), [] as [String; 0]);
+}
+
+/// A core that is wrong in one place.
+struct Bent(fn(&Call, &mut Buffers, &mut Reply));
+
+impl Maker for Bent {
+    fn make(&self, call: &Call, b: &mut Buffers) -> Reply {
+        let mut reply = Model.make(call, b);
+        (self.0)(call, b, &mut reply);
+        reply
+    }
+}
+
+fn is_found(what: &str, bend: fn(&Call, &mut Buffers, &mut Reply)) {
+    let difference = drive(&Model, &Bent(bend), SEED, CALLS).err().unwrap_or_else(|| panic!("{what} was not found"));
+    assert!(difference.what.contains(what), "{what} was expected: {difference}");
+}
+
+#[test]
+fn a_bent_core_is_found() {
+    is_found("answers", |_, _, reply| {
+        if let Reply::Acknowledged(r) = reply {
+            r.sack.window |= 512;
+        }
+    });
+    is_found("records", |call, b, _| {
+        if matches!(call, Call::Take { .. }) {
+            b.a.receiving.keeping.come[7] = false;
+        }
+    });
+    is_found("out", |call, b, reply| {
+        if matches!(call, Call::Arrive { .. }) && reply.number() == 3 {
+            b.out[1_471] ^= 1;
+        }
+    });
+    is_found("receive area", |call, b, reply| {
+        if matches!(call, Call::Arrive { .. }) && reply.number() == 0 {
+            b.receive[AREA - 1] ^= 1;
+        }
+    });
+    is_found("send area", |call, b, reply| {
+        if matches!(call, Call::HandIn { .. }) && reply.number() == 20 {
+            b.send[0] ^= 1;
+        }
+    });
+}
