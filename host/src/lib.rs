@@ -1,0 +1,4 @@
+//! A host of the proved SCTP core: safe calls, an endpoint over UDP (RFC 6951), and what the rail's demonstration is made of.
+
+pub mod hmac;
+pub mod random;
