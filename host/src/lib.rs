@@ -1,4 +1,8 @@
 //! A host of the proved SCTP core: safe calls, an endpoint over UDP (RFC 6951), and what the rail's demonstration is made of.
 
+pub mod association;
+pub mod calls;
+pub mod ffi;
 pub mod hmac;
+pub mod library;
 pub mod random;
