@@ -2,6 +2,7 @@
 
 pub mod association;
 pub mod calls;
+pub mod cookie;
 pub mod ffi;
 pub mod hmac;
 pub mod library;
