@@ -1,9 +1,13 @@
 //! A host of the proved SCTP core: safe calls, an endpoint over UDP (RFC 6951), and what the rail's demonstration is made of.
 
+pub mod acknowledging;
 pub mod association;
 pub mod calls;
 pub mod cookie;
 pub mod ffi;
+pub mod heartbeat;
 pub mod hmac;
 pub mod library;
 pub mod random;
+pub mod round_trip;
+pub mod timers;
