@@ -7,6 +7,7 @@ pub mod cookie;
 pub mod ffi;
 pub mod heartbeat;
 pub mod hmac;
+pub mod last_word;
 pub mod library;
 pub mod random;
 pub mod round_trip;
