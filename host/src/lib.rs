@@ -9,6 +9,7 @@ pub mod heartbeat;
 pub mod hmac;
 pub mod last_word;
 pub mod library;
+pub mod pcap;
 pub mod random;
 pub mod round_trip;
 pub mod timers;
