@@ -13,6 +13,7 @@ pub mod last_word;
 pub mod library;
 pub mod pcap;
 pub mod random;
+pub mod relay;
 pub mod round_trip;
 pub mod timers;
 pub mod udp;
