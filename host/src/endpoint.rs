@@ -247,7 +247,8 @@ impl<L: Library> Endpoint<L> {
         self.timers.follow(&self.core.standing(), now);
     }
 
-    /// Sends what is due: a SACK, then DATA as far as the core lets it. To be called when messages were handed in or taken, and after each packet.
+    /// Sends what is due: a SACK, then DATA as far as the core lets it. To be called after packets, expiries and messages handed in, and best when what came was
+    /// taken, since the SACK then offers the whole window.
     pub fn flush(&mut self, now: Instant) {
         let standing = self.core.standing();
         self.sack.window_is(standing.window, now);
@@ -262,7 +263,7 @@ impl<L: Library> Endpoint<L> {
         self.heartbeat.follow(&standing, now);
     }
 
-    /// Does what is due at this moment.
+    /// Does what timers ask for at this moment; `flush` then sends.
     pub fn expire(&mut self, now: Instant) {
         while let Some(alarm) = self.timers.ring(now) {
             self.counts.expiries += 1;
@@ -282,10 +283,9 @@ impl<L: Library> Endpoint<L> {
         if self.heartbeat.is_due(now) {
             self.beat(now);
         }
-        self.flush(now);
     }
 
-    /// When `expire` is to be called next.
+    /// When `expire` and `flush` are to be called next.
     pub fn next_moment(&self) -> Option<Instant> {
         [self.timers.next(), self.sack.next(), self.heartbeat.next()]
             .iter()

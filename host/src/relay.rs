@@ -8,9 +8,10 @@ use std::net::{IpAddr, SocketAddr, UdpSocket};
 use std::sync::atomic::{AtomicBool, Ordering as Memory};
 use std::time::{Duration, Instant};
 
-/// How often each mishap befalls a packet, as a probability.
+/// How often each mishap befalls a packet, as a probability, and how long every packet takes.
 #[derive(Clone, Copy, Debug, PartialEq)]
 pub struct Weather {
+    pub delay: Duration,
     pub loss: f64,
     pub repeat: f64,
     pub reorder: f64,
@@ -19,6 +20,7 @@ pub struct Weather {
 
 impl Weather {
     pub const FAIR: Weather = Weather {
+        delay: Duration::ZERO,
         loss: 0.0,
         repeat: 0.0,
         reorder: 0.0,
@@ -134,7 +136,7 @@ impl Channel {
             packet[bit / 8] ^= 1 << (bit % 8);
             self.mishaps.damaged += 1;
         }
-        let mut due = now;
+        let mut due = now + self.weather.delay;
         if self.chance.happens(self.weather.reorder) {
             due += Duration::from_micros(1 + self.chance.below(HELD_MOST.as_micros() as u64));
             self.mishaps.reordered += 1;
@@ -212,6 +214,7 @@ mod tests {
     use super::*;
 
     const STORM: Weather = Weather {
+        delay: Duration::ZERO,
         loss: 0.1,
         repeat: 0.1,
         reorder: 0.2,
@@ -276,6 +279,19 @@ mod tests {
         assert_ne!(out, sent);
         out.sort();
         assert_eq!(out, sent);
+    }
+
+    #[test]
+    fn every_packet_takes_its_time() {
+        let weather = Weather {
+            delay: Duration::from_millis(30),
+            ..Weather::FAIR
+        };
+        let now = Instant::now();
+        let mut channel = Channel::new(weather, 1);
+        channel.enter(b"late", now);
+        assert_eq!(channel.leave(now + Duration::from_millis(29)), None);
+        assert_eq!(channel.leave(now + weather.delay), Some(b"late".to_vec()));
     }
 
     #[test]

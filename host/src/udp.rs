@@ -35,7 +35,7 @@ impl<L: Library> Line<L> {
         self.socket.local_addr()
     }
 
-    /// Sends what is due, waits for one packet but no longer than `longest`, and does what a timer asks.
+    /// Sends what is due, waits for one packet but no longer than `longest`, and does what a timer asks. Between two turns messages are taken and handed in.
     pub fn turn(&mut self, longest: Duration) -> io::Result<()> {
         self.endpoint.flush(Instant::now());
         self.send_all()?;
@@ -51,10 +51,7 @@ impl<L: Library> Line<L> {
             }
             self.endpoint.arrive(packet, from, Instant::now());
         }
-        let now = Instant::now();
-        if self.endpoint.next_moment().map_or(false, |moment| moment <= now) {
-            self.endpoint.expire(now);
-        }
+        self.endpoint.expire(Instant::now());
         self.send_all()
     }
 

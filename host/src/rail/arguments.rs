@@ -6,6 +6,7 @@ use crate::relay::Weather;
 use std::net::{Ipv4Addr, SocketAddr, ToSocketAddrs};
 use std::path::PathBuf;
 use std::str::FromStr;
+use std::time::Duration;
 
 pub const USAGE: &str = "\
 rail: tiles of eight colour bands over SCTP in UDP, on the proved core
@@ -17,10 +18,11 @@ rail: tiles of eight colour bands over SCTP in UDP, on the proved core
 
   --messages N   tiles of the first band, one of another band to every eight (demo, field; 66000: its numbers go round the circle of 65,536)
   --seed N       what is in the tiles, and in the demo which packets suffer (demo, field; 1)
-  --loss P       percent of packets dropped (demo; 0.5)
-  --repeat P     percent repeated (demo; 0.5)
-  --reorder P    percent held back so that later ones overtake them (demo; 0.5)
-  --damage P     percent with a bit changed (demo; 0.1)
+  --loss P       percent of packets dropped (demo; 1)
+  --repeat P     percent repeated (demo; 1)
+  --reorder P    percent held back so that later ones overtake them (demo; 2)
+  --damage P     percent with a bit changed (demo; 0.2)
+  --delay MS     how long every packet takes (demo; 0)
   --pcap FILE    writes what was sent for Wireshark; every datagram shows port 9899, that of SCTP inside UDP
   --bind ADDRESS where the field computer's own socket stands (field; any free port)
   --port N       the SCTP port inside UDP at this end (head: 5001, field: 5000)
@@ -89,10 +91,11 @@ fn demo(mut options: Options) -> Result<Demo, Failure> {
         messages: options.number("--messages", MESSAGES, 1, MESSAGES_MOST)?,
         seed: options.number("--seed", 1, 0, u64::MAX)?,
         weather: Weather {
-            loss: options.percent("--loss", 0.5)?,
-            repeat: options.percent("--repeat", 0.5)?,
-            reorder: options.percent("--reorder", 0.5)?,
-            damage: options.percent("--damage", 0.1)?,
+            delay: Duration::from_millis(options.number("--delay", 0, 0, 10_000)?),
+            loss: options.percent("--loss", 1.0)?,
+            repeat: options.percent("--repeat", 1.0)?,
+            reorder: options.percent("--reorder", 2.0)?,
+            damage: options.percent("--damage", 0.2)?,
         },
         pcap: options.path("--pcap"),
     };
@@ -243,7 +246,7 @@ mod tests {
             Ok(Command::Demo(demo)) => {
                 assert_eq!(demo.messages, 100);
                 assert_eq!(demo.weather.loss, 0.02);
-                assert_eq!(demo.weather.repeat, 0.005);
+                assert_eq!(demo.weather.repeat, 0.01);
                 assert_eq!(demo.seed, 9);
                 assert_eq!(demo.pcap, Some(PathBuf::from("/tmp/x")));
             }
