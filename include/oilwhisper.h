@@ -1,0 +1,478 @@
+/*
+ * Oilwhisper: an SCTP core (RFC 9260), one path, by value and without a heap.
+ *
+ * The host keeps one `struct ow_association` for each association and two areas of OW_AREA bytes beside it, one for receiving and one for sending.
+ * Every call takes the record by value and gives it back inside its answer; the host puts it in the place of the one it had. The library keeps
+ * nothing between calls, calls nobody, and may be used from any number of threads.
+ *
+ * Every call answers for every record, number and buffer, and has no rule that the host must keep but C's own:
+ *   - a slice is two parameters, a pointer and a count of bytes. The pointer is not null, not even for a count of 0, and so many bytes are there;
+ *   - what a call may write (`uint8_t *`) overlaps nothing else that it was lent;
+ *   - a `bool` is 0 or 1, in a record too.
+ * Addresses and counts have 64 bits. A call needs some stack, since it works on copies of a record of 7 KB.
+ *
+ * Every answer begins with `number`: 0, or one of the numbers below. A refused call gives the record back as it came, but for what is said at OW_DUPLICATE
+ * and OW_STRAY, and writes no byte. A call that is not refused writes to `out` the bytes of its packet, exactly `length` of them, and no other.
+ * All that goes to the peer is a whole SCTP packet, with header and checksum, from the 12 bytes of the header on.
+ */
+#ifndef OILWHISPER_H
+#define OILWHISPER_H
+
+#include <stdbool.h>
+#include <stddef.h>
+#include <stdint.h>
+
+#ifdef __cplusplus
+extern "C" {
+#endif
+
+/* ---- Sizes ------------------------------------------------------------------------------------------------------------------------------ */
+
+#define OW_PLACES 128         /* chunks held for receiving, and as many for sending */
+#define OW_STREAMS 128        /* streams each way, at most: 0 to 127 */
+#define OW_PAYLOAD 512        /* bytes of a DATA chunk's payload, at most; the bytes of a place in an area */
+#define OW_AREA 65536         /* bytes of a lent area, at least: place i is the OW_PAYLOAD bytes from OW_PAYLOAD * i on */
+#define OW_OUTPUT 1472        /* bytes of a lent output, at least; of ow_take, the bytes of the message */
+#define OW_PACKET_LEAST 16    /* bytes of a received packet */
+#define OW_PACKET_MOST 1472
+#define OW_SENT_MOST 548      /* bytes of a packet that ow_transmit writes, at most; a reply has at most OW_OUTPUT */
+#define OW_MESSAGE_MOST 65536 /* bytes of a message; the least is 1 */
+#define OW_COOKIE_MOST 256    /* bytes of a cookie; the least is 1 */
+#define OW_WINDOW_LEAST 1500  /* the window that a peer must offer */
+#define OW_LISTED 16          /* duplicates that a SACK lists, at most */
+#define OW_BLOCKS 64          /* gap blocks of a SACK, at most */
+#define OW_VERDICTS 365       /* chunks of a packet, at most */
+#define OW_OPENING_TRIES 8    /* expiries of T1 that try again; the next one closes */
+#define OW_TRIES 10           /* the same of T2 and of T3 */
+
+/* ---- Numbers answered -------------------------------------------------------------------------------------------------------------------- */
+
+/* Order: for a packet 1, 18, 2, 3, 4, 5, 6, then chunk by chunk 7, 8, 27 and the rest; for other calls 1, 18, 7, 19, 20. "Leaves all" but for 11 and 14. */
+#define OW_DONE 0       /* not refused */
+#define OW_RECORD 1     /* record outside its bounds, or its `state` and `tries` name no state */
+#define OW_SIZE 2       /* a packet under 16 bytes, over 1,472, or not a multiple of 4 */
+#define OW_CHECKSUM 3   /* the packet's CRC32c */
+#define OW_HEAD 4       /* port or tag; of ow_associate: port 0 */
+#define OW_LENGTH 5     /* a chunk's length: under its least, past the packet, or not filled by its parameters or SACK counts */
+#define OW_BUNDLED 6    /* bundled where it must stand alone */
+#define OW_STATE 7      /* chunk or call not for this state; of ow_t3 also: nothing outstanding */
+#define OW_OPENING 8    /* INIT or INIT ACK: tag 0, no streams, window under 1,500; INIT ACK or COOKIE ECHO: cookie of 0 or over 256 bytes */
+#define OW_EMPTY 9      /* DATA without payload; calls for ow_abort with OW_CAUSE_NO_DATA and the TSN */
+#define OW_LONG 10      /* DATA with a payload over 512 */
+#define OW_DUPLICATE 11 /* DATA that has come before; its TSN is listed for the next SACK if there is room */
+#define OW_WEDGED 12    /* every place holds a low chunk and no message can be taken; calls for ow_abort with OW_CAUSE_VIOLATION */
+#define OW_FAR 13       /* DATA too far ahead */
+#define OW_STRAY 14     /* DATA for a stream that is not agreed: its TSN comes, nothing is held; calls for ow_error_stream */
+#define OW_STALE 15     /* SACK with a point behind ours */
+#define OW_FALSE 16     /* SACK that names what was never sent, or with ill blocks; calls for ow_abort with OW_CAUSE_VIOLATION */
+#define OW_NOTHING 17   /* no message can be taken */
+#define OW_SHORT 18     /* lent output or area too short; of ow_take's output: `message.length` is the length needed */
+#define OW_MESSAGE 19   /* message of 0 or over 65,536 bytes, or stream not agreed */
+#define OW_FULL 20      /* no room to send: the message needs more places than are free, and none of it was taken */
+#define OW_COOKIE 27    /* echoed cookie bad or stale; a stale one calls for ow_error_stale */
+
+/* ---- Numbers that never stand in for each other ------------------------------------------------------------------------------------------ */
+
+typedef uint32_t ow_tsn;    /* transmission sequence number, on the circle of 2^32 */
+typedef uint16_t ow_stream; /* stream identifier, no circle */
+typedef uint16_t ow_ssn;    /* stream sequence number, on the circle of 2^16 */
+
+/* ---- The record -------------------------------------------------------------------------------------------------------------------------- */
+
+/* Made by ow_closed and changed by the calls alone. A host may read it; what it writes there is tested at the next call (OW_RECORD). */
+
+/* `state`. Those marked * wait for the peer, and `tries` counts the expiries of their timer; in the others `tries` is 0. */
+#define OW_CLOSED 0
+#define OW_COOKIE_WAIT 1   /* * T1 runs */
+#define OW_COOKIE_ECHOED 2 /* * T1 runs */
+#define OW_ESTABLISHED 3
+#define OW_SHUTDOWN_PENDING 4
+#define OW_SHUTDOWN_SENT 5 /* * T2 runs */
+#define OW_SHUTDOWN_RECEIVED 6
+#define OW_SHUTDOWN_ACK_SENT 7 /* * T2 runs */
+
+/* Ports, verification tags, and the streams agreed each way; in OW_COOKIE_WAIT those wanted. */
+struct ow_ends {
+    uint16_t local_port;
+    uint16_t peer_port;
+    uint32_t my_tag;
+    uint32_t peer_tag;
+    uint16_t streams_in;
+    uint16_t streams_out;
+};
+
+/* The cookie of the peer's INIT ACK, kept for T1. */
+struct ow_cookie {
+    uint8_t bytes[OW_COOKIE_MOST];
+    uint16_t len;
+};
+
+/* Which TSNs have come: all up to `point`, and point + 1 + i where `come[i]`; the first `listed` of `dups` came again since the last SACK. */
+struct ow_keeping {
+    ow_tsn point;
+    bool come[OW_PLACES];
+    ow_tsn dups[OW_LISTED];
+    size_t listed;
+};
+
+/* A place for receiving: a chunk is held there if `used`, and `len` bytes in the area are its payload. */
+struct ow_held {
+    bool used;
+    bool begin;
+    bool end;
+    bool unordered;
+    ow_tsn tsn;
+    ow_stream stream;
+    ow_ssn ssn;
+    uint32_t ppid;
+    uint16_t len;
+};
+
+/* The receiving side; `next` is the SSN expected next on each stream. */
+struct ow_receiving {
+    struct ow_keeping keeping;
+    struct ow_held held[OW_PLACES];
+    ow_ssn next[OW_STREAMS];
+};
+
+/* A chunk to send. `tsn` and `ssn` are given when it is first sent; before that `order` is its turn. */
+struct ow_chunk {
+    ow_tsn tsn;
+    uint32_t order;
+    ow_stream stream;
+    ow_ssn ssn;
+    uint32_t ppid;
+    uint16_t len;
+    bool begin;
+    bool end;
+    bool unordered;
+};
+
+/* `status` of a place for sending. */
+#define OW_FREE 0
+#define OW_WAITING 1 /* not sent yet */
+#define OW_FLYING 2  /* sent */
+#define OW_MARKED 3  /* sent, and to be sent again */
+#define OW_BLOCKED 4 /* acknowledged by a gap block */
+
+struct ow_place {
+    uint8_t status;
+    uint8_t misses;
+    struct ow_chunk chunk;
+};
+
+/* Congestion, in bytes. */
+struct ow_control {
+    uint32_t cwnd;
+    uint32_t ssthresh;
+    uint32_t partial;
+};
+
+/* Round trips, in milliseconds; `rto` is how long T1, T2 and T3 run. */
+struct ow_clock {
+    bool sampled;
+    uint32_t srtt;
+    uint32_t rttvar;
+    uint32_t rto;
+};
+
+/* The one path. `running`: fast recovery runs, until the point reaches `until`. `tries`: expiries of T3 since a chunk was newly acknowledged. */
+struct ow_path {
+    struct ow_control control;
+    struct ow_clock clock;
+    uint32_t flight;
+    bool running;
+    ow_tsn until;
+    uint8_t tries;
+};
+
+/* The sending side: all up to `acked` is acknowledged, `next_tsn` is the next to give, `advertised` the peer's last window. */
+struct ow_sending {
+    ow_tsn acked;
+    ow_tsn next_tsn;
+    uint32_t advertised;
+    uint32_t oldest;
+    struct ow_place places[OW_PLACES];
+    ow_ssn next[OW_STREAMS];
+    struct ow_path path;
+};
+
+struct ow_association {
+    uint8_t state;
+    uint8_t tries;
+    struct ow_ends ends;
+    struct ow_cookie cookie;
+    struct ow_receiving receiving;
+    struct ow_sending sending;
+};
+
+/* ---- Opening ----------------------------------------------------------------------------------------------------------------------------- */
+
+/* A closed record at one of the host's ports. Messages that are still to be taken stay in a record that was closed; this one is empty. */
+struct ow_association ow_closed(uint16_t port);
+
+/* The answer of most calls. `length`: bytes of the packet in `out`, 0 where none goes out. `over`: an expiry closed the association. */
+struct ow_answer {
+    uint8_t number;
+    size_t length;
+    bool over;
+    struct ow_association association;
+};
+
+/*
+ * Asks the peer at `port` for an association: an INIT goes out and T1 runs. In OW_CLOSED; the record starts afresh, and what was not taken is dropped.
+ * `tag`: our tag, not 0, and `tsn`: our first TSN, both random. `streams`: those wanted for sending, at least 1; over 128 are used as 128.
+ * Refused 1, 18, 7, 4 (port 0), 8 (tag 0 or no streams).
+ */
+struct ow_answer ow_associate(struct ow_association association, uint32_t tag, ow_tsn tsn, uint16_t port, uint16_t streams, uint8_t *out, size_t out_len);
+
+/* `kind` of what ow_peek saw. */
+#define OW_SAW_NOTHING 0
+#define OW_SAW_INIT 1
+#define OW_SAW_COOKIE_ECHO 2
+
+/*
+ * The first chunk of a packet. An INIT: the port that the packet came from and the INIT's fields; `outs` and `ins` are the streams that the peer
+ * wants to send on and takes at most. A COOKIE ECHO: the cookie is the `len` bytes of the packet from `at` on. All other fields are 0.
+ */
+struct ow_peeked {
+    uint8_t number;
+    uint8_t kind;
+    uint16_t source;
+    uint32_t tag;
+    uint32_t window;
+    uint16_t outs;
+    uint16_t ins;
+    ow_tsn tsn;
+    size_t at;
+    size_t len;
+};
+
+/*
+ * Looks at a packet before it arrives, so that the host can make a cookie for an INIT, or judge one that is echoed. Needs no record.
+ * Refused 2, 3, 5, 6; ow_arrive answers such a packet likewise.
+ */
+struct ow_peeked ow_peek(const uint8_t *packet, size_t packet_len);
+
+/* ---- A packet arrives -------------------------------------------------------------------------------------------------------------------- */
+
+/* For the INIT ACK that answers an INIT: our tag, not 0, our first TSN, both random, and the streams wanted for sending. For any other packet 0s will do. */
+struct ow_lent {
+    uint32_t tag;
+    ow_tsn tsn;
+    uint16_t streams;
+};
+
+/* What a cookie was made from: the tags, the streams agreed each way, both first TSNs and the peer's window. */
+struct ow_made {
+    uint32_t my_tag;
+    uint32_t peer_tag;
+    uint16_t streams_in;
+    uint16_t streams_out;
+    ow_tsn my_tsn;
+    ow_tsn peer_tsn;
+    uint32_t window;
+};
+
+/* `word`. Any other number counts as OW_BAD. */
+#define OW_BAD 0   /* not ours, or changed; `made` is not looked at */
+#define OW_LATE 1  /* ours, and past its lifetime */
+#define OW_GOOD 2
+
+/* The host's word on an echoed cookie. For a packet without one OW_BAD will do. */
+struct ow_echoed {
+    uint8_t word;
+    struct ow_made made;
+};
+
+/* `fate` of a chunk. */
+#define OW_ACCEPTED 0
+#define OW_REFUSED 1             /* with `number` */
+#define OW_SKIPPED 2             /* of an unknown type: left aside */
+#define OW_SKIPPED_REPORTED 3    /* and reported to the peer */
+#define OW_STOPPED 4             /* of an unknown type: what follows is unread */
+#define OW_STOPPED_REPORTED 5    /* and reported to the peer */
+#define OW_UNREAD 6              /* behind a chunk that ended the packet */
+
+/* `event` that a chunk caused. */
+#define OW_NO_EVENT 0
+#define OW_UP 1                  /* OW_ESTABLISHED */
+#define OW_DOWN_ABORT 2          /* closed by the peer's ABORT */
+#define OW_DOWN_STALE 3          /* closed: our cookie was stale */
+#define OW_DOWN_HOST_NAME 4      /* closed: the peer's INIT ACK had a host name */
+#define OW_DOWN_SHUT_DOWN 5      /* closed: shut down by both */
+
+/* `cause`: the call that a verdict names, which is the host's to make; ow_abort's causes are among them. */
+#define OW_CAUSE_NONE 0
+#define OW_CAUSE_STREAM 1        /* ow_error_stream with `value` */
+#define OW_CAUSE_STALE 3         /* ow_error_stale */
+#define OW_CAUSE_NO_DATA 9       /* ow_abort with the TSN `value` */
+#define OW_CAUSE_USER 12         /* ow_abort for the host's own reasons; no verdict names it */
+#define OW_CAUSE_VIOLATION 13    /* ow_abort */
+
+/* What became of the chunk that begins at byte `at` of the packet. `value` is the TSN or the stream that the named call takes, else 0. */
+struct ow_verdict {
+    uint16_t at;
+    uint8_t fate;
+    uint8_t number;
+    uint8_t cause;
+    uint8_t event;
+    uint32_t value;
+};
+
+/* The first `count` verdicts are those of the packet's chunks, in their order; the others are 0. `length`: bytes of the reply in `out`, 0 for none. */
+struct ow_arrived {
+    uint8_t number;
+    size_t count;
+    struct ow_verdict verdicts[OW_VERDICTS];
+    size_t length;
+    struct ow_association association;
+};
+
+/*
+ * A packet arrives, in any state: its chunks are read one by one, payloads go into `area` (the one for receiving), and what is to be answered at once goes
+ * out as one reply. `lent` and `cookie` serve an INIT, `echoed` a COOKIE ECHO; ow_peek says which it is.
+ * Refused 1, 18 (`area` or `out`), 2, 3, 4, 5, 6: then there are no verdicts. What refuses a chunk is in its verdict.
+ */
+struct ow_arrived ow_arrive(struct ow_association association, uint8_t *area, size_t area_len, const uint8_t *packet, size_t packet_len, struct ow_lent lent,
+                            const uint8_t *cookie, size_t cookie_len, struct ow_echoed echoed, uint8_t *out, size_t out_len);
+
+/* ---- Messages ---------------------------------------------------------------------------------------------------------------------------- */
+
+/* `chunks`: into how many the message was cut. */
+struct ow_handed_in {
+    uint8_t number;
+    size_t chunks;
+    struct ow_association association;
+};
+
+/*
+ * A message for a stream, whole or not at all: its chunks wait in `area` (the one for sending) until ow_transmit sends them. In OW_ESTABLISHED.
+ * `ppid`: a number that goes with the message to the peer's host, as it is. Refused 1, 18, 7, 19, 20.
+ */
+struct ow_handed_in ow_hand_in(struct ow_association association, uint8_t *area, size_t area_len, const uint8_t *message, size_t message_len, ow_stream stream,
+                               bool unordered, uint32_t ppid);
+
+/* `resent`: a chunk of the packet was sent before, so its round trip is not to be measured. `first`, `last`: TSNs of its chunks. 0 where nothing goes out. */
+struct ow_transmitted {
+    uint8_t number;
+    size_t length;
+    bool resent;
+    ow_tsn first;
+    ow_tsn last;
+    struct ow_association association;
+};
+
+/*
+ * One packet of DATA chunks, as far as flight and the peer's window allow, or `length` 0: call it until it answers that. After a packet T3 runs.
+ * In OW_ESTABLISHED, OW_SHUTDOWN_PENDING, OW_SHUTDOWN_RECEIVED. Refused 1, 18 (`area`, the one for sending, or `out`), 7.
+ */
+struct ow_transmitted ow_transmit(struct ow_association association, const uint8_t *area, size_t area_len, uint8_t *out, size_t out_len);
+
+struct ow_message {
+    size_t length;
+    ow_stream stream;
+    bool unordered;
+    ow_ssn ssn;
+    uint32_t ppid;
+};
+
+struct ow_delivered {
+    uint8_t number;
+    struct ow_message message;
+    struct ow_association association;
+};
+
+/*
+ * Takes the next message, in any state: its bytes, `message.length` of them, go to `out`. Refused 1, 18 (`area`, the one for receiving; length 0), 17 (nothing to
+ * take), 18 (`out`, which may have any count: `message.length` is the length needed).
+ */
+struct ow_delivered ow_take(struct ow_association association, const uint8_t *area, size_t area_len, uint8_t *out, size_t out_len);
+
+/* The first `count` gap blocks: start and end offsets from the point. Entries behind are 0. */
+struct ow_blocks {
+    size_t count;
+    uint16_t starts[OW_BLOCKS];
+    uint16_t ends[OW_BLOCKS];
+};
+
+/* What a SACK says; the first `listed` of `dups` are duplicates. */
+struct ow_sacked {
+    ow_tsn point;
+    uint32_t window;
+    struct ow_blocks blocks;
+    ow_tsn dups[OW_LISTED];
+    size_t listed;
+};
+
+struct ow_acknowledged {
+    uint8_t number;
+    size_t length;
+    struct ow_sacked sack;
+    struct ow_association association;
+};
+
+/*
+ * Tells the peer what has come: a SACK, and its values beside it; the duplicates listed are told with it. In OW_ESTABLISHED, OW_SHUTDOWN_PENDING,
+ * OW_SHUTDOWN_SENT. When to call it is the host's (RFC 9260 section 6.2: every second packet with DATA, or 200 ms after one). Refused 1, 18, 7.
+ */
+struct ow_acknowledged ow_sack(struct ow_association association, uint8_t *out, size_t out_len);
+
+/* ---- Timers ------------------------------------------------------------------------------------------------------------------------------ */
+
+/* They are the host's; each runs for `sending.path.clock.rto` milliseconds, which an expiry doubles. */
+
+/* T1 expires: INIT or COOKIE ECHO again, or closed (`over`). In OW_COOKIE_WAIT, OW_COOKIE_ECHOED. Refused 1, 18, 7. */
+struct ow_answer ow_t1(struct ow_association association, uint8_t *out, size_t out_len);
+
+/* T2 expires: SHUTDOWN or SHUTDOWN ACK again, or closed (`over`). In OW_SHUTDOWN_SENT, OW_SHUTDOWN_ACK_SENT. Refused 1, 18, 7. */
+struct ow_answer ow_t2(struct ow_association association, uint8_t *out, size_t out_len);
+
+/*
+ * T3 expires: all that is outstanding is marked, and ow_transmit sends it again; or closed (`over`). Writes nothing. In OW_ESTABLISHED, OW_SHUTDOWN_PENDING,
+ * OW_SHUTDOWN_RECEIVED. Refused 1, 7 (also with nothing outstanding).
+ */
+struct ow_answer ow_t3(struct ow_association association);
+
+/*
+ * A round trip of `sample` milliseconds was measured; over 60,000 count as 60,000. Which ones count is the host's to say: none of a chunk that was sent
+ * again (RFC 9260 section 6.3.1 C5). In any state but OW_CLOSED. Refused 1, 7.
+ */
+struct ow_answer ow_rtt(struct ow_association association, uint32_t sample);
+
+/* ---- Closing and telling ----------------------------------------------------------------------------------------------------------------- */
+
+/*
+ * No more messages: OW_SHUTDOWN_PENDING until all that was handed in is acknowledged, or at once OW_SHUTDOWN_SENT with a SHUTDOWN, and T2 runs.
+ * In OW_ESTABLISHED. Refused 1, 18, 7.
+ */
+struct ow_answer ow_shutdown(struct ow_association association, uint8_t *out, size_t out_len);
+
+/*
+ * OW_CLOSED at once, and an ABORT goes out (from OW_COOKIE_WAIT none: no tag of the peer is known). `cause`: OW_CAUSE_NO_DATA, which takes the `tsn`,
+ * OW_CAUSE_VIOLATION, or OW_CAUSE_USER, as which any other number counts. In any state but OW_CLOSED. Refused 1, 18, 7.
+ */
+struct ow_answer ow_abort(struct ow_association association, uint8_t cause, ow_tsn tsn, uint8_t *out, size_t out_len);
+
+/* Tells the peer that a stream is not agreed: an ERROR with cause 1. In OW_ESTABLISHED, OW_SHUTDOWN_PENDING, OW_SHUTDOWN_SENT. Refused 1, 18, 7. */
+struct ow_answer ow_error_stream(struct ow_association association, ow_stream stream, uint8_t *out, size_t out_len);
+
+/*
+ * Tells the peer that the cookie it echoed came `late` microseconds past its lifetime: an ERROR with cause 3. `port`: the one that the echo came from. `tag`: the
+ * cookie's `peer_tag`. In OW_CLOSED. Refused 1, 18, 7.
+ */
+struct ow_answer ow_error_stale(struct ow_association association, uint16_t port, uint32_t tag, uint32_t late, uint8_t *out, size_t out_len);
+
+/* A value of the host, which the peer's HEARTBEAT ACK brings back. */
+struct ow_value {
+    uint8_t bytes[8];
+};
+
+/* A HEARTBEAT. In OW_ESTABLISHED, OW_SHUTDOWN_PENDING, OW_SHUTDOWN_RECEIVED. Refused 1, 18, 7. */
+struct ow_answer ow_heartbeat(struct ow_association association, struct ow_value value, uint8_t *out, size_t out_len);
+
+#ifdef __cplusplus
+}
+#endif
+
+#endif
