@@ -1,0 +1,102 @@
+//! What a drive has met, so that a test can tell whether it was worth making.
+
+use std::fmt;
+
+use crate::call::{Call, Reply, KINDS};
+use crate::record::Association;
+
+/// Chunk types by number; all others together.
+pub const TYPES: usize = 17;
+
+#[derive(Clone, Default)]
+pub struct Coverage {
+    pub calls: usize,
+    /// By call and number answered.
+    pub answered: [[usize; 32]; KINDS.len()],
+    /// By call and the state that it was made in.
+    pub states: [[usize; 8]; KINDS.len()],
+    /// Of verdicts: by number, by fate, by event, by cause.
+    pub numbers: [usize; 32],
+    pub fates: [usize; 7],
+    pub events: [usize; 6],
+    pub causes: [usize; 14],
+    /// By the state before the packet and the type of its first chunk: let in, and not refused.
+    pub rows: [[usize; TYPES]; 8],
+    pub accepted: [[usize; TYPES]; 8],
+    /// Packets that were answered by one; expiries that closed.
+    pub replies: usize,
+    pub expiries: usize,
+}
+
+impl Coverage {
+    pub fn note(&mut self, before: (u8, u8), call: &Call, reply: &Reply) {
+        let (kind, number) = (call.kind(), usize::from(reply.number()));
+        self.calls += 1;
+        self.answered[kind][number] += 1;
+        let state = usize::from(before.0);
+        if state < 8 && number != 1 {
+            self.states[kind][state] += 1;
+        }
+        if let (Call::Arrive { packet, .. }, Reply::Arrived(r)) = (call, reply) {
+            self.replies += usize::from(r.length > 0);
+            for (i, v) in r.verdicts[..r.count].iter().enumerate() {
+                self.numbers[usize::from(v.number)] += 1;
+                self.fates[usize::from(v.fate)] += 1;
+                self.events[usize::from(v.event)] += 1;
+                self.causes[usize::from(v.cause)] += 1;
+                if i == 0 {
+                    let t = usize::from(packet[12]).min(TYPES - 1);
+                    self.rows[state][t] += 1;
+                    self.accepted[state][t] += usize::from(v.number == 0);
+                }
+            }
+        }
+        if let Reply::Answer(r) = reply {
+            self.expiries += usize::from(r.over);
+        }
+    }
+
+    pub fn before(a: &Association) -> (u8, u8) {
+        (a.state, a.tries)
+    }
+
+    pub fn add(&mut self, other: &Coverage) {
+        fn each(a: &mut [usize], b: &[usize]) {
+            a.iter_mut().zip(b).for_each(|(x, y)| *x += y);
+        }
+        self.calls += other.calls;
+        self.replies += other.replies;
+        self.expiries += other.expiries;
+        for i in 0..KINDS.len() {
+            each(&mut self.answered[i], &other.answered[i]);
+            each(&mut self.states[i], &other.states[i]);
+        }
+        each(&mut self.numbers, &other.numbers);
+        each(&mut self.fates, &other.fates);
+        each(&mut self.events, &other.events);
+        each(&mut self.causes, &other.causes);
+        for i in 0..8 {
+            each(&mut self.rows[i], &other.rows[i]);
+            each(&mut self.accepted[i], &other.accepted[i]);
+        }
+    }
+}
+
+impl fmt::Display for Coverage {
+    fn fmt(&self, f: &mut fmt::Formatter<'_>) -> fmt::Result {
+        writeln!(f, "{} calls, {} packets answered, {} expiries that closed", self.calls, self.replies, self.expiries)?;
+        for (kind, numbers) in KINDS.iter().zip(&self.answered) {
+            write!(f, "{kind:>13}")?;
+            for (n, count) in numbers.iter().enumerate().filter(|n| *n.1 > 0) {
+                write!(f, "  {n}: {count}")?;
+            }
+            writeln!(f)?;
+        }
+        writeln!(f, "chunks by number {:?}", self.numbers)?;
+        writeln!(f, "by fate {:?}, by event {:?}, by cause {:?}", self.fates, self.events, self.causes)?;
+        for (state, (rows, accepted)) in self.rows.iter().zip(&self.accepted).enumerate() {
+            writeln!(f, "state {state}: first chunk by type {rows:?}, accepted {accepted:?}")?;
+        }
+        Ok(())
+    }
+}

@@ -1,0 +1,53 @@
+//! What lets a packet in: the order of its checks, and the ports and the tag that it must carry.
+
+use crate::association::{self, are_streams};
+use crate::read;
+use crate::record::*;
+
+/// A good word on values that no association can start from counts as bad, and so does a word that there is not.
+pub fn heeded(mut e: Echoed) -> Echoed {
+    let m = &e.made;
+    let is_made = m.my_tag != 0 && m.peer_tag != 0 && are_streams(m.streams_in) && are_streams(m.streams_out) && m.window >= WINDOW_LEAST;
+    if e.word > GOOD || (e.word == GOOD && !is_made) {
+        e.word = BAD;
+    }
+    e
+}
+
+/// "4 port or tag"; "The first chunk settles which tag rule holds."
+fn is_let_in(a: &Association, packet: &[u8], e: &Echoed) -> bool {
+    let h = read::header(packet);
+    let (kind, t) = (packet[12], packet[13] & 1 == 1);
+    if h.destination != a.ends.local_port || h.destination == 0 {
+        return false;
+    }
+    if a.state == CLOSED {
+        return h.source != 0
+            && match kind {
+                read::INIT => h.tag == 0,
+                read::COOKIE_ECHO => e.word != GOOD || h.tag == e.made.my_tag,
+                _ => false,
+            };
+    }
+    h.source == a.ends.peer_port
+        && match kind {
+            read::INIT => h.tag == 0,
+            read::ABORT | read::SHUTDOWN_COMPLETE if t => a.state != COOKIE_WAIT && h.tag == a.ends.peer_tag,
+            _ => h.tag == a.ends.my_tag,
+        }
+}
+
+/// Order: 1, 18, 2, 3, 4, 5, 6.
+pub fn check(a: &Association, area: &[u8], packet: &[u8], e: &Echoed, out: &[u8]) -> u8 {
+    if !association::is_sound(a) {
+        return 1;
+    }
+    if area.len() < AREA || out.len() < OUTPUT {
+        return 18;
+    }
+    match read::check_whole(packet) {
+        0 if is_let_in(a, packet, e) => read::check_shape(packet),
+        0 => 4,
+        number => number,
+    }
+}

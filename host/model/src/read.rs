@@ -1,0 +1,276 @@
+//! Reading a packet: its header, the walk over its chunks, the checks 2, 3, 5 and 6, and the fields of each chunk.
+
+use crate::checksum;
+use crate::record::{PACKET_LEAST, PACKET_MOST};
+
+pub const DATA: u8 = 0;
+pub const INIT: u8 = 1;
+pub const INIT_ACK: u8 = 2;
+pub const SACK: u8 = 3;
+pub const HEARTBEAT: u8 = 4;
+pub const HEARTBEAT_ACK: u8 = 5;
+pub const ABORT: u8 = 6;
+pub const SHUTDOWN: u8 = 7;
+pub const SHUTDOWN_ACK: u8 = 8;
+pub const ERROR: u8 = 9;
+pub const COOKIE_ECHO: u8 = 10;
+pub const COOKIE_ACK: u8 = 11;
+pub const SHUTDOWN_COMPLETE: u8 = 14;
+
+pub const STATE_COOKIE: u16 = 7;
+pub const HOST_NAME: u16 = 11;
+
+pub fn be16(b: &[u8], at: usize) -> u16 {
+    u16::from_be_bytes([b[at], b[at + 1]])
+}
+
+pub fn be32(b: &[u8], at: usize) -> u32 {
+    u32::from_be_bytes([b[at], b[at + 1], b[at + 2], b[at + 3]])
+}
+
+pub fn padded(n: usize) -> usize {
+    (n + 3) / 4 * 4
+}
+
+pub struct Header {
+    pub source: u16,
+    pub destination: u16,
+    pub tag: u32,
+}
+
+pub fn header(packet: &[u8]) -> Header {
+    Header { source: be16(packet, 0), destination: be16(packet, 2), tag: be32(packet, 4) }
+}
+
+/// A chunk: where it begins in the packet, and its bytes without the padding.
+#[derive(Clone, Copy)]
+pub struct Seen<'a> {
+    pub at: usize,
+    pub bytes: &'a [u8],
+}
+
+impl<'a> Seen<'a> {
+    pub fn kind(self) -> u8 {
+        self.bytes[0]
+    }
+
+    /// The T bit of ABORT and SHUTDOWN COMPLETE.
+    pub fn t(self) -> bool {
+        self.bytes[1] & 1 == 1
+    }
+
+    pub fn value(self) -> &'a [u8] {
+        &self.bytes[4..]
+    }
+}
+
+/// The chunks of a packet whose lengths passed check 5.
+pub fn walk(packet: &[u8]) -> impl Iterator<Item = Seen<'_>> {
+    let mut at = 12;
+    std::iter::from_fn(move || {
+        if at >= packet.len() {
+            return None;
+        }
+        let length = usize::from(be16(packet, at + 2));
+        let seen = Seen { at, bytes: &packet[at..at + length] };
+        at += padded(length);
+        Some(seen)
+    })
+}
+
+pub fn is_known(kind: u8) -> bool {
+    kind <= COOKIE_ACK || kind == SHUTDOWN_COMPLETE
+}
+
+// ---- The checks of a whole packet
+
+/// 2 and 3.
+pub fn check_whole(packet: &[u8]) -> u8 {
+    if packet.len() < PACKET_LEAST || packet.len() > PACKET_MOST || packet.len() % 4 != 0 {
+        return 2;
+    }
+    if !checksum::is_sealed(packet) {
+        return 3;
+    }
+    0
+}
+
+/// "length under the chunk's least (DATA 16)": fixed fields only.
+fn least(kind: u8) -> usize {
+    match kind {
+        DATA | SACK => 16,
+        INIT | INIT_ACK => 20,
+        SHUTDOWN => 8,
+        _ => 4,
+    }
+}
+
+/// "Parameters of INIT and INIT ACK fill the chunk to its length exactly, the last one's padding excluded."
+fn is_filled_by_parameters(chunk: &[u8]) -> bool {
+    let mut at = 20;
+    while at < chunk.len() {
+        if chunk.len() - at < 4 {
+            return false;
+        }
+        let length = usize::from(be16(chunk, at + 2));
+        if length < 4 || length > chunk.len() - at {
+            return false;
+        }
+        if at + length == chunk.len() {
+            return true;
+        }
+        at += padded(length);
+        if at >= chunk.len() {
+            return false;
+        }
+    }
+    true
+}
+
+fn is_filled(chunk: &[u8]) -> bool {
+    match chunk[0] {
+        INIT | INIT_ACK => is_filled_by_parameters(chunk),
+        SACK => chunk.len() == 16 + 4 * (usize::from(be16(chunk, 12)) + usize::from(be16(chunk, 14))),
+        _ => true,
+    }
+}
+
+/// 5, then 6, over every chunk of the packet.
+pub fn check_shape(packet: &[u8]) -> u8 {
+    let mut at = 12;
+    let mut count = 0;
+    let mut alone = false;
+    while at < packet.len() {
+        let kind = packet[at];
+        let length = usize::from(be16(packet, at + 2));
+        if length < least(kind) || length > packet.len() - at || !is_filled(&packet[at..at + length]) {
+            return 5;
+        }
+        alone |= matches!(kind, INIT | INIT_ACK | SHUTDOWN_COMPLETE);
+        count += 1;
+        at += padded(length);
+    }
+    if alone && count > 1 {
+        return 6;
+    }
+    0
+}
+
+// ---- Unknown chunks and parameters, by their two high bits: 00 stop, 01 stop and report, 10 skip, 11 skip and report
+
+pub fn stops(high: u8) -> bool {
+    high & 2 == 0
+}
+
+pub fn reports(high: u8) -> bool {
+    high & 1 == 1
+}
+
+// ---- Fields
+
+pub struct Data<'a> {
+    pub begin: bool,
+    pub end: bool,
+    pub unordered: bool,
+    pub tsn: u32,
+    pub stream: u16,
+    pub ssn: u16,
+    pub ppid: u32,
+    pub payload: &'a [u8],
+}
+
+pub fn data(c: Seen<'_>) -> Data<'_> {
+    let b = c.bytes;
+    Data {
+        unordered: b[1] & 4 != 0,
+        begin: b[1] & 2 != 0,
+        end: b[1] & 1 != 0,
+        tsn: be32(b, 4),
+        stream: be16(b, 8),
+        ssn: be16(b, 10),
+        ppid: be32(b, 12),
+        payload: &b[16..],
+    }
+}
+
+/// INIT and INIT ACK; `outs` and `ins` are the streams that its sender wants to send on, and takes at most.
+#[derive(Clone, Copy)]
+pub struct Init {
+    pub tag: u32,
+    pub window: u32,
+    pub outs: u16,
+    pub ins: u16,
+    pub tsn: u32,
+}
+
+pub fn init(c: Seen<'_>) -> Init {
+    let b = c.bytes;
+    Init { tag: be32(b, 4), window: be32(b, 8), outs: be16(b, 12), ins: be16(b, 14), tsn: be32(b, 16) }
+}
+
+/// The parameters of an INIT or INIT ACK: type, and the whole parameter without its padding.
+pub fn parameters<'a>(c: Seen<'a>) -> impl Iterator<Item = (u16, &'a [u8])> {
+    let b = c.bytes;
+    let mut at = 20;
+    std::iter::from_fn(move || {
+        if at >= b.len() {
+            return None;
+        }
+        let length = usize::from(be16(b, at + 2));
+        let parameter = &b[at..at + length];
+        at += padded(length);
+        Some((be16(parameter, 0), parameter))
+    })
+}
+
+/// The first parameter of a type, wherever it stands.
+pub fn parameter(c: Seen<'_>, kind: u16) -> Option<&[u8]> {
+    parameters(c).find(|p| p.0 == kind).map(|p| p.1)
+}
+
+/// The unknown parameters that are to be reported; one that stops ends the reports.
+pub fn reported_parameters<'a>(c: Seen<'a>) -> Vec<&'a [u8]> {
+    let mut found = Vec::new();
+    for (kind, bytes) in parameters(c) {
+        if matches!(kind, 1 | 5 | 6 | 7 | 8 | 9 | 11 | 12 | 0x8000) {
+            continue;
+        }
+        let high = (kind >> 14) as u8;
+        if reports(high) {
+            found.push(bytes);
+        }
+        if stops(high) {
+            break;
+        }
+    }
+    found
+}
+
+pub struct SackRead {
+    pub point: u32,
+    pub window: u32,
+    pub blocks: Vec<(u16, u16)>,
+}
+
+pub fn sack(c: Seen<'_>) -> SackRead {
+    let b = c.bytes;
+    let count = usize::from(be16(b, 12));
+    let blocks = (0..count).map(|i| (be16(b, 16 + 4 * i), be16(b, 18 + 4 * i))).collect();
+    SackRead { point: be32(b, 4), window: be32(b, 8), blocks }
+}
+
+/// Whether an ERROR has cause 3; the walk over its causes ends at the first that is ill-formed.
+pub fn is_stale(c: Seen<'_>) -> bool {
+    let mut rest = c.value();
+    while rest.len() >= 4 {
+        let length = usize::from(be16(rest, 2));
+        if length < 4 || length > rest.len() {
+            return false;
+        }
+        if be16(rest, 0) == 3 {
+            return true;
+        }
+        rest = &rest[padded(length).min(rest.len())..];
+    }
+    false
+}

@@ -1,0 +1,161 @@
+//! Published vectors and 01's worked examples C1 to C13.
+
+use model::numbers::{ssn_distance, tsn_distance};
+use model::record::*;
+use model::{checksum, read, write, Core, Model};
+
+#[test]
+fn circles() {
+    assert_eq!(tsn_distance(4_294_967_295, 0), Some(1), "C1");
+    assert_eq!(tsn_distance(0, 4_294_967_295), Some(-1), "C2");
+    assert_eq!(tsn_distance(0, 2_147_483_647), Some(2_147_483_647), "C3");
+    assert_eq!(tsn_distance(0, 2_147_483_648), None, "C4");
+    assert_eq!(tsn_distance(0, 2_147_483_649), Some(-2_147_483_647), "C5");
+    assert_eq!(ssn_distance(65_535, 0), Some(1), "C6");
+    assert_eq!(ssn_distance(0, 32_768), None, "C7");
+}
+
+/// RFC 3720 B.4 prints the bytes as they stand on the wire.
+#[test]
+fn checksums() {
+    let rising: Vec<u8> = (0..32).collect();
+    let falling: Vec<u8> = (0..32).rev().collect();
+    let mut command = [0; 48];
+    for (at, b) in [(0, 0x01), (1, 0xC0), (16, 0x14), (22, 0x04), (27, 0x14), (31, 0x18), (32, 0x28), (40, 0x02)] {
+        command[at] = b;
+    }
+    let vectors: [(&[u8], [u8; 4]); 5] = [
+        (&[0; 32], [0xAA, 0x36, 0x91, 0x8A]),
+        (&[0xFF; 32], [0x43, 0xAB, 0xA8, 0x62]),
+        (&rising, [0x4E, 0x79, 0xDD, 0x46]),
+        (&falling, [0x5C, 0xDB, 0x3F, 0x11]),
+        (&command, [0x56, 0x3A, 0x96, 0xD9]),
+    ];
+    for (bytes, sum) in vectors {
+        assert_eq!(checksum::bitwise(bytes).to_le_bytes(), sum);
+        assert_eq!(checksum::crc32c(bytes).to_le_bytes(), sum);
+    }
+    let mut r = model::random::Random::new(1);
+    for length in 12..1000 {
+        let mut p = vec![0; length];
+        r.fill(&mut p);
+        assert_eq!(checksum::crc32c(&p), checksum::bitwise(&p));
+        let mut zeroed = p.clone();
+        zeroed[8..12].fill(0);
+        assert_eq!(checksum::of_packet(&p), checksum::bitwise(&zeroed));
+    }
+}
+
+struct End {
+    a: Association,
+    area: Vec<u8>,
+    out: Vec<u8>,
+}
+
+fn packet(source: u16, destination: u16, tag: u32, chunks: &[Vec<u8>]) -> Vec<u8> {
+    let mut body = Vec::new();
+    for c in chunks {
+        body.extend_from_slice(c);
+        write::pad(&mut body);
+    }
+    let mut out = vec![0; 2000];
+    let length = write::packet(&mut out, source, destination, tag, &body);
+    out[..length].to_vec()
+}
+
+fn data(tsn: u32) -> Vec<u8> {
+    let c = Chunk { tsn, begin: true, end: true, unordered: true, ..Chunk::default() };
+    write::data(&c, b"tile")
+}
+
+impl End {
+    /// Established by a good echo: our tag 7, the peer's 9.
+    fn new(my_tsn: u32, peer_tsn: u32) -> End {
+        let mut e = End { a: Model.closed(10), area: vec![0; AREA], out: vec![0; OUTPUT] };
+        let made = Made { my_tag: 7, peer_tag: 9, streams_in: 4, streams_out: 4, my_tsn, peer_tsn, window: 65_536 };
+        let echo = packet(20, 10, 7, &[write::chunk(read::COOKIE_ECHO, 0, b"cookie")]);
+        let echoed = Echoed { word: GOOD, made };
+        let r = Model.arrive(&mut e.a, &mut e.area, &echo, Lent::default(), &[], echoed, &mut e.out);
+        assert_eq!((r.number, r.count, r.verdicts[0].event, r.length), (0, 1, UP, 16));
+        e
+    }
+
+    fn arrive(&mut self, chunks: &[Vec<u8>]) -> Vec<Verdict> {
+        let p = packet(20, 10, 7, chunks);
+        let none = Echoed::default();
+        let r = Model.arrive(&mut self.a, &mut self.area, &p, Lent::default(), &[], none, &mut self.out);
+        assert_eq!(r.number, 0);
+        r.verdicts[..r.count].to_vec()
+    }
+
+    fn data(&mut self, tsn: u32) -> u8 {
+        self.arrive(&[data(tsn)])[0].number
+    }
+
+    fn sack(&mut self) -> Sacked {
+        let r = Model.sack(&mut self.a, &mut self.out);
+        assert_eq!(r.number, 0);
+        r.sack
+    }
+}
+
+#[test]
+fn gaps() {
+    let mut e = End::new(1, 4_294_967_295);
+    assert_eq!(e.data(0), 0);
+    let s = e.sack();
+    assert_eq!((s.point, s.blocks.count, s.blocks.starts[0], s.blocks.ends[0]), (4_294_967_294, 1, 2, 2), "C8");
+    assert_eq!(s.window, 512 * 127);
+    assert_eq!(e.data(4_294_967_295), 0);
+    let s = e.sack();
+    assert_eq!((s.point, s.blocks.count), (0, 0), "C9");
+    assert_eq!(End::new(1, 1).data(128), 0, "C10");
+    assert_eq!(End::new(1, 1).data(129), 13, "C11");
+}
+
+#[test]
+fn round_trips() {
+    let mut e = End::new(1, 1);
+    assert_eq!(Model.rtt(&mut e.a, 3_000).number, 0);
+    assert_eq!(e.a.sending.path.clock.rto, 9_000, "C12");
+    assert_eq!(Model.rtt(&mut e.a, 1_000).number, 0);
+    assert_eq!(e.a.sending.path.clock.rto, 9_250, "C12");
+}
+
+#[test]
+fn third_timer() {
+    let mut e = End::new(1, 1);
+    e.a.sending.path.control.cwnd = 6_000;
+    let mut area = vec![0; AREA];
+    assert_eq!(Model.t3(&mut e.a).number, 7);
+    assert_eq!(Model.hand_in(&mut e.a, &mut area, &[1; 1000], 3, false, 0).chunks, 2);
+    assert_eq!(Model.transmit(&mut e.a, &area, &mut e.out).length, 12 + 16 + 512);
+    assert_eq!(Model.t3(&mut e.a).number, 0);
+    let c = e.a.sending.path.control;
+    assert_eq!((c.ssthresh, c.cwnd, c.partial), (3_000, 528, 0), "C13");
+    assert_eq!((e.a.sending.path.flight, e.a.sending.path.clock.rto, e.a.sending.path.tries), (0, 2_000, 1));
+}
+
+/// 01's third wrong build: 127 chunks above a hole leave a place for the missing one.
+#[test]
+fn the_missing_chunk_finds_a_place() {
+    let mut e = End::new(1, 1);
+    for tsn in 2..=128 {
+        assert_eq!(e.data(tsn), 0);
+    }
+    assert_eq!(e.data(129), 13);
+    assert_eq!(e.sack().window, 512);
+    assert_eq!(e.data(1), 0);
+    assert_eq!(e.sack().point, 128);
+}
+
+/// 01's second wrong build: what was taken above the point is a duplicate when it comes again.
+#[test]
+fn a_taken_chunk_is_not_delivered_again() {
+    let mut e = End::new(1, 1);
+    assert_eq!(e.data(5), 0);
+    assert_eq!(Model.take(&mut e.a, &e.area, &mut e.out).message.length, 4);
+    assert_eq!(e.data(5), 11);
+    assert_eq!(Model.take(&mut e.a, &e.area, &mut e.out).number, 17);
+    assert_eq!(e.sack().dups[..1], [5]);
+}
