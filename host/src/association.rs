@@ -9,8 +9,6 @@ use crate::library::Library;
 use std::marker::PhantomData;
 use std::time::Duration;
 
-const SHORT: u8 = 18;
-
 /// A record of the core with its two areas. Every `out` below is to have at least `OUTPUT` bytes, and a call that is not refused has written its packet
 /// there.
 pub struct Association<L> {
@@ -131,7 +129,7 @@ impl<L: Library> Association<L> {
                 ssn: message.ssn,
                 ppid: message.ppid,
             }),
-            SHORT => Err(NotTaken::Short(message.length)),
+            ffi::SHORT => Err(NotTaken::Short(message.length)),
             number => Err(NotTaken::Refused(Refusal(number))),
         }
     }
@@ -210,13 +208,13 @@ fn answered<T>(number: u8, value: T) -> Answer<T> {
 /// The state of a number. A record with any other number can do nothing: the core refuses it.
 fn state_of(number: u8) -> State {
     match number {
-        1 => State::CookieWait,
-        2 => State::CookieEchoed,
-        3 => State::Established,
-        4 => State::ShutdownPending,
-        5 => State::ShutdownSent,
-        6 => State::ShutdownReceived,
-        7 => State::ShutdownAckSent,
+        ffi::COOKIE_WAIT => State::CookieWait,
+        ffi::COOKIE_ECHOED => State::CookieEchoed,
+        ffi::ESTABLISHED => State::Established,
+        ffi::SHUTDOWN_PENDING => State::ShutdownPending,
+        ffi::SHUTDOWN_SENT => State::ShutdownSent,
+        ffi::SHUTDOWN_RECEIVED => State::ShutdownReceived,
+        ffi::SHUTDOWN_ACK_SENT => State::ShutdownAckSent,
         _ => State::Closed,
     }
 }
@@ -246,27 +244,27 @@ fn verdict_of(verdict: &ffi::Verdict) -> Verdict {
     Verdict {
         at: usize::from(verdict.at),
         fate: match verdict.fate {
-            0 => Fate::Accepted,
-            1 => Fate::Refused(Refusal(verdict.number)),
-            2 => Fate::Skipped { reported: false },
-            3 => Fate::Skipped { reported: true },
-            4 => Fate::Stopped { reported: false },
-            5 => Fate::Stopped { reported: true },
+            ffi::ACCEPTED => Fate::Accepted,
+            ffi::REFUSED => Fate::Refused(Refusal(verdict.number)),
+            ffi::SKIPPED => Fate::Skipped { reported: false },
+            ffi::SKIPPED_REPORTED => Fate::Skipped { reported: true },
+            ffi::STOPPED => Fate::Stopped { reported: false },
+            ffi::STOPPED_REPORTED => Fate::Stopped { reported: true },
             _ => Fate::Unread,
         },
         named: match verdict.cause {
-            1 => Named::ErrorStream(verdict.value as u16),
-            3 => Named::ErrorStale,
-            9 => Named::Abort(Cause::NoData(verdict.value)),
-            13 => Named::Abort(Cause::Violation),
+            ffi::CAUSE_STREAM => Named::ErrorStream(verdict.value as u16),
+            ffi::CAUSE_STALE => Named::ErrorStale,
+            ffi::CAUSE_NO_DATA => Named::Abort(Cause::NoData(verdict.value)),
+            ffi::CAUSE_VIOLATION => Named::Abort(Cause::Violation),
             _ => Named::NoCall,
         },
         turn: match verdict.event {
-            1 => Turn::Up,
-            2 => Turn::Aborted,
-            3 => Turn::StaleCookie,
-            4 => Turn::HostName,
-            5 => Turn::ShutDown,
+            ffi::UP => Turn::Up,
+            ffi::DOWN_ABORT => Turn::Aborted,
+            ffi::DOWN_STALE => Turn::StaleCookie,
+            ffi::DOWN_HOST_NAME => Turn::HostName,
+            ffi::DOWN_SHUT_DOWN => Turn::ShutDown,
             _ => Turn::None,
         },
     }
@@ -275,8 +273,8 @@ fn verdict_of(verdict: &ffi::Verdict) -> Verdict {
 /// The number of a cause on the wire, and the TSN that goes with it.
 fn cause_for_c(cause: Cause) -> (u8, u32) {
     match cause {
-        Cause::User => (12, 0),
-        Cause::NoData(tsn) => (9, tsn),
-        Cause::Violation => (13, 0),
+        Cause::User => (ffi::CAUSE_USER, 0),
+        Cause::NoData(tsn) => (ffi::CAUSE_NO_DATA, tsn),
+        Cause::Violation => (ffi::CAUSE_VIOLATION, 0),
     }
 }

@@ -7,6 +7,17 @@ pub const LISTED: usize = 16;
 pub const BLOCKS: usize = 64;
 pub const VERDICTS: usize = 365;
 
+pub const SHORT: u8 = 18;
+
+pub const CLOSED: u8 = 0;
+pub const COOKIE_WAIT: u8 = 1;
+pub const COOKIE_ECHOED: u8 = 2;
+pub const ESTABLISHED: u8 = 3;
+pub const SHUTDOWN_PENDING: u8 = 4;
+pub const SHUTDOWN_SENT: u8 = 5;
+pub const SHUTDOWN_RECEIVED: u8 = 6;
+pub const SHUTDOWN_ACK_SENT: u8 = 7;
+
 #[derive(Clone, Copy, Debug, PartialEq, Eq)]
 #[repr(C)]
 pub struct Ends {
@@ -153,6 +164,7 @@ pub struct Peeked {
     pub len: usize,
 }
 
+pub const SAW_NOTHING: u8 = 0;
 pub const SAW_INIT: u8 = 1;
 pub const SAW_COOKIE_ECHO: u8 = 2;
 
@@ -186,6 +198,28 @@ pub struct Echoed {
     pub word: u8,
     pub made: Made,
 }
+
+pub const ACCEPTED: u8 = 0;
+pub const REFUSED: u8 = 1;
+pub const SKIPPED: u8 = 2;
+pub const SKIPPED_REPORTED: u8 = 3;
+pub const STOPPED: u8 = 4;
+pub const STOPPED_REPORTED: u8 = 5;
+pub const UNREAD: u8 = 6;
+
+pub const NO_EVENT: u8 = 0;
+pub const UP: u8 = 1;
+pub const DOWN_ABORT: u8 = 2;
+pub const DOWN_STALE: u8 = 3;
+pub const DOWN_HOST_NAME: u8 = 4;
+pub const DOWN_SHUT_DOWN: u8 = 5;
+
+pub const CAUSE_NONE: u8 = 0;
+pub const CAUSE_STREAM: u8 = 1;
+pub const CAUSE_STALE: u8 = 3;
+pub const CAUSE_NO_DATA: u8 = 9;
+pub const CAUSE_USER: u8 = 12;
+pub const CAUSE_VIOLATION: u8 = 13;
 
 #[derive(Clone, Copy, Debug, PartialEq, Eq)]
 #[repr(C)]
