@@ -312,15 +312,15 @@ struct ow_echoed {
 
 /* What became of the chunk that begins at byte `at` of the packet. `value` is the TSN or the stream that the named call takes, else 0. */
 struct ow_verdict {
-    uint16_t at;
+    size_t at;
+    uint32_t value;
     uint8_t fate;
     uint8_t number;
     uint8_t cause;
     uint8_t event;
-    uint32_t value;
 };
 
-/* The first `count` verdicts are those of the packet's chunks, in their order; the others are 0. `length`: bytes of the reply in `out`, 0 for none. */
+/* The first `count` verdicts are those of the packet's chunks, in their order; the others are OW_UNREAD at 0. `length`: bytes of the reply in `out`, 0 for none. */
 struct ow_arrived {
     uint8_t number;
     size_t count;

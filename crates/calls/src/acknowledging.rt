@@ -40,7 +40,7 @@ fn chunk_of(k: delivery::Sack) -> Sack
     }
 }
 
-fn no_sack() -> Sack
+pub fn no_sack() -> Sack
     ensures { λ r. ⌜ r ≡ noSack ⌝ }
 {
     let blocks = Blocks {

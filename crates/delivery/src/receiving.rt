@@ -14,6 +14,7 @@ ghost use Rattle.scans.specs.Scan.{count};
 ghost use Rattle.holding.specs.Taking.{written};
 ghost use Rattle.delivery.specs.Receiving.{fresh, isLow, taken};
 
+#[repr(C)]
 pub struct Receiving {
     pub keeping: Keeping,
     pub held: [Held; Rail::PLACES],

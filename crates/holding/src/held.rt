@@ -21,6 +21,7 @@ pub struct Chunk {
 }
 
 // A place. Its payload lies in the lent area: place i is the PAYLOAD bytes from PAYLOAD times i on, of which `len` are the chunk's.
+#[repr(C)]
 pub struct Held {
     pub used: bool,
     pub begin: bool,

@@ -17,6 +17,7 @@ ghost use Rattle.holding.specs.Taking.{lengthOf, payloadAt, copied, empt
 ghost use Rattle.holding.specs.TakingLaws.{Within};
 
 // What a take gives beside the bytes.
+#[repr(C)]
 pub struct Message {
     pub length: usize,
     pub stream: StreamId,

@@ -11,6 +11,7 @@ ghost use Rattle.numbers.specs.Come.{run, shift};
 ghost use Rattle.numbers.specs.Keeping.{fresh, offsetOf, isCome, marked, listed, told, highestOf, keepingSound};
 ghost use Rattle.numbers.specs.Blocks.{blocksOf, closed};
 
+#[repr(C)]
 pub struct Keeping {
     pub point: Tsn,
     pub come: [bool; Rail::PLACES],
@@ -19,6 +20,7 @@ pub struct Keeping {
 }
 
 // The gap blocks of a SACK: start and end offsets from the point, in rising order; unused entries are 0.
+#[repr(C)]
 pub struct Blocks {
     pub count: usize,
     pub starts: [u16; Rail::BLOCKS],

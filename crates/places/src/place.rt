@@ -8,6 +8,7 @@ ghost use Prim.Native.Nat.{_≤_, _<_};
 ghost use Rattle.places.specs.Places.{aheadOf, isOutstanding, isSent, weightOf, flightOf, payloadOf, offsetOf, lastOf, marked, gets, reaches, missed};
 
 // While it waits, `order` is its place in the order of handing in; its TSN and SSN are given when it is first sent.
+#[repr(C)]
 pub struct Chunk {
     pub tsn: Tsn,
     pub order: u32,
@@ -20,6 +21,7 @@ pub struct Chunk {
     pub unordered: bool,
 }
 
+#[repr(C)]
 pub struct Place {
     pub status: u8,
     pub misses: u8,

@@ -12,6 +12,7 @@ ghost use Rattle.numbers.specs.Profile.{rail};
 ghost use Rattle.sending.specs.Sending.{fresh, roomOf, isBare, hasOutstanding, sampled, doubled, heard};
 
 // `acked` is our point: the TSN up to which the peer has all. `oldest` is the order of the chunk that waits longest.
+#[repr(C)]
 pub struct Sending {
     pub acked: Tsn,
     pub next_tsn: Tsn,

@@ -1,0 +1,12 @@
+-- What the call that builds a SACK answers.
+use Rattle.calls.specs.declared.acknowledging.Acknowledged as call
+use Rattle.calls.specs.Acknowledging.{noSack}
+use Rattle.surface.specs.declared.stored.Stored.{Stored}
+use Rattle.surface.specs.declared.acknowledging.Acknowledged.{Acknowledged}
+use Rattle.surface.specs.Stored.{packed}
+
+abbrev pub packedAcknowledged : call.Acknowledged → Acknowledged
+packedAcknowledged r = record { number = r .number; length = r .length; sack = r .sack; association = packed (r .association) }
+
+abbrev pub unnamedAcknowledged : Stored → Acknowledged
+unnamedAcknowledged s = record { number = 1; length = 0; sack = noSack; association = s }

@@ -1,0 +1,36 @@
+-- What was seen of a packet, as numbers.
+use Prim.Native.Nat.{ℕ}
+use Rattle.calls.specs.declared.peeking.Peeked as call
+use Rattle.calls.specs.declared.peeking.Peeked.the-variants.{Refused, Nothing, Init, Echo}
+use Rattle.surface.specs.declared.peeking.Peeked.{Peeked}
+
+abbrev pub unseen : ℕ → Peeked
+unseen n = record { number = n; kind = 0; source = 0; tag = 0; window = 0; outs = 0; ins = 0; tsn = record { 0 = 0 }; at = 0; len = 0 }
+
+abbrev pub packedPeek : call.Peeked → Peeked
+packedPeek (Refused n) = unseen n
+packedPeek Nothing = unseen 0
+packedPeek (Init v source) = record {
+  number = 0;
+  kind = 1;
+  source = source;
+  tag = v .tag;
+  window = v .window;
+  outs = v .outs;
+  ins = v .ins;
+  tsn = v .tsn;
+  at = 0;
+  len = 0;
+}
+packedPeek (Echo at len) = record {
+  number = 0;
+  kind = 2;
+  source = 0;
+  tag = 0;
+  window = 0;
+  outs = 0;
+  ins = 0;
+  tsn = record { 0 = 0 };
+  at = at;
+  len = len;
+}

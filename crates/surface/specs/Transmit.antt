@@ -1,0 +1,19 @@
+-- What the call that fills a packet answers.
+use mathlib.Core.Bool.{false}
+use Rattle.calls.specs.declared.transmitting.Transmitted as call
+use Rattle.surface.specs.declared.stored.Stored.{Stored}
+use Rattle.surface.specs.declared.transmitting.Transmitted.{Transmitted}
+use Rattle.surface.specs.Stored.{packed}
+
+abbrev pub packedTransmitted : call.Transmitted → Transmitted
+packedTransmitted r = record {
+  number = r .number;
+  length = r .length;
+  resent = r .resent;
+  first = r .first;
+  last = r .last;
+  association = packed (r .association);
+}
+
+abbrev pub unnamedTransmitted : Stored → Transmitted
+unnamedTransmitted s = record { number = 1; length = 0; resent = false; first = record { 0 = 0 }; last = record { 0 = 0 }; association = s }

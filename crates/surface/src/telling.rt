@@ -1,0 +1,59 @@
+// ERROR and HEARTBEAT.
+use crate::answer;
+use crate::answer::Answer;
+use crate::stored;
+use crate::stored::Stored;
+use numbers::StreamId;
+ghost use mathlib.Core.Path.{_≡_};
+ghost use Rattle.calls.specs.Telling.{tellingStream, tellingStale, beating};
+ghost use Rattle.surface.specs.Stored.{unpacked};
+ghost use Rattle.surface.specs.Answer.{Answered};
+
+// A value of the host: C hands over no array but in a struct.
+#[repr(C)]
+pub struct Value {
+    pub bytes: [u8; 8],
+}
+
+#[no_mangle]
+pub extern "C" fn ow_error_stream(s: Stored, stream: u16, out: &mut [u8]) -> Answer
+    ensures { λ r. ⌜ Answered s (tellingStream (unpacked s) (record { 0 = stream }) (now (out .entry))) (now (out .entry)) r (now (out .exit)) ⌝ }
+{
+    if stored::is_named(s.state, s.tries) {
+        let a = stored::unpack(s);
+        let r = calls::error_stream(a, StreamId(stream), out);
+        return answer::answered(r);
+    }
+    answer::unnamed(s)
+}
+
+#[no_mangle]
+pub extern "C" fn ow_error_stale(
+    s: Stored,
+    port: u16,
+    tag: u32,
+    late: u32,
+    out: &mut [u8],
+) -> Answer
+    ensures { λ r. ⌜ Answered s (tellingStale (unpacked s) port tag late (now (out .entry))) (now (out .entry)) r (now (out .exit)) ⌝ }
+{
+    if stored::is_named(s.state, s.tries) {
+        let a = stored::unpack(s);
+        let r = calls::error_stale(a, port, tag, late, out);
+        return answer::answered(r);
+    }
+    answer::unnamed(s)
+}
+
+#[no_mangle]
+pub extern "C" fn ow_heartbeat(s: Stored, value: Value, out: &mut [u8]) -> Answer
+    ensures { λ r. ⌜ Answered s (beating (unpacked s) (value .bytes) (now (out .entry))) (now (out .entry)) r (now (out .exit)) ⌝ }
+{
+    if stored::is_named(s.state, s.tries) {
+        let a = stored::unpack(s);
+        let bytes = value.bytes;
+        let r = calls::heartbeat(a, bytes, out);
+        return answer::answered(r);
+    }
+    answer::unnamed(s)
+}

@@ -1,0 +1,58 @@
+// Timers expire, and a round trip is measured.
+use crate::answer;
+use crate::answer::Answer;
+use crate::stored;
+use crate::stored::Stored;
+ghost use mathlib.Core.Path.{_≡_};
+ghost use Rattle.states.specs.declared.calls.Call.the-variants.{FirstTimer, SecondTimer};
+ghost use Rattle.calls.specs.Timers.{expiring, expiringThird, sampling};
+ghost use Rattle.surface.specs.Stored.{unpacked};
+ghost use Rattle.surface.specs.Answer.{Answered, AnsweredAlone};
+
+#[no_mangle]
+pub extern "C" fn ow_t1(s: Stored, out: &mut [u8]) -> Answer
+    ensures { λ r. ⌜ Answered s (expiring (unpacked s) FirstTimer (now (out .entry))) (now (out .entry)) r (now (out .exit)) ⌝ }
+{
+    if stored::is_named(s.state, s.tries) {
+        let a = stored::unpack(s);
+        let r = calls::t1(a, out);
+        return answer::answered(r);
+    }
+    answer::unnamed(s)
+}
+
+#[no_mangle]
+pub extern "C" fn ow_t2(s: Stored, out: &mut [u8]) -> Answer
+    ensures { λ r. ⌜ Answered s (expiring (unpacked s) SecondTimer (now (out .entry))) (now (out .entry)) r (now (out .exit)) ⌝ }
+{
+    if stored::is_named(s.state, s.tries) {
+        let a = stored::unpack(s);
+        let r = calls::t2(a, out);
+        return answer::answered(r);
+    }
+    answer::unnamed(s)
+}
+
+#[no_mangle]
+pub extern "C" fn ow_t3(s: Stored) -> Answer
+    ensures { λ r. ⌜ AnsweredAlone s (expiringThird (unpacked s)) r ⌝ }
+{
+    if stored::is_named(s.state, s.tries) {
+        let a = stored::unpack(s);
+        let r = calls::t3(a);
+        return answer::answered(r);
+    }
+    answer::unnamed(s)
+}
+
+#[no_mangle]
+pub extern "C" fn ow_rtt(s: Stored, sample: u32) -> Answer
+    ensures { λ r. ⌜ AnsweredAlone s (sampling (unpacked s) sample) r ⌝ }
+{
+    if stored::is_named(s.state, s.tries) {
+        let a = stored::unpack(s);
+        let r = calls::rtt(a, sample);
+        return answer::answered(r);
+    }
+    answer::unnamed(s)
+}
