@@ -242,7 +242,7 @@ fn made_for_c(made: Made) -> ffi::Made {
 
 fn verdict_of(verdict: &ffi::Verdict) -> Verdict {
     Verdict {
-        at: usize::from(verdict.at),
+        at: verdict.at,
         fate: match verdict.fate {
             ffi::ACCEPTED => Fate::Accepted,
             ffi::REFUSED => Fate::Refused(Refusal(verdict.number)),

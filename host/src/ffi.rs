@@ -224,12 +224,12 @@ pub const CAUSE_VIOLATION: u8 = 13;
 #[derive(Clone, Copy, Debug, PartialEq, Eq)]
 #[repr(C)]
 pub struct Verdict {
-    pub at: u16,
+    pub at: usize,
+    pub value: u32,
     pub fate: u8,
     pub number: u8,
     pub cause: u8,
     pub event: u8,
-    pub value: u32,
 }
 
 #[derive(Clone, Copy)]

@@ -58,7 +58,7 @@ fn claims() -> String {
         ow_lent Lent { tag tsn streams }
         ow_made Made { my_tag peer_tag streams_in streams_out my_tsn peer_tsn window }
         ow_echoed Echoed { word made }
-        ow_verdict Verdict { at fate number cause event value }
+        ow_verdict Verdict { at value fate number cause event }
         ow_arrived Arrived { number count verdicts length association }
         ow_handed_in HandedIn { number chunks association }
         ow_transmitted Transmitted { number length resent first last association }

@@ -1,7 +1,7 @@
 //! The model as a library, so that whatever runs on the proved one runs on it too.
 
 use model::{record, Core, Model};
-use oilwhisper::ffi::{Acknowledged, Answer, Arrived, Delivered, Echoed, HandedIn, Lent, Peeked, Record, Transmitted};
+use oilwhisper::ffi::{Acknowledged, Answer, Arrived, Delivered, Echoed, HandedIn, Lent, Message, Peeked, Record, Sacked, Transmitted, Verdict};
 use oilwhisper::library::Library;
 use std::mem::transmute;
 
@@ -14,6 +14,18 @@ fn lent(record: Record) -> record::Association {
 
 fn kept(record: record::Association) -> Record {
     unsafe { transmute(record) }
+}
+
+#[allow(clippy::useless_conversion)]
+fn verdict(told: record::Verdict) -> Verdict {
+    Verdict {
+        at: usize::from(told.at),
+        value: told.value,
+        fate: told.fate,
+        number: told.number,
+        cause: told.cause,
+        event: told.event,
+    }
 }
 
 fn answer(told: record::Answer, record: record::Association) -> Answer {
@@ -36,12 +48,12 @@ impl Library for Modelled {
 
     fn arrive(record: Record, area: &mut [u8], packet: &[u8], values: Lent, cookie: &[u8], echoed: Echoed, out: &mut [u8]) -> Arrived {
         let mut record = lent(record);
-        let (values, echoed) = unsafe { (transmute(values), transmute(echoed)) };
+        let (values, echoed) = unsafe { (transmute::<Lent, record::Lent>(values), transmute::<Echoed, record::Echoed>(echoed)) };
         let told = Model.arrive(&mut record, area, packet, values, cookie, echoed, out);
         Arrived {
             number: told.number,
             count: told.count,
-            verdicts: unsafe { transmute(told.verdicts) },
+            verdicts: told.verdicts.map(verdict),
             length: told.length,
             association: kept(record),
         }
@@ -81,7 +93,7 @@ impl Library for Modelled {
         let told = Model.take(&mut record, area, out);
         Delivered {
             number: told.number,
-            message: unsafe { transmute(told.message) },
+            message: unsafe { transmute::<record::Message, Message>(told.message) },
             association: kept(record),
         }
     }
@@ -92,7 +104,7 @@ impl Library for Modelled {
         Acknowledged {
             number: told.number,
             length: told.length,
-            sack: unsafe { transmute(told.sack) },
+            sack: unsafe { transmute::<record::Sacked, Sacked>(told.sack) },
             association: kept(record),
         }
     }

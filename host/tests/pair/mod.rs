@@ -10,13 +10,16 @@ use std::time::{Duration, Instant};
 
 pub const PORTS: [u16; 2] = [5000, 5001];
 
+/// Whether a packet is lost.
+pub type Loses = Box<dyn FnMut(&[u8]) -> bool>;
+
 /// One end, with what it sent, took and saw happen.
 pub struct End<L> {
     pub endpoint: Endpoint<L>,
     pub address: SocketAddr,
     pub channel: Channel,
     /// Decides which packets of this end are lost before they reach its channel.
-    pub loses: Box<dyn FnMut(&[u8]) -> bool>,
+    pub loses: Loses,
     pub sent: Vec<Vec<u8>>,
     pub taken: Vec<(u16, u16, Vec<u8>)>,
     pub takes: bool,
@@ -159,7 +162,7 @@ pub fn first_chunk(packet: &[u8]) -> u8 {
 }
 
 /// Loses the first so many packets that begin with a chunk of this type.
-pub fn loses_first(chunk: u8, mut count: u32) -> Box<dyn FnMut(&[u8]) -> bool> {
+pub fn loses_first(chunk: u8, mut count: u32) -> Loses {
     Box::new(move |packet| {
         let lost = first_chunk(packet) == chunk && count > 0;
         count -= u32::from(lost);
