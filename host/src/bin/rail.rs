@@ -24,7 +24,7 @@ fn run(command: Command) -> ExitCode {
     let out = &mut io::stdout();
     let ended = match command {
         Command::Help => {
-            print!("{}", USAGE);
+            let _ = write!(out, "{}", USAGE);
             return ExitCode::SUCCESS;
         }
         Command::Demo(asked) => demo::run::<Proved>(&asked, out).map(|outcome| (outcome.table, outcome.faults)),
@@ -37,7 +37,8 @@ fn run(command: Command) -> ExitCode {
 fn conclude(ended: Result<lone::Ended, Failure>) -> ExitCode {
     match ended {
         Ok((table, faults)) => {
-            print!("\n{}", table);
+            // A closed standard output changes nothing: the exit status still tells.
+            let _ = write!(io::stdout(), "\n{}", table);
             let _ = io::stdout().flush();
             for fault in faults.iter().take(20) {
                 eprintln!("rail: {}", fault);
