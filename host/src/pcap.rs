@@ -1,7 +1,7 @@
 //! A capture that Wireshark reads: raw IP packets (LINKTYPE_RAW), each with one UDP datagram on the port that is SCTP's inside UDP.
 
 use std::fs::File;
-use std::io::{self, BufWriter, Write};
+use std::io::{self, Write};
 use std::net::{IpAddr, Ipv6Addr, SocketAddr};
 use std::path::Path;
 use std::sync::{Arc, Mutex};
@@ -19,9 +19,9 @@ pub struct Pcap<W: Write> {
     failed: Option<io::Error>,
 }
 
-impl Pcap<BufWriter<File>> {
-    pub fn create(path: &Path) -> io::Result<Pcap<BufWriter<File>>> {
-        Pcap::new(BufWriter::new(File::create(path)?))
+impl Pcap<File> {
+    pub fn create(path: &Path) -> io::Result<Pcap<File>> {
+        Pcap::new(File::create(path)?)
     }
 }
 
@@ -52,11 +52,10 @@ impl<W: Write> Pcap<W> {
 
     fn write_packet(&mut self, since_1970: Duration, frame: &[u8]) -> io::Result<()> {
         let length = (frame.len() as u32).to_le_bytes();
-        self.file.write_all(&(since_1970.as_secs() as u32).to_le_bytes())?;
-        self.file.write_all(&since_1970.subsec_micros().to_le_bytes())?;
-        self.file.write_all(&length)?;
-        self.file.write_all(&length)?;
-        self.file.write_all(frame)
+        let seconds = (since_1970.as_secs() as u32).to_le_bytes();
+        let microseconds = since_1970.subsec_micros().to_le_bytes();
+        // In one piece, so that a run that is interrupted leaves whole packets.
+        self.file.write_all(&[&seconds, &microseconds, &length, &length, frame].concat())
     }
 }
 
@@ -127,7 +126,7 @@ fn internet_checksum(parts: &[&[u8]]) -> u16 {
     !(sum as u16)
 }
 
-pub type Capture = Arc<Mutex<Pcap<BufWriter<File>>>>;
+pub type Capture = Arc<Mutex<Pcap<File>>>;
 
 /// One end's view of a capture. Several ends can share one.
 #[derive(Clone)]
