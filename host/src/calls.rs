@@ -37,6 +37,11 @@ impl State {
         matches!(self, State::Established | State::ShutdownPending | State::ShutdownReceived)
     }
 
+    /// DATA is read, so SACKs are sent.
+    pub fn reads_data(self) -> bool {
+        matches!(self, State::Established | State::ShutdownPending | State::ShutdownSent)
+    }
+
     /// T2 runs.
     pub fn is_closing(self) -> bool {
         matches!(self, State::ShutdownSent | State::ShutdownAckSent)

@@ -251,9 +251,13 @@ impl<L: Library> Endpoint<L> {
     /// taken, since the SACK then offers the whole window.
     pub fn flush(&mut self, now: Instant) {
         let standing = self.core.standing();
-        self.sack.window_is(standing.window, now);
-        if self.sack.is_due(now) {
-            self.acknowledge();
+        if standing.state.reads_data() {
+            self.sack.window_is(standing.window, now);
+            if self.sack.is_due(now) {
+                self.acknowledge();
+            }
+        } else {
+            self.sack = DelayedSack::default();
         }
         if self.may_send && standing.state.is_carrying() {
             self.transmit(now);
@@ -519,15 +523,12 @@ impl<L: Library> Endpoint<L> {
 
     fn acknowledge(&mut self) {
         let answer = self.core.sack(&mut self.out);
-        let window = match self.counted(answer) {
-            Ok(told) => {
-                self.counts.acknowledgements += 1;
-                self.send_to_peer(told.length);
-                told.window
-            }
-            Err(_) => self.core.standing().window,
-        };
-        self.sack.sent(window);
+        self.sack = DelayedSack::default();
+        if let Ok(told) = self.counted(answer) {
+            self.counts.acknowledgements += 1;
+            self.sack.sent(told.window);
+            self.send_to_peer(told.length);
+        }
     }
 
     fn transmit(&mut self, now: Instant) {

@@ -16,6 +16,7 @@ pub struct Line<L> {
     pub endpoint: Endpoint<L>,
     socket: UdpSocket,
     tap: Option<Tap>,
+    trouble: Option<io::Error>,
     patience: Option<Duration>,
     buffer: [u8; BUFFER],
 }
@@ -26,6 +27,7 @@ impl<L: Library> Line<L> {
             endpoint,
             socket,
             tap,
+            trouble: None,
             patience: None,
             buffer: [0; BUFFER],
         }
@@ -35,10 +37,15 @@ impl<L: Library> Line<L> {
         self.socket.local_addr()
     }
 
+    /// Why the last packet that could not be sent was not. It counts as lost, so that no peer can stop this end by an address that nothing can be sent to.
+    pub fn trouble(&self) -> Option<&io::Error> {
+        self.trouble.as_ref()
+    }
+
     /// Sends what is due, waits for one packet but no longer than `longest`, and does what a timer asks. Between two turns messages are taken and handed in.
     pub fn turn(&mut self, longest: Duration) -> io::Result<()> {
         self.endpoint.flush(Instant::now());
-        self.send_all()?;
+        self.send_all();
         let now = Instant::now();
         let wait = match self.endpoint.next_moment() {
             Some(moment) => moment.saturating_duration_since(now).min(longest),
@@ -52,22 +59,19 @@ impl<L: Library> Line<L> {
             self.endpoint.arrive(packet, from, Instant::now());
         }
         self.endpoint.expire(Instant::now());
-        self.send_all()
+        self.send_all();
+        Ok(())
     }
 
-    /// Sends every packet that the endpoint has ready.
-    pub fn send_all(&mut self) -> io::Result<()> {
+    fn send_all(&mut self) {
         while let Some(datagram) = self.endpoint.outgoing() {
             if let Some(tap) = &self.tap {
                 tap.sent(datagram.to, &datagram.packet);
             }
-            match self.socket.send_to(&datagram.packet, datagram.to) {
-                Ok(_) => {}
-                Err(e) if is_like_loss(&e) => {}
-                Err(e) => return Err(e),
+            if let Err(e) = self.socket.send_to(&datagram.packet, datagram.to) {
+                self.trouble = Some(e);
             }
         }
-        Ok(())
     }
 
     fn receive(&mut self, wait: Duration) -> io::Result<Option<(usize, SocketAddr)>> {
@@ -78,7 +82,7 @@ impl<L: Library> Line<L> {
         }
         match self.socket.recv_from(&mut self.buffer) {
             Ok(received) => Ok(Some(received)),
-            Err(e) if is_like_loss(&e) => Ok(None),
+            Err(e) if is_like_silence(&e) => Ok(None),
             Err(e) => Err(e),
         }
     }
@@ -90,8 +94,8 @@ fn rounded_up(wait: Duration) -> Duration {
     GRAIN * grains
 }
 
-/// What the protocol treats as a packet that was lost, or as none that came.
-fn is_like_loss(e: &io::Error) -> bool {
+/// What the protocol treats as no packet that came.
+fn is_like_silence(e: &io::Error) -> bool {
     matches!(
         e.kind(),
         ErrorKind::WouldBlock | ErrorKind::TimedOut | ErrorKind::Interrupted | ErrorKind::ConnectionRefused

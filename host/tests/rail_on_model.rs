@@ -3,10 +3,14 @@
 mod modelled;
 
 use modelled::Modelled;
+use oilwhisper::endpoint::{Config, Endpoint};
 use oilwhisper::rail::arguments::{parse, Command};
 use oilwhisper::rail::{demo, lone, Failure};
+use oilwhisper::random::Random;
+use oilwhisper::udp::Line;
 use std::net::UdpSocket;
 use std::path::PathBuf;
+use std::time::{Duration, Instant};
 use std::{env, fs, io, thread};
 
 /// Runs a command line; the table, and what went wrong.
@@ -99,6 +103,18 @@ fn a_file_that_cannot_be_written_is_named_before_anything_is_sent() {
         let said = complaint(&format!("{} --pcap {}", line.replace(":0", &format!(":{}", free_port())), path.display()));
         assert!(said.starts_with(&format!("cannot write {}: ", path.display())), "{}", said);
     }
+}
+
+#[test]
+fn a_peer_that_nothing_can_be_sent_to_stops_nobody() {
+    let now = Instant::now();
+    let mut endpoint = Endpoint::<Modelled>::new(Config::at_port(5000), Random::from_key([1; 32]), now);
+    let broadcast = "255.255.255.255:9899".parse().expect("it is an address");
+    endpoint.associate(broadcast, 5001, now).expect("a closed record can associate");
+    let socket = UdpSocket::bind("127.0.0.1:0").expect("there is a free port");
+    let mut line = Line::new(endpoint, socket, None);
+    line.turn(Duration::ZERO).expect("the line goes on");
+    assert_eq!(line.trouble().map(io::Error::kind), Some(io::ErrorKind::PermissionDenied));
 }
 
 fn free_port() -> u16 {

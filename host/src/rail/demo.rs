@@ -89,6 +89,7 @@ fn run_ends<L: Library>(demo: &Demo, capture: Option<&Capture>, progress: &mut d
     let relay = Relay::between(field_address, head_address, RELAY).map_err(Failure::of_network)?;
     let to_head = relay.first_side().map_err(Failure::of_network)?;
     let shared = Shared::default();
+    announce(demo, field_address, head_address, progress);
     let began = Instant::now();
     let (field, head, mishaps) = thread::scope(|scope| {
         let forth = scope.spawn(|| relay.carry_forth(Channel::new(demo.weather, demo.seed), &shared.stop));
@@ -106,6 +107,25 @@ fn run_ends<L: Library>(demo: &Demo, capture: Option<&Capture>, progress: &mut d
     let (forth, back) = mishaps?;
     let mishaps = forth.and_then(|forth| back.map(|back| forth.and(back))).map_err(Failure::of_network)?;
     Ok(judge(demo, field??, head??, mishaps, took))
+}
+
+fn announce(demo: &Demo, field: SocketAddr, head: SocketAddr, progress: &mut dyn Write) {
+    let Demo { messages, weather, .. } = demo;
+    let percent = [weather.loss, weather.repeat, weather.reorder, weather.damage].map(|part| part * 100.0);
+    let [loss, repeat, reorder, damage] = percent;
+    // A closed standard output must not end the run: the exit status still tells.
+    let _ = writeln!(
+        progress,
+        "{} tiles of {} bands from a field computer at {} to a head at {}, over a stretch that drops {}%, repeats {}%, holds back {}% and damages {}%",
+        grouped(Plan::total(*messages)),
+        BANDS,
+        field,
+        head,
+        loss,
+        repeat,
+        reorder,
+        damage
+    );
 }
 
 fn joined<T>(thread: thread::ScopedJoinHandle<T>) -> Result<T, Failure> {
@@ -193,7 +213,6 @@ fn watch(demo: &Demo, shared: &Shared, progress: &mut dyn Write) {
             told = Instant::now();
             let handed_in = grouped(shared.handed_in.load(Ordering::Relaxed));
             let resent = grouped(shared.resent.load(Ordering::Relaxed));
-            // A closed standard output must not end the run: the exit status still tells.
             let _ = writeln!(
                 progress,
                 "  {} of {} tiles handed in, {} compared, {} packets resent",

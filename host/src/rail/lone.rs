@@ -126,8 +126,9 @@ pub fn field<L: Library>(arguments: &arguments::Field, out: &mut dyn Write) -> R
         ended = field.turn(TURN);
         if pace.is_due() {
             let counts = field.line.endpoint.counts();
-            let _ = match field.stage() {
-                Stage::Opening => writeln!(out, "  no answer yet"),
+            let _ = match (field.stage(), field.line.trouble()) {
+                (Stage::Opening, Some(trouble)) => writeln!(out, "  no answer yet: {}", trouble),
+                (Stage::Opening, None) => writeln!(out, "  no answer yet"),
                 _ => writeln!(
                     out,
                     "  {} tiles handed in, {} packets resent",
