@@ -230,11 +230,21 @@ fn sending(r: &mut Random) -> Sending {
         clock: clock(r),
         flight,
         running: r.one_in(2),
-        until: if r.one_in(4) { tsn(r) } else { acked.wrapping_add(r.below(12) as u32).wrapping_sub(2) },
+        until: acked.wrapping_add(r.pick(&[0, 0, 1 << 31, u32::MAX])).wrapping_add(r.below(12) as u32).wrapping_sub(2),
         tries: r.pick(&[0, 1, 9, 10]),
     };
-    let advertised = r.pick(&[0, 1, 512, 1024, 65_536, u32::MAX]);
+    let advertised = window(r, &places, oldest);
     Sending { acked, next_tsn: acked.wrapping_add(sent as u32 + 1), advertised, oldest, places, next, path }
+}
+
+/// A window, often one that the chunk which waits longest just fits, or just does not.
+fn window(r: &mut Random, places: &[Place; PLACES], oldest: u32) -> u32 {
+    let flying: u32 = places.iter().filter(|p| p.status == FLYING).map(|p| u32::from(p.chunk.len)).sum();
+    let first = places.iter().find(|p| p.status == WAITING && p.chunk.order == oldest).map_or(0, |p| u32::from(p.chunk.len));
+    match r.below(3) {
+        0 => (flying + first + r.below(3) as u32).saturating_sub(1),
+        _ => r.pick(&[0, 1, 512, 1024, 65_536, u32::MAX]),
+    }
 }
 
 fn clock(r: &mut Random) -> Clock {

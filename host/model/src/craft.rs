@@ -168,26 +168,35 @@ fn init(r: &mut Random, kind: u8) -> Vec<u8> {
     }
     let mut v = write::init_fields(i);
     let cookie_at = r.below(3);
-    let count = r.below(6);
+    // Now and then so many that their reports do not all fit.
+    let many = r.one_in(10);
+    let count = if many { 300 } else { r.below(6) };
     for n in 0..=count {
         if kind == read::INIT_ACK && n == cookie_at.min(count) && !r.one_in(20) {
             write::pad(&mut v);
             let length = cookie_length(r);
             v.extend_from_slice(&write::item(read::STATE_COOKIE, &bytes(r, length)));
         }
-        if n == count {
+        if n == count || v.len() > 1_300 {
             break;
         }
         write::pad(&mut v);
         let kind = match r.below(40) {
+            _ if many && !r.one_in(200) => 0xC001,
             0 => read::HOST_NAME,
             1..=10 => r.pick(&[1, 5, 6, 7, 8, 9, 12, 0x8000]),
             11 | 12 => r.pick(&[2, 0x4002, 0x3FFF, 0x7FFF]),
             13..=24 => r.pick(&[0x8001, 0xBFFF]),
             _ => r.pick(&[0xC000, 0xC001, 0xFFFF]),
         };
-        let length = if r.one_in(12) { r.within(0, 700) } else { r.below(14) };
+        let length = if r.one_in(12) && !many { r.within(0, 700) } else { r.below(14) };
         v.extend_from_slice(&write::item(kind, &bytes(r, length)));
+    }
+    if r.one_in(30) {
+        // Too few bytes for a parameter.
+        write::pad(&mut v);
+        let length = r.within(1, 3);
+        v.extend_from_slice(&bytes(r, length));
     }
     v.truncate(1_456);
     write::chunk(kind, if r.one_in(8) { 255 } else { 0 }, &v)

@@ -129,7 +129,19 @@ impl<'m> Episode<'m> {
             self.deliver()
         } else {
             let call = self.any_call(who);
-            self.make(who, &call).map(drop)
+            let reply = self.make(who, &call)?;
+            self.take_again(who, &reply)
+        }
+    }
+
+    /// A take that was answered 18 is made again with the length needed, or one byte less.
+    fn take_again(&mut self, who: usize, reply: &Reply) -> Result<(), Difference> {
+        match reply {
+            Reply::Delivered(d) if d.number == 18 && d.message.length > 0 => {
+                let out = d.message.length - self.r.below(2);
+                self.make(who, &Call::Take { area: AREA, out }).map(drop)
+            }
+            _ => Ok(()),
         }
     }
 
@@ -157,6 +169,10 @@ impl<'m> Episode<'m> {
         let kind = c.packet.get(12).copied();
         let call = Call::Arrive { packet: Bytes(c.packet), lent: c.lent, cookie: Bytes(c.cookie), echoed: c.echoed, area, out };
         let reply = self.make(who, &call)?;
+        if reply.number() == 4 {
+            // Packets of an association that is no more: one is enough.
+            self.pool.retain(|p| p.0 != who);
+        }
         // A peer that starts anew while we are up: 01 leaves it to the host to abort.
         let is_anew = matches!(kind, Some(read::INIT | read::COOKIE_ECHO));
         if matches!(reply, Reply::Arrived(r) if is_anew && r.verdicts[0].number == 7) && self.mood != Mood::Hostile && self.r.one_in(2) {
