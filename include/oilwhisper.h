@@ -2,8 +2,9 @@
  * Oilwhisper: an SCTP core (RFC 9260), one path, by value and without a heap.
  *
  * The host keeps one `struct ow_association` for each association and two areas of OW_AREA bytes beside it, one for receiving and one for sending.
- * Every call takes the record by value and gives it back inside its answer; the host puts it in the place of the one it had. The library keeps
- * nothing between calls, calls nobody, and may be used from any number of threads.
+ * Every call takes the record by value and gives it back inside its answer; the host puts it in the place of the one it had. A record has no pointer: it
+ * may be copied, moved and kept anywhere. The library keeps nothing between calls, calls only C's memcpy and memset, and may be used from any number of
+ * threads.
  *
  * Every call answers for every record, number and buffer, and has no rule that the host must keep but C's own:
  *   - a slice is two parameters, a pointer and a count of bytes. The pointer is not null, not even for a count of 0, and so many bytes are there;

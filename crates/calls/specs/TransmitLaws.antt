@@ -11,7 +11,7 @@ use Rattle.scans.specs.Scan.{pick, either}
 use Rattle.numbers.specs.Profile.{rail}
 use Rattle.octets.specs.BytesLaws.{part-is}
 use Rattle.octets.specs.Writing.{Wrote, wroteCount, wroteAt}
-use Rattle.octets.specs.WritingLaws.{wrote-part, part-count}
+use Rattle.octets.specs.WritingLaws.{wrote-part, part-within, part-count}
 use Rattle.packets.specs.declared.header.Header.{Header}
 use Rattle.path.specs.Sizes.{railSizes}
 use Rattle.sending.specs.declared.choosing.Chosen.{Chosen}
@@ -27,14 +27,6 @@ use Rattle.calls.specs.declared.transmitting.Transmitted.{Transmitted}
 use Rattle.calls.specs.Packet.{toPeer}
 use Rattle.calls.specs.Transmit.{chunkBytes, Bundle, added, bundled, bundleLength, bundleOut, transmitBar, transmitted, transmittedOut}
 
-count-within : (n room : ℕ) → pick (ltb 65532 n) 0 (pick (ltb room n) 0 n) ≤ room
-count-within n room = go (ltb 65532 n) (ltb room n) refl
-  where
-    go : (s t : Bool) → ltb room n ≡ t → pick s 0 (pick t 0 n) ≤ room
-    go true t e = omega arith
-    go false true e = omega arith
-    go false false e = omega (arith, ltb-false room n e)
-
 -- one chunk more: where it ends, and what stands in the output
 pub record Added (area : List ℕ) (p : Place) (i at : ℕ) (out : List ℕ) (r : ℕ) (exit : List ℕ) : Type 0 where
   pub is : _≡_ {A = Bundle} (record { at = r; out = exit }) (added area p i (record { at = at; out = out }))
@@ -43,9 +35,7 @@ pub record Added (area : List ℕ) (p : Place) (i at : ℕ) (out : List ℕ) (r 
 
 module _ (at : ℕ) (xs : List ℕ) {bs ys : List ℕ} {r : ℕ} (h : at ≤ length xs) (w : Wrote (take (length xs - at) (drop at xs)) bs r ys) where
   pub part-small : at + r ≤ length xs
-  part-small =
-      let e : r ≤ length xs - at = rw (part-count at xs h w) (count-within (length bs) (length xs - at)) in
-      omega arith
+  part-small = part-within at xs h w
 
   pub part-few : r ≤ 65532
   part-few = rw (part-count at xs h w) (count-small (length bs) (length xs - at))

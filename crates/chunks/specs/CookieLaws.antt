@@ -2,10 +2,11 @@
 use Prim.Native.Nat.{ℕ, _<_, _≤_}
 use mathlib.Core.Path.{_≡_}
 use mathlib.Core.List.{List}
+use native.Mathlib.Omega.{arith}
 use lib.ListN.{length}
 use Rattle.octets.specs.Writing.{Wrote}
 use Rattle.chunks.specs.Frame.{framed}
-use Rattle.chunks.specs.FrameLaws.{carry-over, carry-none, carry-is}
+use Rattle.chunks.specs.FrameLaws.{framed-long, carry-over, carry-none, carry-is, carry-within}
 use Rattle.chunks.specs.CookieChunk.{cookieEchoBytes}
 
 module _ (c : List ℕ) where
@@ -20,3 +21,7 @@ module _ (c : List ℕ) where
   pub echo-none : {out : List ℕ} → length c ≤ 256 → length c ≡ 0 → Wrote out (cookieEchoBytes c) 0 out
   unfolding cookieEchoBytes
   echo-none = carry-none 256 c _
+
+  pub echo-within : length (cookieEchoBytes c) ≤ 260
+  unfolding cookieEchoBytes
+  echo-within = carry-within 256 c (framed 10 0 c) (λ h. omega (arith, framed-long 10 0 c))

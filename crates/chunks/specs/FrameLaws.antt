@@ -1,11 +1,14 @@
 -- Laws of framed chunks: their length, how they are written row by row. Assumes nothing.
 use Prim.Native.Nat.{ℕ, _+_, _-_, _*_, _/_, _%_, _<_, _≤_}
 use mathlib.Core.Path.{_≡_, refl, ap, _∙_}
-use mathlib.Core.List.{List, _++_}
+use mathlib.Core.Bool.{Bool, true, false}
+use mathlib.Core.List.{List, [], _++_}
 use native.Mathlib.Omega.{arith}
-use borrow.Author.Tests.{lt-ltb, le-ltb, eq-eqb, ne-eqb}
+use borrow.Author.Tests.{lt-ltb, le-ltb, ltb-false, eq-eqb, ne-eqb}
+use lib.Dec.{ltb, eqb}
 use lib.ListN.{length, getD, take, drop, length-append}
 use lib.Seq.{take-at}
+use Rattle.scans.specs.Scan.{pick}
 use Rattle.octets.specs.Bytes.{be16, be32, laid, zeros, up4}
 use Rattle.octets.specs.BytesLaws.{laid-is}
 use Rattle.octets.specs.Writing.{head, Wrote}
@@ -72,6 +75,15 @@ module _ (most : ℕ) (c bs : List ℕ) where
   pub carry-is : length c ≤ most → (length c ≡ 0 → ⊥) → carrying most c bs ≡ bs
   unfolding carrying
   carry-is h n = rw (le-ltb most (length c) h, ne-eqb (length c) 0 n)
+
+  pub carry-within : {n : ℕ} → (length c ≤ most → length bs ≤ n) → length (carrying most c bs) ≤ n
+  unfolding carrying
+  carry-within {n} h = go (ltb most (length c)) (eqb (length c) 0) refl
+    where
+      go : (s t : Bool) → ltb most (length c) ≡ s → length (pick s [] (pick t [] bs)) ≤ n
+      go true t e = omega arith
+      go false true e = omega arith
+      go false false e = h (ltb-false most (length c) e)
 
 -- ---- what was gathered in an array
 

@@ -73,7 +73,7 @@ fn next_of(held: [Held; Rail::PLACES], first: Held, t: Tsn) -> Found
 }
 
 // The places of the run of `first`, which is at the place, if it is a whole message; else none.
-pub fn gather(held: [Held; Rail::PLACES], place: usize, first: Held) -> Places
+pub(crate) fn gather(held: [Held; Rail::PLACES], place: usize, first: Held) -> Places
     ensures { λ p. ⌜ (runOf p ≡ follow (ring (2 ^ 32)) held first 128 place first) × (p .count ≤ 128) ⌝ }
 {
     let mut at = [0usize; Rail::PLACES];

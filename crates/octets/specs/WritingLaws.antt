@@ -5,16 +5,16 @@ use mathlib.Core.Path.{_≡_, refl, sym, ap, _∙_}
 use mathlib.Core.Bool.{Bool, true, false}
 use mathlib.Core.List.{List, [], _++_, append-assoc}
 use native.Mathlib.Omega.{arith}
-use borrow.Author.Tests.{lt-ltb, le-ltb, ltb-false}
+use borrow.Author.Tests.{lt-ltb, le-ltb, ltb-true, ltb-false}
 use lib.Dec.{ltb}
 use lib.ListN.{length, take, drop, length-append, length-drop}
-use lib.Seq.{drop-append-add}
+use lib.Seq.{drop-append-add, take-append-seam, length-take-le}
 use Rattle.scans.specs.Scan.{pick}
 use Rattle.octets.specs.Bytes.{u16, up4, zeros, laid}
 use Rattle.octets.specs.BytesLaws.{u16-at, part-is, laid-nil, laid-more, laid-is, length-laid, laid-part, kept-part, zeros-long}
 use Rattle.octets.specs.Walk.{size}
 use Rattle.octets.specs.WalkLaws.{size-is}
-use Rattle.octets.specs.Writing.{chunk, items, wroteCount, wroteBytes, Wrote, wroteAt}
+use Rattle.octets.specs.Writing.{chunk, items, fitting, bothFitting, wroteCount, wroteBytes, Wrote, wroteAt}
 
 -- ---- a chunk
 
@@ -72,6 +72,15 @@ wrote-is {out} {bs} w h k =
     let z : 0 + length bs ≡ length bs = omega arith in
     wrote-fits w h k ∙ laid-is bs out 0 (omega arith) ∙ ap (λ (j : ℕ). bs ++ drop j out) z
 
+pub wrote-within : {out bs exit : List ℕ} {r : ℕ} → Wrote out bs r exit → r ≤ length out
+unfolding wroteCount
+wrote-within {out} {bs} {exit} {r} w = go (ltb 65532 (length bs)) (ltb (length out) (length bs)) refl (w .count)
+  where
+    go : (s t : Bool) → ltb (length out) (length bs) ≡ t → r ≡ pick s 0 (pick t 0 (length bs)) → r ≤ length out
+    go true t e c = omega arith
+    go false true e c = omega arith
+    go false false e c = omega (arith, ltb-false (length out) (length bs) e)
+
 -- a writer at work in the part of xs that begins at `at`
 module _ (at : ℕ) (xs : List ℕ) {bs ys : List ℕ} {r : ℕ} (h : at ≤ length xs) (w : Wrote (take (length xs - at) (drop at xs)) bs r ys) where
   part-long : length (take (length xs - at) (drop at xs)) ≡ length xs - at
@@ -89,6 +98,9 @@ module _ (at : ℕ) (xs : List ℕ) {bs ys : List ℕ} {r : ℕ} (h : at ≤ len
       go true t e = kept-part at xs h e
       go false true e = kept-part at xs h e
       go false false e = laid-part at xs bs h e
+
+  pub part-within : at + r ≤ length xs
+  part-within = omega (arith, part-long, wrote-within w)
 
   -- what it answers
   pub part-count : r ≡ pick (ltb 65532 (length bs)) 0 (pick (ltb (length xs - at) (length bs)) 0 (length bs))
@@ -122,6 +134,120 @@ wrote-none out = record { count = nought (ltb (length out) 0); bytes = same (ltb
     same : (t : Bool) → out ≡ pick t out (laid out 0 [])
     same true = refl
     same false = sym (laid-nil out 0)
+
+-- ---- one writer behind another
+
+-- count bytes, those of bs that fit, stand at a place of out
+record Laid (out : List ℕ) (at room : ℕ) (bs : List ℕ) (count : ℕ) (exit : List ℕ) : Type 0 where
+  within : count ≤ room
+  most : count ≤ length bs
+  count-is : count ≡ length (fitting room bs)
+  exit-is : exit ≡ laid out at (fitting room bs)
+
+laid-fitting : (out : List ℕ) (at room : ℕ) (bs : List ℕ) → length bs ≤ 65532 → {count : ℕ} {exit : List ℕ}
+    → count ≡ pick (ltb 65532 (length bs)) 0 (pick (ltb room (length bs)) 0 (length bs))
+    → exit ≡ pick (ltb 65532 (length bs)) out (pick (ltb room (length bs)) out (laid out at bs)) → Laid out at room bs count exit
+laid-fitting out at room bs h {count} {exit} c x =
+    go (ltb room (length bs)) refl (rw (le-ltb 65532 (length bs) h) at c) (rw (le-ltb 65532 (length bs) h) at x)
+  where
+    go : (t : Bool) → ltb room (length bs) ≡ t → count ≡ pick t 0 (length bs) → exit ≡ pick t out (laid out at bs) → Laid out at room bs count exit
+    go true e p q =
+        let z : count ≡ 0 = p in
+        record { within = omega arith; most = omega arith; count-is = rw e p; exit-is = rw e (q ∙ sym (laid-nil out at)) }
+    go false e p q =
+        let z : count ≡ length bs = p in
+        record { within = omega (arith, ltb-false room (length bs) e); most = omega arith; count-is = rw e p; exit-is = rw e q }
+
+-- a list longer than 65,532 bytes does not fit a room of no more
+laid-long : (out : List ℕ) (at room : ℕ) (bs : List ℕ) → room ≤ 65532 → {count : ℕ} {exit : List ℕ}
+    → count ≡ pick (ltb 65532 (length bs)) 0 (pick (ltb room (length bs)) 0 (length bs))
+    → exit ≡ pick (ltb 65532 (length bs)) out (pick (ltb room (length bs)) out (laid out at bs)) → Laid out at room bs count exit
+laid-long out at room bs h {count} {exit} c x = go (ltb 65532 (length bs)) refl c x
+  where
+    go : (t : Bool) → ltb 65532 (length bs) ≡ t → count ≡ pick t 0 (pick (ltb room (length bs)) 0 (length bs))
+        → exit ≡ pick t out (pick (ltb room (length bs)) out (laid out at bs)) → Laid out at room bs count exit
+    go true e p q =
+        let f : ltb room (length bs) ≡ true = lt-ltb room (length bs) (omega (arith, ltb-true 65532 (length bs) e)) in
+        let z : count ≡ 0 = p in
+        record { within = omega arith; most = omega arith; count-is = rw f p; exit-is = rw f (q ∙ sym (laid-nil out at)) }
+    go false e p q = laid-fitting out at room bs (ltb-false 65532 (length bs) e) (rw e p) (rw e q)
+
+laid-part-fitting : (xs : List ℕ) (at : ℕ) (bs : List ℕ) → length xs ≤ 65532 → at ≤ length xs → {ys : List ℕ} {r : ℕ}
+    → Wrote (take (length xs - at) (drop at xs)) bs r ys → Laid xs at (length xs - at) bs r (take at xs ++ (ys ++ drop (length xs - at) (drop at xs)))
+unfolding wroteAt
+laid-part-fitting xs at bs h k w = laid-long xs at (length xs - at) bs (omega arith) (part-count at xs k w) (wrote-part at xs k w)
+
+take-laid-all : (xs : List ℕ) (at : ℕ) (vs : List ℕ) → at + length vs ≤ length xs → take (at + length vs) (laid xs at vs) ≡ take at xs ++ vs
+take-laid-all xs at vs h =
+    let l : at + length vs ≡ length (take at xs ++ vs) = omega (arith, length-append (take at xs) vs, length-take-le at xs (omega arith)) in
+    (λ i. take (l i) (laid-is vs xs at h i)) ∙ take-append-seam (take at xs ++ vs) (drop (at + length vs) xs)
+
+module _ {xs ys zs a b : List ℕ} {n m : ℕ} (short : length a + length b ≤ 65532) (w : Wrote xs a n ys) (v : Wrote (take (length ys - n) (drop n ys)) b m zs) where
+  one : Laid xs 0 (length xs) a n ys
+  unfolding wroteCount wroteBytes
+  one = laid-fitting xs 0 (length xs) a (omega arith) (w .count) (w .bytes)
+
+  long : length ys ≡ length xs
+  long = ap (λ (l : List ℕ). length l) (one .exit-is) ∙ length-laid xs 0 (fitting (length xs) a)
+
+  room-is : length ys - n ≡ length xs - length (fitting (length xs) a)
+  room-is = let c : n ≡ length (fitting (length xs) a) = one .count-is in omega (arith, long)
+
+  abbrev behind : List ℕ
+  behind = take n ys ++ (zs ++ drop (length ys - n) (drop n ys))
+
+  two : Laid ys n (length ys - n) b m behind
+  unfolding wroteAt
+  two =
+      let h : n ≤ length ys = omega (arith, long, one .within) in
+      laid-fitting ys n (length ys - n) b (omega arith) (part-count n ys h v) (wrote-part n ys h v)
+
+  both-holds : Holds xs (bothFitting (length xs) a b) behind
+  both-holds =
+      rw (← room-is)
+      (then (first xs (fitting (length xs) a) (one .exit-is)) n (fitting (length ys - n) b) (sym (one .count-is)) (two .exit-is))
+
+  both-long : length (bothFitting (length xs) a b) ≡ n + m
+  both-long =
+      rw (← room-is)
+      (length-append (fitting (length xs) a) (fitting (length ys - n) b) ∙ (λ i. sym (one .count-is) i + sym (two .count-is) i))
+
+  -- a second writer in the part of the space behind the first
+  pub wrote-both : Wrote xs (bothFitting (length xs) a b) (n + m) behind
+  wrote-both =
+      wrote-all both-long (omega (arith, one .most, two .most)) (omega (arith, long, one .within, two .within)) both-holds
+
+-- ---- replies gathered one behind the other, each left out whole where it does not fit
+
+-- the first n bytes of xs are bs
+pub record Gathered (xs : List ℕ) (n : ℕ) (bs : List ℕ) : Type 0 where
+  pub within : n ≤ length xs
+  pub is : take n xs ≡ bs
+
+pub gathered-none : (xs : List ℕ) → Gathered xs 0 []
+gathered-none xs = record { within = omega arith; is = refl }
+
+module _ {xs bs : List ℕ} {n : ℕ} (g : Gathered xs n bs) where
+  pub gathered-long : n ≡ length bs
+  gathered-long = sym (length-take-le n xs (g .within)) ∙ ap (λ (l : List ℕ). length l) (g .is)
+
+  pub gathered-more : {ys more : List ℕ} {r : ℕ} → length xs ≤ 65532 → Wrote (take (length xs - n) (drop n xs)) more r ys
+      → (r ≡ length (fitting (length xs - n) more)) × Gathered (take n xs ++ (ys ++ drop (length xs - n) (drop n xs))) (n + r) (bs ++ fitting (length xs - n) more)
+  gathered-more {ys} {more} {r} h w = (more-is .count-is, record { within = within-is; is = is-is })
+    where
+      more-is : Laid xs n (length xs - n) more r (take n xs ++ (ys ++ drop (length xs - n) (drop n xs)))
+      more-is = laid-part-fitting xs n more h (g .within) w
+
+      within-is : n + r ≤ length (take n xs ++ (ys ++ drop (length xs - n) (drop n xs)))
+      within-is =
+          let l : length (take n xs ++ (ys ++ drop (length xs - n) (drop n xs))) ≡ length xs = ap (λ (l : List ℕ). length l) (more-is .exit-is) ∙ length-laid xs n (fitting (length xs - n) more) in
+          omega (arith, l, more-is .within, g .within)
+
+      is-is : take (n + r) (take n xs ++ (ys ++ drop (length xs - n) (drop n xs))) ≡ bs ++ fitting (length xs - n) more
+      is-is =
+          (λ i. take (n + more-is .count-is i) (more-is .exit-is i))
+          ∙ take-laid-all xs n (fitting (length xs - n) more) (omega (arith, more-is .within, more-is .count-is, g .within))
+          ∙ ap (λ (l : List ℕ). l ++ fitting (length xs - n) more) (g .is)
 
 -- ---- lists of items of four bytes
 

@@ -12,7 +12,7 @@ use Rattle.octets.specs.BytesLaws.{laid-more, laid-is, zeros-long, length-laid}
 use Rattle.octets.specs.Walk.{overItems}
 use Rattle.octets.specs.Writing.{Wrote}
 use Rattle.chunks.specs.Frame.{framed}
-use Rattle.chunks.specs.FrameLaws.{from-start, gathered, carry-over, carry-none, carry-is, wrote-as}
+use Rattle.chunks.specs.FrameLaws.{from-start, gathered, framed-long, carry-over, carry-none, carry-is, carry-within, wrote-as}
 use Rattle.chunks.specs.InitChunk.{initFields}
 use Rattle.chunks.specs.Cause.{caused}
 use Rattle.chunks.specs.declared.init.Init.{Init}
@@ -118,6 +118,12 @@ module _ (s : List ℕ) {x y b : List ℕ} {r : ℕ} (l : length x ≡ ROOM) (m 
       let i : take (r - 0) (drop 0 y) ≡ v = collected-is l k ∙ ap (λ (j : List ℕ). gatherAll ROOM false [] j) e in
       rw (carry-is ROOM v (framed 9 0 (caused 8 v)) (omega (arith, v-long, k .within, m)) (λ z. h (sym v-long ∙ z)))
       (wrote-as (ap (λ (j : List ℕ). framed 9 0 (caused 8 j)) i) w)
+
+pub error-within : (s : List ℕ) → length (errorParametersBytes s) ≤ 1448
+unfolding errorParametersBytes
+error-within s =
+    carry-within ROOM (gatherAll ROOM false [] (paramsOf s)) (framed 9 0 (caused 8 (gatherAll ROOM false [] (paramsOf s))))
+    (λ h. omega (arith, framed-long 9 0 (caused 8 (gatherAll ROOM false [] (paramsOf s)))))
 
 module _ (v : Init) (c s : List ℕ) where
   pub init-ack-is : length c ≤ 256 → (length c ≡ 0 → ⊥) → initAckBytes v c s ≡ framed 2 0 (initFields v ++ gatherAll ROOM true (parameter 7 c) (paramsOf s))

@@ -5,4 +5,5 @@ pub mod Opening
 pub mod Carrying
 pub mod Closing
 pub mod Unknown
+pub mod Steps
 pub mod VerdictLaws

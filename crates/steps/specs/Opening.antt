@@ -1,26 +1,35 @@
 -- The chunks that open an association: INIT, INIT ACK, COOKIE ECHO, COOKIE ACK (RFC 9260 section 5.1).
-use Prim.Native.Nat.{ℕ}
+use Prim.Native.Nat.{ℕ, _^_}
 use mathlib.Core.Bool.{Bool, true}
 use mathlib.Core.List.{List, []}
 use lib.Dec.{ltb, eqb}
-use lib.ListN.{length, take, drop}
+use lib.ListN.{length, take, drop, replicate}
 use Rattle.scans.specs.Scan.{pick}
 use Rattle.scans.specs.Upto.{smaller}
+use Rattle.numbers.specs.Numbering.{ring}
+use Rattle.numbers.specs.Profile.{rail}
+use Rattle.octets.specs.Bytes.{laid}
+use Rattle.octets.specs.Writing.{bothFitting}
 use Rattle.chunks.specs.declared.frame.Part.{Part}
 use Rattle.chunks.specs.declared.init.Init.{Init}
 use Rattle.chunks.specs.Frame.{framed, partFrom}
 use Rattle.chunks.specs.InitChunk.{initOf}
 use Rattle.chunks.specs.Cause.{caused}
-use Rattle.parameters.specs.Parameter.{valueOf, isThere, NAME}
-use Rattle.parameters.specs.Report.{initAckBytes}
-use Rattle.states.specs.declared.state.State.the-variants.{Established}
+use Rattle.chunks.specs.CookieChunk.{cookieEchoBytes}
+use Rattle.parameters.specs.Parameter.{valueOf, isThere, COOKIE, NAME}
+use Rattle.parameters.specs.Report.{initAckBytes, errorParametersBytes}
+use Rattle.delivery.specs.Receiving as receiver
+use Rattle.sending.specs.declared.sending.Sending.{Sending}
+use Rattle.states.specs.declared.state.State.the-variants.{Closed, CookieEchoed, Established}
 use Rattle.association.specs.declared.ends.Association.{Association}
-use Rattle.association.specs.Fresh.{started}
+use Rattle.association.specs.declared.ends.Cookie.{Cookie}
+use Rattle.association.specs.Fresh.{started, withState}
 use Rattle.steps.specs.declared.lent.Lent.{Lent}
 use Rattle.steps.specs.declared.lent.Made.{Made}
 use Rattle.steps.specs.declared.lent.Echoed.{Echoed}
 use Rattle.steps.specs.declared.lent.Echoed.the-variants.{Bad, Stale, Good}
-use Rattle.steps.specs.declared.verdict.Event.the-variants.{NoEvent, Up}
+use Rattle.steps.specs.declared.verdict.Event.the-variants.{NoEvent, Up, Down}
+use Rattle.steps.specs.declared.verdict.Reason.the-variants.{HostName}
 use Rattle.steps.specs.declared.verdict.Named.the-variants.{NoCall, ErrorStale}
 use Rattle.steps.specs.Verdict.{Step, accepted, refused, ending}
 
@@ -61,6 +70,51 @@ answerInit a l cookie s =
     (pick (isPoor (initOf s)) (refused a 8 NoCall)
     (pick (isThere NAME s) (accepted a NoEvent (nameRefused s))
     (accepted a NoEvent (initAckBytes (ackOf l (initOf s)) cookie s))))
+
+-- the cookie, kept for T1's resends
+abbrev pub kept : List ℕ → Cookie
+kept cookie = record { bytes = laid (replicate 256 0) 0 cookie; len = length cookie }
+
+abbrev pub withWindow : Sending → ℕ → Sending
+withWindow s w = record {
+  acked = s .acked;
+  «next_tsn» = s .«next_tsn»;
+  advertised = w;
+  oldest = s .oldest;
+  places = s .places;
+  next = s .next;
+  path = s .path;
+}
+
+-- "after our own INIT, the INIT ACK sets its point", and tag, window, streams and cookie with it (section 5.1 C)
+unfoldable pub echoing : Association → Init → Cookie → Association
+echoing a v cookie = record {
+  state = CookieEchoed 0;
+  ends = record {
+    «local_port» = a .ends .«local_port»;
+    «peer_port» = a .ends .«peer_port»;
+    «my_tag» = a .ends .«my_tag»;
+    «peer_tag» = v .tag;
+    «streams_in» = smaller 128 (v .outs);
+    «streams_out» = smaller (a .ends .«streams_out») (v .ins);
+  };
+  cookie = cookie;
+  receiving = receiver.fresh (ring (2 ^ 32)) rail (v .tsn);
+  sending = withWindow (a .sending) (v .window);
+}
+
+-- COOKIE ECHO, and behind it the report of unknown parameters (sections 5.1 C, 3.2.2)
+unfoldable pub echoedBack : ℕ → Association → Init → List ℕ → List ℕ → Step
+echoedBack room a v cookie s =
+    accepted (echoing a v (kept cookie)) NoEvent (bothFitting room (cookieEchoBytes cookie) (errorParametersBytes s))
+
+-- an INIT ACK in COOKIE-WAIT (section 5.1 C); `room` is what is left of the reply
+unfoldable pub takeInitAck : ℕ → Association → List ℕ → Step
+takeInitAck room a s =
+    pick (isPoor (initOf s)) (refused a 8 NoCall)
+    (pick (isOdd (valueOf COOKIE 4 s .len)) (refused a 8 NoCall)
+    (pick (isThere NAME s) (accepted (withState a Closed) (Down HostName) (nameRefused s))
+    (echoedBack room a (initOf s) (bytesOf (valueOf COOKIE 4 s) s) s)))
 
 -- "A good echo … starts from a fresh record" (section 5.1.5)
 unfoldable pub established : Association → ℕ → Made → Association

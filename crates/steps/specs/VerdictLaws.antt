@@ -1,15 +1,20 @@
 -- A step with no reply, and the bytes of a part. Assumes nothing.
-use Prim.Native.Nat.{ℕ, _+_, _-_}
+use Prim.Native.Nat.{ℕ, _+_, _-_, _≤_}
 use mathlib.Core.Path.{_≡_, refl, sym, ap, _∙_}
 use mathlib.Core.List.{List, []}
 use native.Mathlib.Omega.{arith}
-use lib.ListN.{take, drop}
-use Rattle.octets.specs.Writing.{wroteCount, wroteBytes}
-use Rattle.octets.specs.WritingLaws.{wrote-none}
+use borrow.Author.Tests.{ltb-false}
+use lib.ListN.{length, take, drop, length-take}
+use Rattle.octets.specs.Writing.{wroteCount, wroteBytes, Wrote}
+use Rattle.octets.specs.WritingLaws.{wrote-none, WroteAt, stayed, written, wrote-at}
 use Rattle.chunks.specs.declared.frame.Part.{Part}
 use mathlib.Core.Bool.{Bool, true, false}
-use lib.Dec.{eqb}
+use lib.Dec.{eqb, ltb}
 use Rattle.scans.specs.Scan.{pick}
+use Rattle.chunks.specs.CookieChunk.{cookieEchoBytes}
+use Rattle.chunks.specs.CookieLaws.{echo-within}
+use Rattle.parameters.specs.Report.{errorParametersBytes}
+use Rattle.parameters.specs.ReportLaws.{error-within}
 use Rattle.chunks.specs.declared.kind.Handling.{Handling}
 use Rattle.chunks.specs.declared.kind.Handling.the-variants.{Stop, StopAndReport, Skip, SkipAndReport}
 use Rattle.parameters.specs.Stale.{staleIn}
@@ -22,7 +27,7 @@ use Rattle.steps.specs.declared.verdict.Event.the-variants.{NoEvent, Dow
 use Rattle.steps.specs.declared.verdict.Reason.the-variants.{StaleCookie}
 use Rattle.steps.specs.declared.verdict.Owed.the-variants.{Shutdown}
 use Rattle.steps.specs.Verdict.{Step, doneWith, doneIn, accepted, owing, refused}
-use Rattle.steps.specs.Opening.{bytesOf}
+use Rattle.steps.specs.Opening.{bytesOf, isOdd}
 use Rattle.steps.specs.Carrying.{isKept, arrivalOf, dataRead, readData, readLateData, heardSack, sackCall, sackRead, isLast, readSack, readSackPending, clearTries}
 use Rattle.steps.specs.Closing.{readError}
 use Rattle.steps.specs.Unknown.{passUnknown}
@@ -32,12 +37,41 @@ pub quiet-done : (space : List ℕ) (s : Step) → s .reply ≡ [] → doneWith 
 quiet-done space s e =
     ap (λ (n : ℕ). doneWith n s) (wrote-none space .count ∙ ap (λ (bs : List ℕ). wroteCount space bs) (sym e))
 
-pub quiet-space : (space : List ℕ) (s : Step) → s .reply ≡ [] → space ≡ wroteBytes space (s .reply)
-quiet-space space s e = wrote-none space .bytes ∙ ap (λ (bs : List ℕ). wroteBytes space bs) (sym e)
+pub quiet-space : (space : List ℕ) (bs : List ℕ) → bs ≡ [] → space ≡ wroteBytes space bs
+quiet-space space bs e = wrote-none space .bytes ∙ ap (λ (l : List ℕ). wroteBytes space l) (sym e)
 
 -- a part of a slice, cut from where it starts to where it ends
 pub part-bytes : (p : Part) (s : List ℕ) → take (p .at + p .len - p .at) (drop (p .at) s) ≡ bytesOf p s
 part-bytes p s = let e : p .at + p .len - p .at ≡ p .len = omega arith in ap (λ (n : ℕ). take n (drop (p .at) s)) e
+
+-- a part that is no odd cookie is short
+pub cookie-short : (p : Part) (s : List ℕ) → isOdd (p .len) ≡ false → length (take (p .at + p .len - p .at) (drop (p .at) s)) ≤ 256
+cookie-short p s h =
+    let e : length (take (p .at + p .len - p .at) (drop (p .at) s)) ≤ p .len = omega (arith, length-take (p .at + p .len - p .at) (drop (p .at) s)) in
+    go (ltb (p .len) 1) (ltb 256 (p .len)) refl h e
+  where
+    go : (t u : Bool) → ltb 256 (p .len) ≡ u → pick t true u ≡ false → length (take (p .at + p .len - p .at) (drop (p .at) s)) ≤ p .len
+        → length (take (p .at + p .len - p .at) (drop (p .at) s)) ≤ 256
+    go true u f k e = absurd (omega (arith, ap (λ (b : Bool). pick {A = ℕ} b 0 1) k))
+    go false true f k e = absurd (omega (arith, ap (λ (b : Bool). pick {A = ℕ} b 0 1) k))
+    go false false f k e = omega (arith, ltb-false 256 (p .len) f)
+
+-- a writer writes no more than it was given
+wrote-most : {xs a ys : List ℕ} {n : ℕ} → Wrote xs a n ys → n ≤ length a
+wrote-most {xs} {a} {ys} {n} w = go (w .count) (wrote-at xs 0 a)
+  where
+    go : {k : ℕ} {e : List ℕ} → n ≡ k → WroteAt xs 0 a k e → n ≤ length a
+    go p (stayed z q) = omega arith
+    go p (written l z q) = omega arith
+
+pub echo-few : (cookie : List ℕ) {xs ys : List ℕ} {n : ℕ} → Wrote xs (cookieEchoBytes cookie) n ys → n ≤ 260
+echo-few cookie w = omega (arith, wrote-most w, echo-within cookie)
+
+pub error-few : (s : List ℕ) {xs ys : List ℕ} {n : ℕ} → Wrote xs (errorParametersBytes s) n ys → n ≤ 1448
+error-few s w = omega (arith, wrote-most w, error-within s)
+
+pub echo-short : (cookie s : List ℕ) → length (cookieEchoBytes cookie) + length (errorParametersBytes s) ≤ 65532
+echo-short cookie s = omega (arith, echo-within cookie, error-within s)
 
 -- rows that add nothing to the reply
 

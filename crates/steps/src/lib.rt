@@ -1,10 +1,13 @@
 pub mod carrying;
+pub mod chunk;
 pub mod closing;
 pub mod lent;
 pub mod opening;
 pub mod unknown;
 pub mod verdict;
 
+pub use crate::chunk::Beside;
+pub use crate::chunk::step;
 pub use crate::lent::Echoed;
 pub use crate::lent::Lent;
 pub use crate::lent::Made;

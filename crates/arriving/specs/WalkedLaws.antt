@@ -1,0 +1,127 @@
+-- What a chunk and the walk leave. Assumes nothing.
+use Prim.Native.Nat.{ℕ, _+_, _-_, _<_, _≤_}
+use mathlib.Core.Path.{_≡_, refl, sym, ap, _∙_}
+use mathlib.Core.Bool.{Bool, true, false}
+use mathlib.Core.List.{List, [], _++_}
+use native.Mathlib.Omega.{arith}
+use lib.Dec.{ltb}
+use lib.ListN.{length, take, drop, set, replicate, length-drop}
+use Rattle.scans.specs.Scan.{pick}
+use Rattle.octets.specs.BytesLaws.{part-is}
+use Rattle.octets.specs.Writing.{fitting, wroteCount, wroteBytes, Wrote}
+use Rattle.octets.specs.WritingLaws.{wrote-within, Gathered, gathered-long, gathered-more}
+use Rattle.steps.specs.declared.chunk.Beside.{Beside}
+use Rattle.association.specs.declared.ends.Association.{Association}
+use Rattle.steps.specs.declared.verdict.Done.{Done}
+use Rattle.steps.specs.declared.verdict.Owed.the-variants.{Nothing}
+use Rattle.steps.specs.Verdict.{Step, doneWith, doneIn}
+use Rattle.steps.specs.Steps.{stepOf, areaOf}
+use Rattle.arriving.specs.declared.verdict.Verdict.{Verdict}
+use Rattle.arriving.specs.declared.walk.Walked.{Walked}
+use Rattle.arriving.specs.Verdict.{unreadAt}
+use Rattle.arriving.specs.Walked.{Turn, turnOf, noted, takenIn, besideAt, turned}
+
+-- which way a test goes
+so : {A : Type 0} {t : Bool} (a b : A) → t ≡ true → a ≡ pick t a b
+so a b h = ap (λ (s : Bool). pick s a b) (sym h)
+
+not-so : {A : Type 0} {t : Bool} (a b : A) → t ≡ false → b ≡ pick t a b
+not-so a b h = ap (λ (s : Bool). pick s a b) (sym h)
+
+noted-used : (w : Walked) (v : Verdict) → noted w v .used ≡ w .used
+unfolding noted
+noted-used w v = go (ltb (w .count) 365)
+  where
+    go : (t : Bool) → pick t (record { association = w .association; count = w .count + 1; verdicts = set (w .verdicts) (w .count) v; used = w .used; unread = w .unread; due = w .due; complete = w .complete }) w .used ≡ w .used
+    go true = refl
+    go false = refl
+
+taken-used : (w : Walked) (at : ℕ) (d : Done) → takenIn w at d .used ≡ w .used + d .written
+unfolding takenIn
+taken-used w at d = noted-used _ _
+
+-- the replies so far at the head of xs, and the room behind them
+module _ (xs : List ℕ) (n : ℕ) (long : length xs ≡ 1460) (fit : n ≤ 1460) where
+  pub so-far : Gathered xs n (take n xs)
+  so-far = record { within = omega arith; is = refl }
+
+  pub room-is : length xs - n ≡ 1460 - length (take n xs)
+  room-is = let u : n ≡ length (take n xs) = gathered-long so-far in omega arith
+
+-- a chunk that finds them there
+module _ (at : ℕ) (b : Beside) (cookie s : List ℕ) (w : Walked) (area xs : List ℕ) (long : length xs ≡ 1460) (fit : w .used ≤ 1460) where
+  abbrev part : List ℕ
+  part = take (length xs - w .used) (drop (w .used) xs)
+
+  abbrev room : ℕ
+  room = 1460 - length (take (w .used) xs)
+
+  abbrev stepIn : ℕ → Step
+  stepIn room = stepOf room (w .association) (besideAt at b) cookie s
+
+  part-long : length part ≡ length xs - w .used
+  part-long = ap (λ (l : List ℕ). length l) (part-is xs (w .used)) ∙ length-drop (w .used) xs
+
+  pub turn-unread : w .unread ≡ true → {r : Walked} → r ≡ noted w (unreadAt at)
+      → (turnOf r area xs ≡ turned at b cookie s (turnOf w area xs)) × (r .used ≤ 1460)
+  unfolding turned
+  turn-unread h {r} e =
+      let u : r .used ≡ w .used = ap (λ (v : Walked). v .used) e ∙ noted-used w (unreadAt at) in
+      ((λ i. record { walked = e i; area = area; reply = take (u i) xs }) ∙ so _ _ h, omega arith)
+
+  module _ {d : Done} (e : d ≡ doneIn part (stepIn (length part))) {ys : List ℕ} (y : ys ≡ wroteBytes part (stepIn (length part) .reply)) where
+    wrote : Wrote part (stepIn (length part) .reply) (d .written) ys
+    wrote = record { count = ap (λ (o : Done). o .written) e; bytes = y }
+
+    pub written-within : w .used + d .written ≤ 1460
+    written-within = omega (arith, wrote-within wrote, part-long)
+
+    pub turn-read : w .unread ≡ false → {r : Walked} {area' : List ℕ} → area' ≡ areaOf (w .association) (besideAt at b) area s → r ≡ takenIn w at d
+        → (turnOf r area' (take (w .used) xs ++ (ys ++ drop (length xs - w .used) (drop (w .used) xs))) ≡ turned at b cookie s (turnOf w area xs)) × (r .used ≤ 1460)
+    unfolding turned
+    turn-read h {r} {area'} k t = (whole ∙ not-so _ _ h, omega (arith, used, written-within))
+      where
+        more : (d .written ≡ length (fitting (length xs - w .used) (stepIn (length part) .reply))) × Gathered (take (w .used) xs ++ (ys ++ drop (length xs - w .used) (drop (w .used) xs))) (w .used + d .written) (take (w .used) xs ++ fitting (length xs - w .used) (stepIn (length part) .reply))
+        more = gathered-more (so-far xs (w .used) long fit) (omega arith) wrote
+
+        rooms : length xs - w .used ≡ room
+        rooms = room-is xs (w .used) long fit
+
+        whole-room : length part ≡ room
+        whole-room = part-long ∙ rooms
+
+        count : wroteCount part (stepIn (length part) .reply) ≡ length (fitting room (stepIn room .reply))
+        count = sym (wrote .count) ∙ more .0 ∙ (λ i. length (fitting (rooms i) (stepIn (whole-room i) .reply)))
+
+        done : d ≡ doneWith (length (fitting room (stepIn room .reply))) (stepIn room)
+        done = e ∙ (λ i. doneWith (count i) (stepIn (whole-room i)))
+
+        used : r .used ≡ w .used + d .written
+        used = ap (λ (v : Walked). v .used) t ∙ taken-used w at d
+
+        gathered : take (r .used) (take (w .used) xs ++ (ys ++ drop (length xs - w .used) (drop (w .used) xs))) ≡ take (w .used) xs ++ fitting room (stepIn room .reply)
+        gathered =
+            ap (λ (n : ℕ). take n (take (w .used) xs ++ (ys ++ drop (length xs - w .used) (drop (w .used) xs)))) used
+            ∙ more .1 .is ∙ (λ i. take (w .used) xs ++ fitting (rooms i) (stepIn (whole-room i) .reply))
+
+        whole : turnOf r area' (take (w .used) xs ++ (ys ++ drop (length xs - w .used) (drop (w .used) xs)))
+            ≡ record { walked = takenIn w at (doneWith (length (fitting room (stepIn room .reply))) (stepIn room)); area = areaOf (w .association) (besideAt at b) area s; reply = take (w .used) xs ++ fitting room (stepIn room .reply) }
+        whole = λ i. record { walked = (t ∙ ap (λ (o : Done). takenIn w at o) done) i; area = k i; reply = gathered i }
+
+-- where a chunk begins, seen from what is left
+begins : (packet : List ℕ) (at : ℕ) → at < length packet → {t : List ℕ} → t ≡ take (length packet - at) (drop at packet) → at ≡ length packet - length t
+begins packet at h {t} e =
+    let l : length t ≡ length packet - at = ap (λ (l : List ℕ). length l) (e ∙ part-is packet at) ∙ length-drop at packet in
+    omega arith
+
+pub turned-there : (packet : List ℕ) (at : ℕ) (b : Beside) (cookie : List ℕ) (u : Turn) → at < length packet → (t : List ℕ) → t ≡ take (length packet - at) (drop at packet)
+    → {q : Turn} → q ≡ turned at b cookie t u → q ≡ turned (length packet - length t) b cookie t u
+turned-there packet at b cookie u h t e k = k ∙ ap (λ (j : ℕ). turned j b cookie t u) (begins packet at h e)
+
+-- where the walk begins, with a verdict that stands for none
+abbrev pub started : Association → List ℕ → Verdict → Turn
+started a area v = record {
+  walked = record { association = a; count = 0; verdicts = replicate 365 v; used = 0; unread = false; due = false; complete = Nothing };
+  area = area;
+  reply = [];
+}
