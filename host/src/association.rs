@@ -1,0 +1,280 @@
+//! The core behind safe calls. It adds no test of its own: whatever a call is handed, the core answers.
+
+use crate::calls::{
+    Acknowledged, Answer, Arrived, Cause, Echoed, Expired, Fate, Init, Lent, Made, Named, NotTaken, Peeked, Refusal, Standing, State, Taken,
+    Transmitted, Turn, Verdict, AREA, PAYLOAD,
+};
+use crate::ffi;
+use crate::library::Library;
+use std::marker::PhantomData;
+use std::time::Duration;
+
+/// A record of the core with its two areas. Every `out` below is to have at least `OUTPUT` bytes, and a call that is not refused has written its packet
+/// there.
+pub struct Association<L> {
+    record: ffi::Record,
+    received: Box<[u8]>,
+    to_send: Box<[u8]>,
+    library: PhantomData<L>,
+}
+
+/// The first chunk of a packet, if it is one that the host has to know of before the packet arrives.
+pub fn peek<L: Library>(packet: &[u8]) -> Peeked {
+    let seen = L::peek(packet);
+    if seen.number != 0 {
+        return Peeked::Refused(Refusal(seen.number));
+    }
+    match seen.kind {
+        ffi::SAW_INIT => Peeked::Init(Init {
+            source: seen.source,
+            tag: seen.tag,
+            window: seen.window,
+            outs: seen.outs,
+            ins: seen.ins,
+            tsn: seen.tsn,
+        }),
+        ffi::SAW_COOKIE_ECHO => Peeked::Echo { at: seen.at, len: seen.len },
+        _ => Peeked::Nothing,
+    }
+}
+
+impl<L: Library> Association<L> {
+    pub fn closed(port: u16) -> Association<L> {
+        Association::from_record(L::closed(port))
+    }
+
+    /// An association from a record of any origin: the core tests it at each call.
+    pub fn from_record(record: ffi::Record) -> Association<L> {
+        Association {
+            record,
+            received: vec![0; AREA].into_boxed_slice(),
+            to_send: vec![0; AREA].into_boxed_slice(),
+            library: PhantomData,
+        }
+    }
+
+    pub fn record(&self) -> &ffi::Record {
+        &self.record
+    }
+
+    pub fn standing(&self) -> Standing {
+        let receiving = &self.record.receiving;
+        let sending = &self.record.sending;
+        let free = receiving.held.iter().filter(|place| !place.used).count();
+        Standing {
+            state: state_of(self.record.state),
+            rto: Duration::from_millis(u64::from(sending.path.clock.rto)),
+            my_tag: self.record.ends.my_tag,
+            streams_out: self.record.ends.streams_out,
+            acked: sending.acked,
+            next_tsn: sending.next_tsn,
+            has_gap: receiving.keeping.come.contains(&true),
+            window: (free * PAYLOAD) as u32,
+        }
+    }
+
+    pub fn arrive(&mut self, packet: &[u8], lent: &Lent, echoed: Echoed, out: &mut [u8]) -> Answer<Arrived> {
+        let values = ffi::Lent {
+            tag: lent.tag,
+            tsn: lent.tsn,
+            streams: lent.streams,
+        };
+        let answer = L::arrive(self.record, &mut self.received, packet, values, &lent.cookie, echoed_for_c(echoed), out);
+        self.record = answer.association;
+        let verdicts = answer.verdicts.iter().take(answer.count).map(verdict_of).collect();
+        answered(
+            answer.number,
+            Arrived {
+                verdicts,
+                reply: answer.length,
+            },
+        )
+    }
+
+    pub fn associate(&mut self, tag: u32, tsn: u32, port: u16, streams: u16, out: &mut [u8]) -> Answer<usize> {
+        self.keep(L::associate(self.record, tag, tsn, port, streams, out))
+    }
+
+    /// The number of chunks that the message was cut into.
+    pub fn hand_in(&mut self, message: &[u8], stream: u16, unordered: bool, ppid: u32) -> Answer<usize> {
+        let answer = L::hand_in(self.record, &mut self.to_send, message, stream, unordered, ppid);
+        self.record = answer.association;
+        answered(answer.number, answer.chunks)
+    }
+
+    pub fn transmit(&mut self, out: &mut [u8]) -> Answer<Transmitted> {
+        let answer = L::transmit(self.record, &self.to_send, out);
+        self.record = answer.association;
+        answered(
+            answer.number,
+            Transmitted {
+                length: answer.length,
+                resent: answer.resent,
+                first: answer.first,
+                last: answer.last,
+            },
+        )
+    }
+
+    /// The buffer may have any length.
+    pub fn take(&mut self, out: &mut [u8]) -> Result<Taken, NotTaken> {
+        let answer = L::take(self.record, &self.received, out);
+        self.record = answer.association;
+        let message = answer.message;
+        match answer.number {
+            0 => Ok(Taken {
+                length: message.length,
+                stream: message.stream,
+                unordered: message.unordered,
+                ssn: message.ssn,
+                ppid: message.ppid,
+            }),
+            ffi::SHORT => Err(NotTaken::Short(message.length)),
+            number => Err(NotTaken::Refused(Refusal(number))),
+        }
+    }
+
+    pub fn sack(&mut self, out: &mut [u8]) -> Answer<Acknowledged> {
+        let answer = L::sack(self.record, out);
+        self.record = answer.association;
+        answered(
+            answer.number,
+            Acknowledged {
+                length: answer.length,
+                window: answer.sack.window,
+            },
+        )
+    }
+
+    pub fn t1(&mut self, out: &mut [u8]) -> Answer<Expired> {
+        self.keep_expiry(L::t1(self.record, out))
+    }
+
+    pub fn t2(&mut self, out: &mut [u8]) -> Answer<Expired> {
+        self.keep_expiry(L::t2(self.record, out))
+    }
+
+    pub fn t3(&mut self) -> Answer<Expired> {
+        self.keep_expiry(L::t3(self.record))
+    }
+
+    pub fn shutdown(&mut self, out: &mut [u8]) -> Answer<usize> {
+        self.keep(L::shutdown(self.record, out))
+    }
+
+    pub fn abort(&mut self, cause: Cause, out: &mut [u8]) -> Answer<usize> {
+        let (number, tsn) = cause_for_c(cause);
+        self.keep(L::abort(self.record, number, tsn, out))
+    }
+
+    pub fn error_stream(&mut self, stream: u16, out: &mut [u8]) -> Answer<usize> {
+        self.keep(L::error_stream(self.record, stream, out))
+    }
+
+    pub fn error_stale(&mut self, port: u16, tag: u32, late: u32, out: &mut [u8]) -> Answer<usize> {
+        self.keep(L::error_stale(self.record, port, tag, late, out))
+    }
+
+    pub fn heartbeat(&mut self, value: [u8; 8], out: &mut [u8]) -> Answer<usize> {
+        self.keep(L::heartbeat(self.record, value, out))
+    }
+
+    pub fn rtt(&mut self, sample: Duration) -> Answer<()> {
+        let milliseconds = u32::try_from(sample.as_millis()).unwrap_or(u32::MAX);
+        self.keep(L::rtt(self.record, milliseconds)).map(|_| ())
+    }
+
+    fn keep(&mut self, answer: ffi::Answer) -> Answer<usize> {
+        self.record = answer.association;
+        answered(answer.number, answer.length)
+    }
+
+    fn keep_expiry(&mut self, answer: ffi::Answer) -> Answer<Expired> {
+        let over = answer.over;
+        self.keep(answer).map(|length| match over {
+            true => Expired::Over,
+            false => Expired::TriedAgain(length),
+        })
+    }
+}
+
+fn answered<T>(number: u8, value: T) -> Answer<T> {
+    match number {
+        0 => Ok(value),
+        n => Err(Refusal(n)),
+    }
+}
+
+/// The state of a number. A record with any other number can do nothing: the core refuses it.
+fn state_of(number: u8) -> State {
+    match number {
+        ffi::COOKIE_WAIT => State::CookieWait,
+        ffi::COOKIE_ECHOED => State::CookieEchoed,
+        ffi::ESTABLISHED => State::Established,
+        ffi::SHUTDOWN_PENDING => State::ShutdownPending,
+        ffi::SHUTDOWN_SENT => State::ShutdownSent,
+        ffi::SHUTDOWN_RECEIVED => State::ShutdownReceived,
+        ffi::SHUTDOWN_ACK_SENT => State::ShutdownAckSent,
+        _ => State::Closed,
+    }
+}
+
+fn echoed_for_c(echoed: Echoed) -> ffi::Echoed {
+    let (word, made) = match echoed {
+        Echoed::Bad => (ffi::BAD, ffi::Made::default()),
+        Echoed::Stale(made) => (ffi::LATE, made_for_c(made)),
+        Echoed::Good(made) => (ffi::GOOD, made_for_c(made)),
+    };
+    ffi::Echoed { word, made }
+}
+
+fn made_for_c(made: Made) -> ffi::Made {
+    ffi::Made {
+        my_tag: made.my_tag,
+        peer_tag: made.peer_tag,
+        streams_in: made.streams_in,
+        streams_out: made.streams_out,
+        my_tsn: made.my_tsn,
+        peer_tsn: made.peer_tsn,
+        window: made.window,
+    }
+}
+
+fn verdict_of(verdict: &ffi::Verdict) -> Verdict {
+    Verdict {
+        at: verdict.at,
+        fate: match verdict.fate {
+            ffi::ACCEPTED => Fate::Accepted,
+            ffi::REFUSED => Fate::Refused(Refusal(verdict.number)),
+            ffi::SKIPPED => Fate::Skipped { reported: false },
+            ffi::SKIPPED_REPORTED => Fate::Skipped { reported: true },
+            ffi::STOPPED => Fate::Stopped { reported: false },
+            ffi::STOPPED_REPORTED => Fate::Stopped { reported: true },
+            _ => Fate::Unread,
+        },
+        named: match verdict.cause {
+            ffi::CAUSE_STREAM => Named::ErrorStream(verdict.value as u16),
+            ffi::CAUSE_STALE => Named::ErrorStale,
+            ffi::CAUSE_NO_DATA => Named::Abort(Cause::NoData(verdict.value)),
+            ffi::CAUSE_VIOLATION => Named::Abort(Cause::Violation),
+            _ => Named::NoCall,
+        },
+        turn: match verdict.event {
+            ffi::UP => Turn::Up,
+            ffi::DOWN_ABORT => Turn::Aborted,
+            ffi::DOWN_STALE => Turn::StaleCookie,
+            ffi::DOWN_HOST_NAME => Turn::HostName,
+            ffi::DOWN_SHUT_DOWN => Turn::ShutDown,
+            _ => Turn::None,
+        },
+    }
+}
+
+/// The number of a cause on the wire, and the TSN that goes with it.
+fn cause_for_c(cause: Cause) -> (u8, u32) {
+    match cause {
+        Cause::User => (ffi::CAUSE_USER, 0),
+        Cause::NoData(tsn) => (ffi::CAUSE_NO_DATA, tsn),
+        Cause::Violation => (ffi::CAUSE_VIOLATION, 0),
+    }
+}

@@ -1,0 +1,233 @@
+//! State cookies (RFC 9260 section 5.1.3): what an association starts from, when the cookie was made and for whom, signed with a key that only this
+//! endpoint has. Nothing is kept for an INIT; only cookies that were used are remembered, until they are too old to be good anyway.
+
+use crate::calls::{Init, Made, STREAMS_MOST};
+use crate::hmac::{hmac_sha256, is_same_code, DIGEST};
+use std::net::{IpAddr, SocketAddr};
+use std::time::{Duration, Instant};
+
+/// RFC 9260 section 16: Valid.Cookie.Life.
+pub const LIFETIME: Duration = Duration::from_secs(60);
+
+const SIGNED: usize = 50;
+const COOKIE: usize = SIGNED + DIGEST;
+
+#[derive(Clone, Copy, Debug, PartialEq, Eq)]
+pub enum Judgement {
+    Bad,
+    /// Ours, and so long past its lifetime.
+    Stale(Made, Duration),
+    Good(Made),
+}
+
+pub struct CookieJar {
+    key: [u8; DIGEST],
+    opened: Instant,
+    used: Vec<(u32, Instant)>,
+}
+
+impl CookieJar {
+    pub fn new(key: [u8; DIGEST], now: Instant) -> CookieJar {
+        CookieJar {
+            key,
+            opened: now,
+            used: Vec::new(),
+        }
+    }
+
+    pub fn bake(&self, made: Made, from: SocketAddr, port: u16, now: Instant) -> Vec<u8> {
+        let mut cookie = Vec::with_capacity(COOKIE);
+        cookie.extend_from_slice(&made.my_tag.to_be_bytes());
+        cookie.extend_from_slice(&made.peer_tag.to_be_bytes());
+        cookie.extend_from_slice(&made.streams_in.to_be_bytes());
+        cookie.extend_from_slice(&made.streams_out.to_be_bytes());
+        cookie.extend_from_slice(&made.my_tsn.to_be_bytes());
+        cookie.extend_from_slice(&made.peer_tsn.to_be_bytes());
+        cookie.extend_from_slice(&made.window.to_be_bytes());
+        cookie.extend_from_slice(&self.age(now).to_be_bytes());
+        cookie.extend_from_slice(&port.to_be_bytes());
+        cookie.extend_from_slice(&address_bytes(from.ip()));
+        let code = hmac_sha256(&self.key, &cookie);
+        cookie.extend_from_slice(&code);
+        cookie
+    }
+
+    /// The word on a cookie that this peer echoes.
+    pub fn judge(&self, cookie: &[u8], from: SocketAddr, port: u16, now: Instant) -> Judgement {
+        if cookie.len() != COOKIE {
+            return Judgement::Bad;
+        }
+        let (signed, code) = cookie.split_at(SIGNED);
+        if !is_same_code(&hmac_sha256(&self.key, signed), code) {
+            return Judgement::Bad;
+        }
+        let mut fields = Fields(signed);
+        let made = Made {
+            my_tag: fields.word(),
+            peer_tag: fields.word(),
+            streams_in: fields.half(),
+            streams_out: fields.half(),
+            my_tsn: fields.word(),
+            peer_tsn: fields.word(),
+            window: fields.word(),
+        };
+        let baked = Duration::from_millis(fields.double());
+        let is_for_this_peer = fields.half() == port && fields.0 == address_bytes(from.ip());
+        if !is_for_this_peer || self.used.iter().any(|(tag, _)| *tag == made.my_tag) {
+            return Judgement::Bad;
+        }
+        let age = now.saturating_duration_since(self.opened + baked);
+        match age.checked_sub(LIFETIME) {
+            Some(late) if late > Duration::ZERO => Judgement::Stale(made, late),
+            _ => Judgement::Good(made),
+        }
+    }
+
+    /// An association started from the cookie with this tag of ours: it is good for no second one.
+    pub fn spend(&mut self, my_tag: u32, now: Instant) {
+        self.used.retain(|(_, when)| now.saturating_duration_since(*when) <= LIFETIME);
+        self.used.push((my_tag, now));
+    }
+
+    fn age(&self, now: Instant) -> u64 {
+        now.saturating_duration_since(self.opened).as_millis() as u64
+    }
+}
+
+/// What an association starts from, if this INIT is answered with such a tag, first TSN and number of streams (RFC 9260 section 5.1.1).
+pub fn agreed(init: &Init, my_tag: u32, my_tsn: u32, streams: u16) -> Made {
+    Made {
+        my_tag,
+        peer_tag: init.tag,
+        streams_in: init.outs.min(STREAMS_MOST),
+        streams_out: streams.min(STREAMS_MOST).min(init.ins),
+        my_tsn,
+        peer_tsn: init.tsn,
+        window: init.window,
+    }
+}
+
+fn address_bytes(address: IpAddr) -> [u8; 16] {
+    match address {
+        IpAddr::V4(four) => four.to_ipv6_mapped().octets(),
+        IpAddr::V6(six) => six.octets(),
+    }
+}
+
+/// Reads fields from the head of a slice that has them.
+struct Fields<'a>(&'a [u8]);
+
+impl Fields<'_> {
+    fn number(&mut self, length: usize) -> u64 {
+        let (field, rest) = self.0.split_at(length);
+        self.0 = rest;
+        field.iter().fold(0, |number, byte| number << 8 | u64::from(*byte))
+    }
+
+    fn half(&mut self) -> u16 {
+        self.number(2) as u16
+    }
+
+    fn word(&mut self) -> u32 {
+        self.number(4) as u32
+    }
+
+    fn double(&mut self) -> u64 {
+        self.number(8)
+    }
+}
+
+#[cfg(test)]
+mod tests {
+    use super::*;
+
+    const MADE: Made = Made {
+        my_tag: 0x0102_0304,
+        peer_tag: 0xfffe_fdfc,
+        streams_in: 8,
+        streams_out: 127,
+        my_tsn: 4_294_967_196,
+        peer_tsn: 7,
+        window: 65_536,
+    };
+
+    fn peer() -> SocketAddr {
+        SocketAddr::from(([192, 0, 2, 7], 9899))
+    }
+
+    fn jar(now: Instant) -> CookieJar {
+        CookieJar::new([9; DIGEST], now)
+    }
+
+    #[test]
+    fn a_fresh_cookie_is_good_and_fits_the_core() {
+        let now = Instant::now();
+        let cookie = jar(now).bake(MADE, peer(), 5001, now);
+        assert!(cookie.len() <= 256);
+        assert_eq!(jar(now).judge(&cookie, peer(), 5001, now + LIFETIME), Judgement::Good(MADE));
+    }
+
+    #[test]
+    fn a_cookie_past_its_lifetime_is_stale_by_so_much() {
+        let now = Instant::now();
+        let jar = jar(now);
+        let baked = now + Duration::from_secs(5);
+        let cookie = jar.bake(MADE, peer(), 5001, baked);
+        let late = Duration::from_millis(1500);
+        assert_eq!(jar.judge(&cookie, peer(), 5001, baked + LIFETIME + late), Judgement::Stale(MADE, late));
+    }
+
+    #[test]
+    fn any_changed_bit_makes_it_bad() {
+        let now = Instant::now();
+        let jar = jar(now);
+        let cookie = jar.bake(MADE, peer(), 5001, now);
+        for bit in 0..cookie.len() * 8 {
+            let mut changed = cookie.clone();
+            changed[bit / 8] ^= 1 << (bit % 8);
+            assert_eq!(jar.judge(&changed, peer(), 5001, now), Judgement::Bad, "bit {}", bit);
+        }
+    }
+
+    #[test]
+    fn another_length_key_port_or_address_makes_it_bad() {
+        let now = Instant::now();
+        let jar = jar(now);
+        let cookie = jar.bake(MADE, peer(), 5001, now);
+        let stranger = SocketAddr::from(([192, 0, 2, 8], 9899));
+        assert_eq!(jar.judge(&cookie[1..], peer(), 5001, now), Judgement::Bad);
+        assert_eq!(jar.judge(&[], peer(), 5001, now), Judgement::Bad);
+        assert_eq!(jar.judge(&cookie, peer(), 5002, now), Judgement::Bad);
+        assert_eq!(jar.judge(&cookie, stranger, 5001, now), Judgement::Bad);
+        let other = CookieJar::new([8; DIGEST], now);
+        assert_eq!(other.judge(&cookie, peer(), 5001, now), Judgement::Bad);
+    }
+
+    #[test]
+    fn a_used_cookie_is_bad_and_forgotten_once_it_would_be_stale() {
+        let now = Instant::now();
+        let mut jar = jar(now);
+        let cookie = jar.bake(MADE, peer(), 5001, now);
+        jar.spend(MADE.my_tag, now);
+        assert_eq!(jar.judge(&cookie, peer(), 5001, now), Judgement::Bad);
+        let later = now + LIFETIME + Duration::from_millis(1);
+        jar.spend(1, later);
+        assert_eq!(jar.judge(&cookie, peer(), 5001, later), Judgement::Stale(MADE, Duration::from_millis(1)));
+    }
+
+    #[test]
+    fn streams_are_agreed_by_the_smaller_number() {
+        let init = Init {
+            source: 5001,
+            tag: 3,
+            window: 2000,
+            outs: 300,
+            ins: 10,
+            tsn: 4,
+        };
+        let made = agreed(&init, 1, 2, 200);
+        assert_eq!((made.streams_in, made.streams_out), (128, 10));
+        let wide = agreed(&Init { ins: 500, ..init }, 1, 2, 200);
+        assert_eq!(wide.streams_out, 128);
+    }
+}

@@ -1,0 +1,51 @@
+//! What an endpoint did and was refused.
+
+use crate::calls::Refusal;
+
+const NUMBERS: usize = 28;
+
+#[derive(Clone, Copy, Debug, Default, PartialEq, Eq)]
+pub struct Counts {
+    pub packets_sent: u64,
+    pub packets_received: u64,
+    pub bytes_sent: u64,
+    pub messages_in: u64,
+    pub messages_out: u64,
+    pub resent: u64,
+    pub acknowledgements: u64,
+    pub expiries: u64,
+    pub last_words: u64,
+    refused: [u64; NUMBERS],
+}
+
+impl Counts {
+    pub fn refuse(&mut self, refusal: Refusal) {
+        if let Some(count) = self.refused.get_mut(usize::from(refusal.0)) {
+            *count += 1;
+        }
+    }
+
+    /// How often each number was answered, of those that were.
+    pub fn refusals(&self) -> impl Iterator<Item = (Refusal, u64)> + '_ {
+        (0u8..)
+            .zip(self.refused)
+            .filter(|(_, count)| *count > 0)
+            .map(|(number, count)| (Refusal(number), count))
+    }
+}
+
+#[cfg(test)]
+mod tests {
+    use super::*;
+
+    #[test]
+    fn refusals_are_counted_by_number() {
+        let mut counts = Counts::default();
+        counts.refuse(Refusal(11));
+        counts.refuse(Refusal(27));
+        counts.refuse(Refusal(11));
+        counts.refuse(Refusal(200));
+        let told: Vec<_> = counts.refusals().collect();
+        assert_eq!(told, [(Refusal(11), 2), (Refusal(27), 1)]);
+    }
+}

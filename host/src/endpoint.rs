@@ -1,0 +1,575 @@
+//! One end of an association, without a socket and without a clock of its own: packets and moments go in, packets and events come out. What the core decides is
+//! the core's; here stands what it leaves to the host: timers, when to acknowledge, which round trips count, cookies, and the calls that verdicts name.
+
+use crate::acknowledging::DelayedSack;
+use crate::association::{peek, Association};
+use crate::calls::{
+    Answer, Arrived, Cause, Echoed, Expired, Fate, Lent, Named, NotTaken, Peeked, Refusal, Standing, State, Taken, Turn, Verdict, MESSAGE_MOST,
+    OUTPUT,
+};
+use crate::cookie::{agreed, CookieJar, Judgement};
+use crate::counts::Counts;
+use crate::heartbeat::{self, Heartbeat};
+use crate::last_word::{chunk_at, LastWord};
+use crate::library::Library;
+use crate::random::Random;
+use crate::round_trip::RoundTrip;
+use crate::timers::{Alarm, Timers};
+use std::collections::VecDeque;
+use std::fmt;
+use std::net::SocketAddr;
+use std::time::{Duration, Instant};
+
+const DATA: u8 = 0;
+const HEARTBEAT_ACK: u8 = 5;
+/// Where the value stands in a HEARTBEAT ACK of ours: behind the headers of the chunk and of its parameter.
+const HEARTBEAT_VALUE: usize = 8;
+
+#[derive(Clone, Copy, Debug)]
+pub struct Config {
+    /// Our SCTP port, inside UDP.
+    pub port: u16,
+    /// The streams wanted for sending.
+    pub streams: u16,
+    /// Our first TSN, where it is not to be random.
+    pub first_tsn: Option<u32>,
+    pub heartbeat: Duration,
+}
+
+impl Config {
+    pub fn at_port(port: u16) -> Config {
+        Config {
+            port,
+            streams: 8,
+            first_tsn: None,
+            heartbeat: heartbeat::INTERVAL,
+        }
+    }
+}
+
+#[derive(Clone, Copy, Debug, PartialEq, Eq)]
+pub enum Event {
+    Up,
+    Down(Why),
+}
+
+#[derive(Clone, Copy, Debug, PartialEq, Eq)]
+pub enum Why {
+    ShutDown,
+    PeerAborted,
+    WeAborted(Cause),
+    StaleCookie,
+    HostName,
+    NoAnswer,
+}
+
+impl fmt::Display for Why {
+    fn fmt(&self, f: &mut fmt::Formatter) -> fmt::Result {
+        match self {
+            Why::ShutDown => write!(f, "shut down by both ends"),
+            Why::PeerAborted => write!(f, "aborted by the peer"),
+            Why::WeAborted(Cause::User) => write!(f, "aborted by this end"),
+            Why::WeAborted(Cause::NoData(tsn)) => write!(f, "aborted: DATA {} had no payload", tsn),
+            Why::WeAborted(Cause::Violation) => write!(f, "aborted: the peer broke the protocol"),
+            Why::StaleCookie => write!(f, "the cookie came back too late"),
+            Why::HostName => write!(f, "the peer wants a host name resolved"),
+            Why::NoAnswer => write!(f, "the peer does not answer"),
+        }
+    }
+}
+
+#[derive(Clone, Debug, PartialEq, Eq)]
+pub struct Datagram {
+    pub to: SocketAddr,
+    pub packet: Vec<u8>,
+}
+
+pub struct Endpoint<L> {
+    core: Association<L>,
+    config: Config,
+    peer: Option<SocketAddr>,
+    random: Random,
+    jar: CookieJar,
+    timers: Timers,
+    sack: DelayedSack,
+    heartbeat: Heartbeat,
+    round_trip: RoundTrip,
+    last_word: LastWord,
+    counts: Counts,
+    /// Something happened since the core had nothing to send, or nothing to take.
+    may_send: bool,
+    may_take: bool,
+    events: VecDeque<Event>,
+    outgoing: VecDeque<Datagram>,
+    out: Box<[u8]>,
+    message: Box<[u8]>,
+}
+
+/// What was lent to the core with a packet, and what a verdict on it may need.
+struct Prepared {
+    lent: Lent,
+    echoed: Echoed,
+    /// Of a stale cookie: the port and tag to tell it to, and by how much it is late.
+    stale: Option<(u16, u32, Duration)>,
+}
+
+impl Prepared {
+    fn nothing() -> Prepared {
+        Prepared {
+            lent: Lent::default(),
+            echoed: Echoed::Bad,
+            stale: None,
+        }
+    }
+}
+
+impl<L: Library> Endpoint<L> {
+    pub fn new(config: Config, mut random: Random, now: Instant) -> Endpoint<L> {
+        let jar = CookieJar::new(random.key(), now);
+        Endpoint {
+            core: Association::closed(config.port),
+            config,
+            peer: None,
+            random,
+            jar,
+            timers: Timers::default(),
+            sack: DelayedSack::default(),
+            heartbeat: Heartbeat::every(config.heartbeat),
+            round_trip: RoundTrip::default(),
+            last_word: LastWord::default(),
+            counts: Counts::default(),
+            may_send: false,
+            may_take: false,
+            events: VecDeque::new(),
+            outgoing: VecDeque::new(),
+            out: vec![0; OUTPUT].into_boxed_slice(),
+            message: vec![0; MESSAGE_MOST].into_boxed_slice(),
+        }
+    }
+
+    pub fn core(&self) -> &Association<L> {
+        &self.core
+    }
+
+    pub fn standing(&self) -> Standing {
+        self.core.standing()
+    }
+
+    pub fn counts(&self) -> &Counts {
+        &self.counts
+    }
+
+    pub fn peer(&self) -> Option<SocketAddr> {
+        self.peer
+    }
+
+    /// The next packet to send.
+    pub fn outgoing(&mut self) -> Option<Datagram> {
+        self.outgoing.pop_front()
+    }
+
+    /// The next thing that happened to the association.
+    pub fn event(&mut self) -> Option<Event> {
+        self.events.pop_front()
+    }
+
+    /// Asks a peer for an association.
+    pub fn associate(&mut self, peer: SocketAddr, port: u16, now: Instant) -> Answer<()> {
+        let (tag, tsn) = (self.random.tag(), self.first_tsn());
+        let answer = self.core.associate(tag, tsn, port, self.config.streams, &mut self.out);
+        let length = self.counted(answer)?;
+        self.started(peer);
+        self.send(peer, length);
+        self.timers.follow(&self.core.standing(), now);
+        Ok(())
+    }
+
+    /// A message for a stream. Refused with `Refusal::FULL` it is not lost: hand it in again when something was acknowledged.
+    pub fn hand_in(&mut self, message: &[u8], stream: u16, unordered: bool, ppid: u32) -> Answer<()> {
+        let answer = self.core.hand_in(message, stream, unordered, ppid);
+        self.counted(answer)?;
+        self.counts.messages_in += 1;
+        self.may_send = true;
+        Ok(())
+    }
+
+    /// The next message that came, if there is one.
+    pub fn take(&mut self) -> Option<(Taken, &[u8])> {
+        if !self.may_take {
+            return None;
+        }
+        match self.core.take(&mut self.message) {
+            Ok(taken) => {
+                self.counts.messages_out += 1;
+                Some((taken, self.message.get(..taken.length).unwrap_or_default()))
+            }
+            Err(NotTaken::Refused(Refusal::NOTHING)) => {
+                self.may_take = false;
+                None
+            }
+            Err(NotTaken::Refused(refusal)) => {
+                self.counts.refuse(refusal);
+                None
+            }
+            // The buffer has the length of the longest message.
+            Err(NotTaken::Short(_)) => None,
+        }
+    }
+
+    /// No more messages: closes when all that was handed in has come.
+    pub fn shutdown(&mut self, now: Instant) -> Answer<()> {
+        let answer = self.core.shutdown(&mut self.out);
+        let length = self.counted(answer)?;
+        self.send_to_peer(length);
+        self.timers.follow(&self.core.standing(), now);
+        Ok(())
+    }
+
+    pub fn abort(&mut self, cause: Cause, now: Instant) -> Answer<()> {
+        let answer = self.core.abort(cause, &mut self.out);
+        let length = self.counted(answer)?;
+        self.send_to_peer(length);
+        self.events.push_back(Event::Down(Why::WeAborted(cause)));
+        self.timers.follow(&self.core.standing(), now);
+        Ok(())
+    }
+
+    /// A packet came from this address.
+    pub fn arrive(&mut self, packet: &[u8], from: SocketAddr, now: Instant) {
+        self.counts.packets_received += 1;
+        let before = self.core.standing();
+        let prepared = self.prepare(packet, from, before.state, now);
+        let answer = self.core.arrive(packet, &prepared.lent, prepared.echoed, &mut self.out);
+        match self.counted(answer) {
+            Ok(arrived) => self.heed(packet, from, &before, prepared, arrived, now),
+            Err(refusal) => self.answer_late(packet, from, before.state, refusal),
+        }
+        self.timers.follow(&self.core.standing(), now);
+    }
+
+    /// Sends what is due: a SACK, then DATA as far as the core lets it. To be called after packets, expiries and messages handed in, and best when what came was
+    /// taken, since the SACK then offers the whole window.
+    pub fn flush(&mut self, now: Instant) {
+        let standing = self.core.standing();
+        if standing.state.reads_data() {
+            self.sack.window_is(standing.window, now);
+            if self.sack.is_due(now) {
+                self.acknowledge();
+            }
+        } else {
+            self.sack = DelayedSack::default();
+        }
+        if self.may_send && standing.state.is_carrying() {
+            self.transmit(now);
+        }
+        let standing = self.core.standing();
+        self.timers.follow(&standing, now);
+        self.heartbeat.follow(&standing, now);
+    }
+
+    /// Does what timers ask for at this moment; `flush` then sends.
+    pub fn expire(&mut self, now: Instant) {
+        while let Some(alarm) = self.timers.ring(now) {
+            self.counts.expiries += 1;
+            let answer = match alarm {
+                Alarm::T1 => self.core.t1(&mut self.out),
+                Alarm::T2 => self.core.t2(&mut self.out),
+                Alarm::T3 => self.core.t3(),
+            };
+            self.round_trip.spoil();
+            self.may_send = true;
+            match self.counted(answer) {
+                Ok(Expired::TriedAgain(length)) => self.send_to_peer(length),
+                Ok(Expired::Over) => self.events.push_back(Event::Down(Why::NoAnswer)),
+                Err(_) => {}
+            }
+        }
+        if self.heartbeat.is_due(now) {
+            self.beat(now);
+        }
+    }
+
+    /// When `expire` and `flush` are to be called next.
+    pub fn next_moment(&self) -> Option<Instant> {
+        [self.timers.next(), self.sack.next(), self.heartbeat.next()]
+            .iter()
+            .flatten()
+            .min()
+            .copied()
+    }
+
+    fn first_tsn(&mut self) -> u32 {
+        match self.config.first_tsn {
+            Some(tsn) => tsn,
+            None => self.random.word(),
+        }
+    }
+
+    fn counted<T>(&mut self, answer: Answer<T>) -> Answer<T> {
+        answer.map_err(|refusal| {
+            self.counts.refuse(refusal);
+            refusal
+        })
+    }
+
+    /// An association with this peer begins: nothing of an earlier one is left.
+    fn started(&mut self, peer: SocketAddr) {
+        self.peer = Some(peer);
+        self.sack = DelayedSack::default();
+        self.heartbeat = Heartbeat::every(self.config.heartbeat);
+        self.round_trip = RoundTrip::default();
+        self.last_word.forget();
+    }
+
+    /// The first bytes of the output go out.
+    fn send(&mut self, to: SocketAddr, length: usize) {
+        let packet = self.out.get(..length).unwrap_or_default().to_vec();
+        self.send_bytes(to, packet);
+    }
+
+    fn send_bytes(&mut self, to: SocketAddr, packet: Vec<u8>) {
+        if packet.is_empty() {
+            return;
+        }
+        self.counts.packets_sent += 1;
+        self.counts.bytes_sent += packet.len() as u64;
+        self.outgoing.push_back(Datagram { to, packet });
+    }
+
+    fn send_to_peer(&mut self, length: usize) {
+        if let Some(peer) = self.peer {
+            self.send(peer, length);
+        }
+    }
+
+    /// Makes a cookie for an INIT, or judges the one that is echoed. Only a closed record reads either.
+    fn prepare(&mut self, packet: &[u8], from: SocketAddr, state: State, now: Instant) -> Prepared {
+        if state != State::Closed {
+            return Prepared::nothing();
+        }
+        match peek::<L>(packet) {
+            Peeked::Init(init) => {
+                let (tag, tsn) = (self.random.tag(), self.first_tsn());
+                let streams = self.config.streams;
+                let made = agreed(&init, tag, tsn, streams);
+                let cookie = self.jar.bake(made, from, init.source, now);
+                let lent = Lent { tag, tsn, streams, cookie };
+                Prepared { lent, ..Prepared::nothing() }
+            }
+            Peeked::Echo { at, len } => self.judge_echo(packet, at, len, from, now),
+            Peeked::Nothing | Peeked::Refused(_) => Prepared::nothing(),
+        }
+    }
+
+    fn judge_echo(&self, packet: &[u8], at: usize, len: usize, from: SocketAddr, now: Instant) -> Prepared {
+        let port = source_port(packet);
+        let cookie = packet.get(at..at + len).unwrap_or_default();
+        match self.jar.judge(cookie, from, port, now) {
+            Judgement::Bad => Prepared::nothing(),
+            Judgement::Good(made) => Prepared {
+                echoed: Echoed::Good(made),
+                ..Prepared::nothing()
+            },
+            Judgement::Stale(made, late) => Prepared {
+                echoed: Echoed::Stale(made),
+                stale: Some((port, made.peer_tag, late)),
+                ..Prepared::nothing()
+            },
+        }
+    }
+
+    /// The core took the packet as the peer's: sends its reply and does what the verdicts ask for.
+    fn heed(&mut self, packet: &[u8], from: SocketAddr, before: &Standing, prepared: Prepared, arrived: Arrived, now: Instant) {
+        let reply = self.out.get(..arrived.reply).unwrap_or_default().to_vec();
+        if before.state != State::Closed {
+            // RFC 6951 section 5.4: the peer is where its last packet came from.
+            self.peer = Some(from);
+        }
+        for verdict in &arrived.verdicts {
+            self.note_turn(packet, from, verdict, &reply, before, now);
+        }
+        self.send_bytes(from, reply);
+        self.note_data(packet, &arrived.verdicts, now);
+        self.note_acknowledged(before, now);
+        for verdict in &arrived.verdicts {
+            self.note_refusal(packet, from, verdict);
+            self.note_heartbeat(packet, verdict, now);
+            self.make_named_call(verdict.named, prepared.stale, from, now);
+        }
+        self.may_send = true;
+    }
+
+    fn note_turn(&mut self, packet: &[u8], from: SocketAddr, verdict: &Verdict, reply: &[u8], before: &Standing, now: Instant) {
+        let why = match verdict.turn {
+            Turn::None => return,
+            Turn::Up => {
+                if before.state == State::Closed {
+                    self.started(from);
+                    self.jar.spend(self.core.standing().my_tag, now);
+                    self.last_word.opened(chunk_at(packet, verdict.at), reply);
+                }
+                self.events.push_back(Event::Up);
+                return;
+            }
+            Turn::ShutDown => {
+                if !reply.is_empty() {
+                    self.last_word.closed(before.my_tag, reply);
+                }
+                Why::ShutDown
+            }
+            Turn::Aborted => Why::PeerAborted,
+            Turn::StaleCookie => Why::StaleCookie,
+            Turn::HostName => Why::HostName,
+        };
+        self.events.push_back(Event::Down(why));
+    }
+
+    /// What the packet's DATA asks of the next SACK, of the taker and of T2.
+    fn note_data(&mut self, packet: &[u8], verdicts: &[Verdict], now: Instant) {
+        let of_data = |verdict: &&Verdict| packet.get(verdict.at) == Some(&DATA);
+        let has_come = |fate: Fate| fate == Fate::Accepted || fate == Fate::Refused(Refusal::STRAY);
+        let asks_at_once = |fate: Fate| {
+            [Refusal::DUPLICATE, Refusal::WEDGED, Refusal::FAR]
+                .iter()
+                .any(|refusal| fate == Fate::Refused(*refusal))
+        };
+        let new = verdicts.iter().filter(of_data).any(|verdict| has_come(verdict.fate));
+        let again = verdicts.iter().filter(of_data).any(|verdict| asks_at_once(verdict.fate));
+        if !new && !again {
+            return;
+        }
+        let standing = self.core.standing();
+        self.sack.data_came(again || standing.has_gap, now);
+        if new {
+            self.may_take = true;
+            self.timers.restart_t2(&standing, now);
+        }
+    }
+
+    fn note_acknowledged(&mut self, before: &Standing, now: Instant) {
+        let acked = self.core.standing().acked;
+        if acked == before.acked {
+            return;
+        }
+        self.heartbeat.heard();
+        if let Some(sample) = self.round_trip.acknowledged(acked, now) {
+            let answer = self.core.rtt(sample);
+            // A packet that closed the association leaves nothing to measure.
+            let _ = self.counted(answer);
+        }
+    }
+
+    fn note_refusal(&mut self, packet: &[u8], from: SocketAddr, verdict: &Verdict) {
+        if let Fate::Refused(refusal) = verdict.fate {
+            self.counts.refuse(refusal);
+            if refusal == Refusal::STATE {
+                let again = self.last_word.to_echo(chunk_at(packet, verdict.at)).map(<[u8]>::to_vec);
+                self.repeat(from, again);
+            }
+        }
+    }
+
+    fn note_heartbeat(&mut self, packet: &[u8], verdict: &Verdict, now: Instant) {
+        let chunk = chunk_at(packet, verdict.at);
+        if verdict.fate != Fate::Accepted || chunk.first() != Some(&HEARTBEAT_ACK) {
+            return;
+        }
+        let value = chunk.get(HEARTBEAT_VALUE..).unwrap_or_default();
+        if let Some(sample) = self.heartbeat.answered(value, now) {
+            let answer = self.core.rtt(sample);
+            let _ = self.counted(answer);
+        }
+    }
+
+    fn make_named_call(&mut self, named: Named, stale: Option<(u16, u32, Duration)>, from: SocketAddr, now: Instant) {
+        match named {
+            Named::NoCall => {}
+            Named::Abort(cause) => {
+                // Refused only where a later chunk closed the association.
+                let _ = self.abort(cause, now);
+            }
+            Named::ErrorStream(stream) => {
+                let answer = self.core.error_stream(stream, &mut self.out);
+                if let Ok(length) = self.counted(answer) {
+                    self.send(from, length);
+                }
+            }
+            Named::ErrorStale => {
+                if let Some((port, tag, late)) = stale {
+                    let microseconds = u32::try_from(late.as_micros()).unwrap_or(u32::MAX);
+                    let answer = self.core.error_stale(port, tag, microseconds, &mut self.out);
+                    if let Ok(length) = self.counted(answer) {
+                        self.send(from, length);
+                    }
+                }
+            }
+        }
+    }
+
+    /// A packet that the core refused whole: after the end it may ask for the last word.
+    fn answer_late(&mut self, packet: &[u8], from: SocketAddr, state: State, refusal: Refusal) {
+        if state == State::Closed && refusal == Refusal::TAG && peek::<L>(packet) == Peeked::Nothing {
+            let again = self.last_word.to_late(packet).map(<[u8]>::to_vec);
+            self.repeat(from, again);
+        }
+    }
+
+    fn repeat(&mut self, to: SocketAddr, word: Option<Vec<u8>>) {
+        if let Some(packet) = word {
+            self.counts.last_words += 1;
+            self.send_bytes(to, packet);
+        }
+    }
+
+    fn acknowledge(&mut self) {
+        let answer = self.core.sack(&mut self.out);
+        self.sack = DelayedSack::default();
+        if let Ok(told) = self.counted(answer) {
+            self.counts.acknowledgements += 1;
+            self.sack.sent(told.window);
+            self.send_to_peer(told.length);
+        }
+    }
+
+    fn transmit(&mut self, now: Instant) {
+        loop {
+            let answer = self.core.transmit(&mut self.out);
+            match self.counted(answer) {
+                Ok(packet) if packet.length > 0 => {
+                    self.counts.resent += u64::from(packet.resent);
+                    self.round_trip.sent(&packet, now);
+                    self.send_to_peer(packet.length);
+                    self.heartbeat.postpone(&self.core.standing(), now);
+                }
+                _ => {
+                    self.may_send = false;
+                    return;
+                }
+            }
+        }
+    }
+
+    fn beat(&mut self, now: Instant) {
+        if self.heartbeat.is_in_vain() {
+            let answer = self.core.abort(Cause::User, &mut self.out);
+            if let Ok(length) = self.counted(answer) {
+                self.send_to_peer(length);
+                self.events.push_back(Event::Down(Why::NoAnswer));
+            }
+            return;
+        }
+        let value = self.random.bytes();
+        let answer = self.core.heartbeat(value, &mut self.out);
+        if let Ok(length) = self.counted(answer) {
+            self.send_to_peer(length);
+        }
+        self.heartbeat.sent(value, &self.core.standing(), now);
+    }
+}
+
+fn source_port(packet: &[u8]) -> u16 {
+    match packet {
+        [high, low, ..] => u16::from_be_bytes([*high, *low]),
+        _ => 0,
+    }
+}

@@ -1,0 +1,101 @@
+//! The reply that ended a handshake, kept while the peer may not have it. The core reads a COOKIE ECHO only in CLOSED and a SHUTDOWN ACK never there, so a lost
+//! COOKIE ACK or SHUTDOWN COMPLETE is the host's to repair: asked the same again, it sends the same bytes again (RFC 9260 sections 5.2.4 D and 8.4, rule 5).
+
+const SHUTDOWN_ACK: u8 = 8;
+const HEADER: usize = 12;
+
+#[derive(Debug, Default)]
+pub struct LastWord {
+    /// The COOKIE ECHO that was good, and what answered it.
+    opening: Option<(Vec<u8>, Vec<u8>)>,
+    /// The tag that the peer sent to, and the SHUTDOWN COMPLETE.
+    closing: Option<(u32, Vec<u8>)>,
+}
+
+impl LastWord {
+    pub fn opened(&mut self, echo: &[u8], reply: &[u8]) {
+        self.opening = Some((echo.to_vec(), reply.to_vec()));
+        self.closing = None;
+    }
+
+    pub fn closed(&mut self, my_tag: u32, reply: &[u8]) {
+        self.opening = None;
+        self.closing = Some((my_tag, reply.to_vec()));
+    }
+
+    pub fn forget(&mut self) {
+        *self = LastWord::default();
+    }
+
+    /// What answers an echo that came while the association was up already: only the very cookie that started it.
+    pub fn to_echo(&self, echo: &[u8]) -> Option<&[u8]> {
+        match &self.opening {
+            Some((good, reply)) if good == echo => Some(reply),
+            _ => None,
+        }
+    }
+
+    /// What answers a whole packet that came after the end.
+    pub fn to_late(&self, packet: &[u8]) -> Option<&[u8]> {
+        let (tag, reply) = self.closing.as_ref()?;
+        let is_shutdown_ack = packet.get(HEADER) == Some(&SHUTDOWN_ACK);
+        let is_to_us = packet.get(4..8) == Some(&tag.to_be_bytes());
+        (is_shutdown_ack && is_to_us).then_some(reply.as_slice())
+    }
+}
+
+/// The chunk that begins at this byte of a packet, without its padding.
+pub fn chunk_at(packet: &[u8], at: usize) -> &[u8] {
+    let rest = packet.get(at..).unwrap_or_default();
+    match rest {
+        [_, _, high, low, ..] => {
+            let length = usize::from(u16::from_be_bytes([*high, *low]));
+            rest.get(..length).unwrap_or(rest)
+        }
+        _ => rest,
+    }
+}
+
+#[cfg(test)]
+mod tests {
+    use super::*;
+
+    const ECHO: [u8; 8] = [10, 0, 0, 7, 1, 2, 3, 0];
+
+    fn shutdown_ack(tag: u32) -> Vec<u8> {
+        let mut packet = vec![0x13, 0x89, 0x13, 0x89];
+        packet.extend_from_slice(&tag.to_be_bytes());
+        packet.extend_from_slice(&[0, 0, 0, 0, SHUTDOWN_ACK, 0, 0, 4]);
+        packet
+    }
+
+    #[test]
+    fn the_same_echo_gets_the_same_answer_and_no_other_does() {
+        let mut word = LastWord::default();
+        assert_eq!(word.to_echo(&ECHO), None);
+        word.opened(&ECHO[..7], b"cookie ack");
+        assert_eq!(word.to_echo(&ECHO[..7]), Some(&b"cookie ack"[..]));
+        assert_eq!(word.to_echo(&[10, 0, 0, 7, 1, 2, 4]), None);
+        word.forget();
+        assert_eq!(word.to_echo(&ECHO[..7]), None);
+    }
+
+    #[test]
+    fn a_late_shutdown_ack_to_our_tag_gets_the_last_word() {
+        let mut word = LastWord::default();
+        assert_eq!(word.to_late(&shutdown_ack(5)), None);
+        word.closed(5, b"complete");
+        assert_eq!(word.to_late(&shutdown_ack(5)), Some(&b"complete"[..]));
+        assert_eq!(word.to_late(&shutdown_ack(6)), None);
+        assert_eq!(word.to_late(&[0; 4]), None);
+    }
+
+    #[test]
+    fn a_chunk_is_cut_by_its_own_length() {
+        let mut packet = vec![0; HEADER];
+        packet.extend_from_slice(&ECHO);
+        assert_eq!(chunk_at(&packet, HEADER), &ECHO[..7]);
+        assert_eq!(chunk_at(&packet, 500), &[] as &[u8]);
+        assert_eq!(chunk_at(&[1, 2, 255, 255], 0), &[1, 2, 255, 255]);
+    }
+}

@@ -1,0 +1,21 @@
+//! A host of the proved SCTP core: safe calls, an endpoint over UDP (RFC 6951), and what the rail's demonstration is made of.
+
+pub mod acknowledging;
+pub mod association;
+pub mod calls;
+pub mod cookie;
+pub mod counts;
+pub mod endpoint;
+pub mod ffi;
+pub mod heartbeat;
+pub mod hmac;
+pub mod last_word;
+pub mod library;
+pub mod pcap;
+pub mod rail;
+pub mod random;
+pub mod relay;
+pub mod round_trip;
+pub mod tiles;
+pub mod timers;
+pub mod udp;

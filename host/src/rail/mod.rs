@@ -1,0 +1,61 @@
+//! The rail: a field computer hands in tiles of eight colour bands, a head takes and compares them.
+
+pub mod arguments;
+pub mod demo;
+pub mod ends;
+pub mod lone;
+pub mod report;
+
+use crate::pcap::{Capture, Pcap};
+use std::fmt;
+use std::io::{self, ErrorKind};
+use std::net::{SocketAddr, UdpSocket};
+use std::path::Path;
+use std::sync::{Arc, Mutex};
+
+/// Why a run could not go on, in words for the one who started it.
+#[derive(Clone, Debug, PartialEq, Eq)]
+pub struct Failure(pub String);
+
+impl fmt::Display for Failure {
+    fn fmt(&self, f: &mut fmt::Formatter) -> fmt::Result {
+        f.write_str(&self.0)
+    }
+}
+
+impl std::error::Error for Failure {}
+
+impl Failure {
+    fn of_network(e: io::Error) -> Failure {
+        Failure(format!("the network failed: {}", e))
+    }
+}
+
+pub fn bind(address: SocketAddr) -> Result<UdpSocket, Failure> {
+    UdpSocket::bind(address).map_err(|e| {
+        Failure(match e.kind() {
+            ErrorKind::AddrInUse => format!(
+                "cannot use {}: the port is in use; stop the program that has it, or choose another port",
+                address
+            ),
+            ErrorKind::AddrNotAvailable => format!("cannot use {}: it is no address of this machine", address),
+            ErrorKind::PermissionDenied => format!("cannot use {}: ports below 1024 need root; choose another port", address),
+            _ => format!("cannot use {}: {}", address, e),
+        })
+    })
+}
+
+pub fn start_capture(path: &Path) -> Result<Capture, Failure> {
+    Pcap::create(path).map(|pcap| Arc::new(Mutex::new(pcap))).map_err(|e| unwritable(path, e))
+}
+
+pub fn end_capture(path: &Path, capture: &Capture) -> Result<(), Failure> {
+    match capture.lock() {
+        Ok(mut pcap) => pcap.close().map_err(|e| unwritable(path, e)),
+        Err(_) => Err(Failure(format!("cannot write {}: a part of this program failed", path.display()))),
+    }
+}
+
+fn unwritable(path: &Path, e: io::Error) -> Failure {
+    Failure(format!("cannot write {}: {}", path.display(), e))
+}

@@ -1,0 +1,197 @@
+//! What the rail carries: tiles of eight colour bands, each band a stream. A tile is a function of seed, band and index, so the far end can make the one it
+//! expects and compare every byte.
+
+use crate::random::Seeded;
+use std::fmt;
+
+pub const BANDS: u16 = 8;
+/// Seed, band and index stand at the head of a tile.
+const HEAD: usize = 14;
+/// After so many tiles of the first band comes one of another.
+const FIRST_IN_A_ROW: u64 = 8;
+
+/// The first band's tiles are small and many; now and then one of another band is larger than a packet.
+fn size(chance: &mut Seeded, band: u16) -> usize {
+    let body = match band {
+        0 => 1 + chance.below(60),
+        _ if chance.happens(0.02) => 1 + chance.below(16_384),
+        _ => 1 + chance.below(700),
+    };
+    HEAD + body as usize
+}
+
+pub fn tile(seed: u64, band: u16, index: u32) -> Vec<u8> {
+    let mut chance = Seeded::new(seed ^ u64::from(band) << 32 ^ u64::from(index));
+    let size = size(&mut chance, band);
+    let mut tile = Vec::with_capacity(size + 8);
+    tile.extend_from_slice(&seed.to_be_bytes());
+    tile.extend_from_slice(&band.to_be_bytes());
+    tile.extend_from_slice(&index.to_be_bytes());
+    while tile.len() < size {
+        tile.extend_from_slice(&chance.number().to_be_bytes());
+    }
+    tile.truncate(size);
+    tile
+}
+
+/// The order in which tiles are handed in: so many of the first band, and the other bands in turn between them.
+#[derive(Clone, Debug)]
+pub struct Plan {
+    first_band: u64,
+    step: u64,
+}
+
+impl Plan {
+    pub fn of(first_band: u64) -> Plan {
+        Plan { first_band, step: 0 }
+    }
+
+    /// How many tiles there are in all.
+    pub fn total(first_band: u64) -> u64 {
+        first_band + first_band / FIRST_IN_A_ROW
+    }
+}
+
+impl Iterator for Plan {
+    type Item = (u16, u32);
+
+    fn next(&mut self) -> Option<(u16, u32)> {
+        let step = self.step;
+        if step >= Plan::total(self.first_band) {
+            return None;
+        }
+        self.step += 1;
+        let (round, within) = (step / (FIRST_IN_A_ROW + 1), step % (FIRST_IN_A_ROW + 1));
+        let others = u64::from(BANDS) - 1;
+        Some(match within {
+            FIRST_IN_A_ROW => (1 + (round % others) as u16, (round / others) as u32),
+            _ => (0, (round * FIRST_IN_A_ROW + within) as u32),
+        })
+    }
+}
+
+#[derive(Clone, Copy, Debug, PartialEq, Eq)]
+pub enum Difference {
+    /// A stream that is no band.
+    Band(u16),
+    /// The first byte that differs from the expected tile, or the length that the shorter of both has.
+    Byte { band: u16, index: u32, at: usize },
+    /// A stream sequence number that does not follow the one before.
+    Sequence { band: u16, index: u32, ssn: u16 },
+}
+
+impl fmt::Display for Difference {
+    fn fmt(&self, f: &mut fmt::Formatter) -> fmt::Result {
+        match self {
+            Difference::Band(stream) => write!(f, "stream {} is no band", stream),
+            Difference::Byte { band, index, at } => write!(f, "tile {} of band {} differs at byte {}", index, band, at),
+            Difference::Sequence { band, index, ssn } => write!(f, "tile {} of band {} has SSN {}", index, band, ssn),
+        }
+    }
+}
+
+/// The far end: which tile of each band comes next.
+#[derive(Clone, Debug, Default)]
+pub struct Album {
+    seed: Option<u64>,
+    next: [u32; BANDS as usize],
+    bytes: u64,
+    sequence_wraps: u32,
+}
+
+impl Album {
+    /// Compares a tile with the one that is next in its band, byte by byte. The first tile tells the seed.
+    pub fn add(&mut self, stream: u16, ssn: u16, message: &[u8]) -> Result<(), Difference> {
+        let next = self.next.get_mut(usize::from(stream)).ok_or(Difference::Band(stream))?;
+        let (band, index) = (stream, *next);
+        let seed = *self.seed.get_or_insert_with(|| seed_of(message));
+        let expected = tile(seed, band, index);
+        if message != expected {
+            let at = message.iter().zip(&expected).take_while(|(a, b)| a == b).count();
+            return Err(Difference::Byte { band, index, at });
+        }
+        if u32::from(ssn) != index % 65_536 {
+            return Err(Difference::Sequence { band, index, ssn });
+        }
+        if index > 0 && ssn == 0 {
+            self.sequence_wraps += 1;
+        }
+        *next += 1;
+        self.bytes += message.len() as u64;
+        Ok(())
+    }
+
+    pub fn tiles(&self) -> u64 {
+        self.next.iter().map(|count| u64::from(*count)).sum()
+    }
+
+    pub fn tiles_by_band(&self) -> [u32; BANDS as usize] {
+        self.next
+    }
+
+    pub fn bytes(&self) -> u64 {
+        self.bytes
+    }
+
+    /// How often a stream sequence number went round from 65,535 to 0.
+    pub fn sequence_wraps(&self) -> u32 {
+        self.sequence_wraps
+    }
+}
+
+fn seed_of(message: &[u8]) -> u64 {
+    message.iter().take(8).fold(0, |seed, byte| seed << 8 | u64::from(*byte))
+}
+
+#[cfg(test)]
+mod tests {
+    use super::*;
+
+    #[test]
+    fn a_plan_has_every_index_of_every_band_in_order() {
+        let mut next = [0; BANDS as usize];
+        let mut count = 0;
+        for (band, index) in Plan::of(70_000) {
+            assert_eq!(index, next[usize::from(band)]);
+            next[usize::from(band)] += 1;
+            count += 1;
+        }
+        assert_eq!(count, Plan::total(70_000));
+        assert_eq!(next[0], 70_000);
+        assert!(next[1..].iter().all(|count| *count == 1250));
+    }
+
+    #[test]
+    fn an_album_takes_the_tiles_in_order_past_the_wrap() {
+        let mut album = Album::default();
+        for index in 0..65_540u32 {
+            assert_eq!(album.add(0, index as u16, &tile(42, 0, index)), Ok(()));
+        }
+        assert_eq!(album.tiles(), 65_540);
+        assert_eq!(album.sequence_wraps(), 1);
+    }
+
+    #[test]
+    fn an_album_tells_what_differs() {
+        let mut album = Album::default();
+        let good = tile(42, 1, 0);
+        let mut changed = good.clone();
+        changed[HEAD] ^= 1;
+        let at = |at| Err(Difference::Byte { band: 1, index: 0, at });
+        assert_eq!(album.add(1, 0, &changed), at(HEAD));
+        assert_eq!(album.add(1, 0, &good[..HEAD]), at(HEAD));
+        assert_eq!(album.add(1, 1, &good), Err(Difference::Sequence { band: 1, index: 0, ssn: 1 }));
+        assert_eq!(album.add(8, 0, &good), Err(Difference::Band(8)));
+        assert_eq!(album.add(1, 0, &good), Ok(()));
+        let repeated = album.add(1, 1, &good);
+        assert!(matches!(repeated, Err(Difference::Byte { band: 1, index: 1, .. })));
+    }
+
+    #[test]
+    fn tiles_differ_by_seed_band_and_index() {
+        let all = [tile(1, 0, 0), tile(2, 0, 0), tile(1, 1, 0), tile(1, 0, 1)];
+        for (n, a) in all.iter().enumerate() {
+            assert!(all[n + 1..].iter().all(|b| a != b));
+        }
+    }
+}

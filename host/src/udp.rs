@@ -1,0 +1,115 @@
+//! An endpoint on a UDP socket: each datagram is one SCTP packet (RFC 6951).
+
+use crate::endpoint::Endpoint;
+use crate::library::Library;
+use crate::pcap::Tap;
+use std::io::{self, ErrorKind};
+use std::net::{SocketAddr, UdpSocket};
+use std::time::{Duration, Instant};
+
+/// A datagram longer than the core reads is cut, and still too long for it.
+const BUFFER: usize = 2048;
+/// Timers are kept to within this.
+const GRAIN: Duration = Duration::from_millis(1);
+
+pub struct Line<L> {
+    pub endpoint: Endpoint<L>,
+    socket: UdpSocket,
+    tap: Option<Tap>,
+    trouble: Option<io::Error>,
+    patience: Option<Duration>,
+    buffer: [u8; BUFFER],
+}
+
+impl<L: Library> Line<L> {
+    pub fn new(endpoint: Endpoint<L>, socket: UdpSocket, tap: Option<Tap>) -> Line<L> {
+        Line {
+            endpoint,
+            socket,
+            tap,
+            trouble: None,
+            patience: None,
+            buffer: [0; BUFFER],
+        }
+    }
+
+    pub fn address(&self) -> io::Result<SocketAddr> {
+        self.socket.local_addr()
+    }
+
+    /// Why the last packet that could not be sent was not. It counts as lost, so that no peer can stop this end by an address that nothing can be sent to.
+    pub fn trouble(&self) -> Option<&io::Error> {
+        self.trouble.as_ref()
+    }
+
+    /// Sends what is due, waits for one packet but no longer than `longest`, and does what a timer asks. Between two turns messages are taken and handed in.
+    pub fn turn(&mut self, longest: Duration) -> io::Result<()> {
+        self.endpoint.flush(Instant::now());
+        self.send_all();
+        let now = Instant::now();
+        let wait = match self.endpoint.next_moment() {
+            Some(moment) => moment.saturating_duration_since(now).min(longest),
+            None => longest,
+        };
+        if let Some((length, from)) = self.receive(wait)? {
+            let packet = self.buffer.get(..length).unwrap_or_default();
+            if let Some(tap) = &self.tap {
+                tap.received(from, packet);
+            }
+            self.endpoint.arrive(packet, from, Instant::now());
+        }
+        self.endpoint.expire(Instant::now());
+        self.send_all();
+        Ok(())
+    }
+
+    fn send_all(&mut self) {
+        while let Some(datagram) = self.endpoint.outgoing() {
+            if let Some(tap) = &self.tap {
+                tap.sent(datagram.to, &datagram.packet);
+            }
+            if let Err(e) = self.socket.send_to(&datagram.packet, datagram.to) {
+                self.trouble = Some(e);
+            }
+        }
+    }
+
+    fn receive(&mut self, wait: Duration) -> io::Result<Option<(usize, SocketAddr)>> {
+        let patience = Some(rounded_up(wait));
+        if self.patience != patience {
+            self.socket.set_read_timeout(patience)?;
+            self.patience = patience;
+        }
+        match self.socket.recv_from(&mut self.buffer) {
+            Ok(received) => Ok(Some(received)),
+            Err(e) if is_like_silence(&e) => Ok(None),
+            Err(e) => Err(e),
+        }
+    }
+}
+
+/// A wait in whole grains, since most waits are alike then and the socket is told only of others; never 0, which would mean for ever.
+fn rounded_up(wait: Duration) -> Duration {
+    let grains = (wait.as_millis() / GRAIN.as_millis()).min(1000) as u32 + 1;
+    GRAIN * grains
+}
+
+/// What the protocol treats as no packet that came.
+fn is_like_silence(e: &io::Error) -> bool {
+    matches!(
+        e.kind(),
+        ErrorKind::WouldBlock | ErrorKind::TimedOut | ErrorKind::Interrupted | ErrorKind::ConnectionRefused
+    )
+}
+
+#[cfg(test)]
+mod tests {
+    use super::*;
+
+    #[test]
+    fn a_wait_is_whole_grains_and_never_for_ever() {
+        assert_eq!(rounded_up(Duration::ZERO), GRAIN);
+        assert_eq!(rounded_up(Duration::from_micros(1500)), GRAIN * 2);
+        assert_eq!(rounded_up(Duration::from_secs(1_000_000)), GRAIN * 1001);
+    }
+}

@@ -1,0 +1,317 @@
+//! What an endpoint does around the core, held on a clock that the test moves: on the model, and on the proved library where it is linked.
+
+mod modelled;
+mod pair;
+
+use modelled::Modelled;
+use oilwhisper::calls::{Cause, Refusal, State};
+use oilwhisper::endpoint::{Config, Event, Why};
+use oilwhisper::library::Library;
+use oilwhisper::relay::Weather;
+use oilwhisper::tiles::{tile, Album, Plan};
+use pair::{config, first_chunk, loses_first, Pair};
+use std::time::Duration;
+
+const DATA: u8 = 0;
+const INIT: u8 = 1;
+const INIT_ACK: u8 = 2;
+const SACK: u8 = 3;
+const HEARTBEAT: u8 = 4;
+const HEARTBEAT_ACK: u8 = 5;
+const SHUTDOWN_ACK: u8 = 8;
+const COOKIE_ECHO: u8 = 10;
+const COOKIE_ACK: u8 = 11;
+const SHUTDOWN_COMPLETE: u8 = 14;
+
+const MINUTE: Duration = Duration::from_secs(60);
+
+const ROUGH: Weather = Weather {
+    delay: Duration::from_millis(10),
+    loss: 0.05,
+    repeat: 0.03,
+    reorder: 0.1,
+    damage: 0.01,
+};
+
+fn slow(milliseconds: u64) -> Weather {
+    Weather {
+        delay: Duration::from_millis(milliseconds),
+        ..Weather::FAIR
+    }
+}
+
+fn sent<L>(pair: &Pair<L>, end: usize, chunk: u8) -> usize {
+    pair.ends[end].sent.iter().filter(|packet| first_chunk(packet) == chunk).count()
+}
+
+fn opens_and_shuts_down<L: Library>() {
+    let mut pair = Pair::<L>::up(slow(20), 1);
+    assert_eq!(
+        pair.ends[0].sent.iter().map(|packet| first_chunk(packet)).collect::<Vec<_>>(),
+        [INIT, COOKIE_ECHO]
+    );
+    assert_eq!(
+        pair.ends[1].sent.iter().map(|packet| first_chunk(packet)).collect::<Vec<_>>(),
+        [INIT_ACK, COOKIE_ACK]
+    );
+    let now = pair.now;
+    pair.ends[1].endpoint.shutdown(now).expect("an established association shuts down");
+    assert!(pair.run_until(MINUTE, |pair| pair.are(State::Closed)));
+    for end in &pair.ends {
+        assert_eq!(end.events, [Event::Up, Event::Down(Why::ShutDown)]);
+        assert_eq!(end.endpoint.next_moment(), None);
+    }
+}
+
+fn carries_both_ways_in_any_weather<L: Library>() {
+    for seed in 0..6 {
+        let mut pair = Pair::<L>::up(ROUGH, seed);
+        let mut plans = [Plan::of(1500).peekable(), Plan::of(1000).peekable()];
+        let mut albums = [Album::default(), Album::default()];
+        let done = pair.run_until(MINUTE * 60, |pair| {
+            for (end, (plan, album)) in pair.ends.iter_mut().zip(plans.iter_mut().zip(&mut albums)) {
+                while let Some((band, index)) = plan.peek() {
+                    match end.endpoint.hand_in(&tile(seed, *band, *index), *band, false, 7) {
+                        Ok(()) => plan.next(),
+                        Err(Refusal::FULL) => break,
+                        Err(refusal) => panic!("{}", refusal),
+                    };
+                }
+                for (stream, ssn, message) in end.taken.drain(..) {
+                    assert_eq!(album.add(stream, ssn, &message), Ok(()));
+                }
+            }
+            let all = [Plan::total(1000), Plan::total(1500)];
+            albums.iter().zip(all).all(|(album, all)| album.tiles() == all)
+        });
+        assert!(done, "seed {}: {:?}", seed, [albums[0].tiles(), albums[1].tiles()]);
+        let now = pair.now;
+        pair.ends[0].endpoint.shutdown(now).expect("an established association shuts down");
+        assert!(pair.run_until(MINUTE * 60, |pair| pair.are(State::Closed)), "seed {}", seed);
+        assert!(pair.ends.iter().all(|end| end.events.last() == Some(&Event::Down(Why::ShutDown))));
+    }
+}
+
+fn opens_though_every_handshake_packet_is_lost_twice<L: Library>() {
+    for (end, chunk) in [(0, INIT), (1, INIT_ACK), (0, COOKIE_ECHO), (1, COOKIE_ACK)] {
+        let mut pair = Pair::<L>::new(slow(5), 2);
+        pair.ends[end].loses = loses_first(chunk, 2);
+        pair.associate();
+        assert!(pair.run_until(MINUTE, |pair| pair.are(State::Established)), "chunk {}", chunk);
+        let expiries: Vec<u64> = pair.ends.iter().map(|end| end.endpoint.counts().expiries).collect();
+        assert_eq!(expiries, [2, 0]);
+    }
+}
+
+fn closes_though_every_farewell_is_lost_twice<L: Library>() {
+    const SHUTDOWN: u8 = 7;
+    for (end, chunk) in [(0, SHUTDOWN), (1, SHUTDOWN_ACK), (0, SHUTDOWN_COMPLETE)] {
+        let mut pair = Pair::<L>::up(slow(5), 3);
+        pair.ends[end].loses = loses_first(chunk, 2);
+        let now = pair.now;
+        pair.ends[0].endpoint.shutdown(now).expect("an established association shuts down");
+        assert!(pair.run_until(MINUTE, |pair| pair.are(State::Closed)), "chunk {}", chunk);
+        assert!(pair.ends.iter().all(|end| end.events.last() == Some(&Event::Down(Why::ShutDown))));
+    }
+}
+
+fn gives_up_on_a_peer_that_never_answers<L: Library>() {
+    let mut pair = Pair::<L>::new(Weather::FAIR, 4);
+    pair.ends[0].loses = Box::new(|_| true);
+    pair.associate();
+    assert!(pair.run_until(MINUTE * 10, |pair| pair.state(0) == State::Closed));
+    assert_eq!(pair.ends[0].events, [Event::Down(Why::NoAnswer)]);
+    assert_eq!(sent(&pair, 0, INIT), 9);
+}
+
+fn gives_up_on_a_peer_that_vanished_with_data_outstanding<L: Library>() {
+    let mut pair = Pair::<L>::up(slow(5), 5);
+    pair.ends[0].loses = Box::new(|_| true);
+    pair.ends[0].endpoint.hand_in(b"into the void", 0, false, 0).expect("there is room");
+    assert!(pair.run_until(MINUTE * 30, |pair| pair.state(0) == State::Closed));
+    assert_eq!(pair.ends[0].events.last(), Some(&Event::Down(Why::NoAnswer)));
+    assert_eq!(sent(&pair, 0, DATA), 11);
+}
+
+fn beats_while_idle_and_notices_silence<L: Library>() {
+    let config = |end| Config {
+        heartbeat: Duration::from_secs(2),
+        ..config(end)
+    };
+    let mut pair = Pair::<L>::with(slow(40), 6, [config(0), config(1)]);
+    pair.associate();
+    pair.run_for(MINUTE);
+    assert!(pair.are(State::Established));
+    let beats = sent(&pair, 0, HEARTBEAT);
+    assert!((15..=20).contains(&beats), "{}", beats);
+    // Each end measured a round trip of 80 ms by its heartbeats, so its RTO stays the least.
+    assert_eq!(pair.ends[0].endpoint.standing().rto, Duration::from_secs(1));
+    pair.ends[1].loses = Box::new(|packet| first_chunk(packet) == HEARTBEAT_ACK);
+    assert!(pair.run_until(MINUTE * 5, |pair| pair.state(0) == State::Closed));
+    assert_eq!(pair.ends[0].events.last(), Some(&Event::Down(Why::NoAnswer)));
+    // Its ABORT reached the other end.
+    pair.run_for(Duration::from_secs(1));
+    assert_eq!(pair.ends[1].events.last(), Some(&Event::Down(Why::PeerAborted)));
+}
+
+fn acknowledges_every_second_packet_or_after_200_ms<L: Library>() {
+    let mut pair = Pair::<L>::up(slow(1), 7);
+    let start = pair.now;
+    pair.ends[0].endpoint.hand_in(&[1; 512], 0, false, 0).expect("there is room");
+    assert!(pair.run_until(MINUTE, |pair| sent(pair, 1, SACK) == 1));
+    assert_eq!(pair.now - start, Duration::from_millis(201));
+    let start = pair.now;
+    for _ in 0..2 {
+        pair.ends[0].endpoint.hand_in(&[2; 512], 0, false, 0).expect("there is room");
+    }
+    assert!(pair.run_until(MINUTE, |pair| sent(pair, 1, SACK) == 2));
+    assert_eq!(pair.now - start, Duration::from_millis(1));
+}
+
+fn acknowledges_a_gap_at_once_and_resends_without_waiting_for_t3<L: Library>() {
+    let mut pair = Pair::<L>::up(slow(1), 8);
+    pair.ends[0].loses = loses_first(DATA, 1);
+    for _ in 0..4 {
+        pair.ends[0].endpoint.hand_in(&[3; 512], 0, false, 0).expect("there is room");
+    }
+    let start = pair.now;
+    assert!(pair.run_until(MINUTE, |pair| pair.ends[1].taken.len() == 4));
+    assert!(pair.now - start < Duration::from_millis(100));
+    assert_eq!(pair.ends[0].endpoint.counts().expiries, 0);
+    assert_eq!(pair.ends[0].endpoint.counts().resent, 1);
+}
+
+fn measures_round_trips_but_not_of_what_was_resent<L: Library>() {
+    let mut pair = Pair::<L>::up(slow(400), 9);
+    for _ in 0..2 {
+        pair.ends[0].endpoint.hand_in(&[4; 512], 0, false, 0).expect("there is room");
+    }
+    pair.run_for(Duration::from_secs(2));
+    // One sample of 800 ms: SRTT 800, RTTVAR 400, RTO 2,400.
+    assert_eq!(pair.ends[0].endpoint.standing().rto, Duration::from_millis(2400));
+    pair.ends[0].loses = loses_first(DATA, 1);
+    pair.ends[0].endpoint.hand_in(&[5; 512], 0, false, 0).expect("there is room");
+    pair.run_for(Duration::from_secs(10));
+    assert_eq!(pair.ends[1].taken.len(), 3);
+    // T3 doubled it, and the chunk that was sent twice is no sample.
+    assert_eq!(pair.ends[0].endpoint.standing().rto, Duration::from_millis(4800));
+}
+
+fn a_slow_taker_shuts_the_window_and_opens_it_again<L: Library>() {
+    let mut pair = Pair::<L>::up(slow(1), 10);
+    pair.ends[1].takes = false;
+    let message = |n: u8| vec![n; 512];
+    let mut handed_in = 0u8;
+    pair.run_until(Duration::from_millis(500), |pair| {
+        while handed_in < 200 && pair.ends[0].endpoint.hand_in(&message(handed_in), 0, false, 0).is_ok() {
+            handed_in += 1;
+        }
+        false
+    });
+    assert_eq!(pair.ends[1].endpoint.standing().window, 0);
+    pair.ends[1].takes = true;
+    let start = pair.now;
+    pair.run_until(MINUTE * 5, |pair| {
+        while handed_in < 200 && pair.ends[0].endpoint.hand_in(&message(handed_in), 0, false, 0).is_ok() {
+            handed_in += 1;
+        }
+        pair.ends[1].taken.len() == 200
+    });
+    assert!(pair.now - start < Duration::from_secs(1), "{:?}", pair.now - start);
+    assert!(pair.ends[1].taken.iter().zip(0u8..).all(|((_, _, taken), n)| *taken == message(n)));
+}
+
+fn a_stale_cookie_is_told_to_the_peer<L: Library>() {
+    let mut pair = Pair::<L>::new(slow(1), 11);
+    pair.ends[1].loses = Box::new(|packet| first_chunk(packet) == INIT_ACK);
+    pair.associate();
+    pair.run_for(Duration::from_millis(100));
+    let init_ack = pair.ends[1].sent.last().cloned().expect("the INIT was answered");
+    pair.run_for(MINUTE + Duration::from_secs(1));
+    let (from, now) = (pair.ends[1].address, pair.now);
+    pair.ends[0].endpoint.arrive(&init_ack, from, now);
+    assert!(pair.run_until(MINUTE, |pair| pair.state(0) == State::Closed));
+    assert_eq!(pair.ends[0].events, [Event::Down(Why::StaleCookie)]);
+    assert_eq!(pair.state(1), State::Closed);
+}
+
+fn an_old_cookie_starts_no_second_association<L: Library>() {
+    let mut pair = Pair::<L>::up(slow(1), 12);
+    let now = pair.now;
+    pair.ends[0].endpoint.abort(Cause::User, now).expect("an established association aborts");
+    pair.run_for(Duration::from_secs(1));
+    assert_eq!(pair.ends[0].events.last(), Some(&Event::Down(Why::WeAborted(Cause::User))));
+    assert_eq!(pair.ends[1].events.last(), Some(&Event::Down(Why::PeerAborted)));
+    let echo = pair.ends[0]
+        .sent
+        .iter()
+        .find(|packet| first_chunk(packet) == COOKIE_ECHO)
+        .cloned()
+        .expect("the cookie was echoed");
+    let (from, now) = (pair.ends[0].address, pair.now);
+    pair.ends[1].endpoint.arrive(&echo, from, now);
+    assert_eq!(pair.state(1), State::Closed);
+    assert!(pair.ends[1].endpoint.counts().refusals().any(|(refusal, _)| refusal == Refusal(27)));
+}
+
+fn opens_again_after_the_end<L: Library>() {
+    let mut pair = Pair::<L>::up(slow(1), 13);
+    for round in 0..3 {
+        pair.ends[0].endpoint.hand_in(&[round; 2000], 1, false, 0).expect("there is room");
+        let now = pair.now;
+        pair.ends[0].endpoint.shutdown(now).expect("an established association shuts down");
+        assert!(pair.run_until(MINUTE, |pair| pair.are(State::Closed)));
+        assert_eq!(pair.ends[1].taken.pop(), Some((1, 0, vec![round; 2000])));
+        pair.associate();
+        assert!(pair.run_until(MINUTE, |pair| pair.are(State::Established)));
+    }
+}
+
+fn noise_changes_nothing<L: Library>() {
+    let mut pair = Pair::<L>::up(slow(1), 14);
+    let (from, now) = (pair.ends[0].address, pair.now);
+    let before = pair.ends[1].endpoint.standing();
+    for length in 0..2000 {
+        let noise: Vec<u8> = (0..length).map(|n| (n * 7 + length) as u8).collect();
+        pair.ends[1].endpoint.arrive(&noise, from, now);
+    }
+    assert_eq!(pair.ends[1].endpoint.standing(), before);
+    assert_eq!(pair.ends[1].endpoint.outgoing(), None);
+}
+
+macro_rules! on_both {
+    ($($scenario:ident)*) => {
+        mod on_the_model {
+            $(#[test]
+            fn $scenario() {
+                super::$scenario::<super::Modelled>();
+            })*
+        }
+
+        #[cfg(feature = "proved")]
+        mod on_the_proved_library {
+            $(#[test]
+            fn $scenario() {
+                super::$scenario::<oilwhisper::library::Proved>();
+            })*
+        }
+    };
+}
+
+on_both! {
+    opens_and_shuts_down
+    carries_both_ways_in_any_weather
+    opens_though_every_handshake_packet_is_lost_twice
+    closes_though_every_farewell_is_lost_twice
+    gives_up_on_a_peer_that_never_answers
+    gives_up_on_a_peer_that_vanished_with_data_outstanding
+    beats_while_idle_and_notices_silence
+    acknowledges_every_second_packet_or_after_200_ms
+    acknowledges_a_gap_at_once_and_resends_without_waiting_for_t3
+    measures_round_trips_but_not_of_what_was_resent
+    a_slow_taker_shuts_the_window_and_opens_it_again
+    a_stale_cookie_is_told_to_the_peer
+    an_old_cookie_starts_no_second_association
+    opens_again_after_the_end
+    noise_changes_nothing
+}

@@ -1,0 +1,208 @@
+//! `include/oilwhisper.h` against what this crate links by: the same structs, sizes, offsets and numbers, read by a C compiler and by a C++ compiler.
+
+use oilwhisper::calls::Refusal;
+use oilwhisper::{calls, ffi};
+use std::fmt::Write as _;
+use std::io::Write as _;
+use std::mem::MaybeUninit;
+use std::path::Path;
+use std::process::{Command, Stdio};
+use std::ptr::addr_of;
+
+/// Writes an assertion for the size of each struct and the offset of each field. A field that is left out does not compile.
+macro_rules! layouts {
+    ($claims:ident: $($c:ident $rust:ident { $($field:ident)* })*) => {$(
+        fn $c(claims: &mut String) {
+            #[allow(dead_code)]
+            fn has_no_other_field(value: &ffi::$rust) {
+                let ffi::$rust { $($field: _),* } = value;
+            }
+            let value = MaybeUninit::<ffi::$rust>::uninit();
+            let start = value.as_ptr();
+            let size = std::mem::size_of::<ffi::$rust>();
+            writeln!(claims, "CLAIM(sizeof(struct {0}) == {1});", stringify!($c), size).unwrap();
+            $(
+                let field = unsafe { addr_of!((*start).$field) };
+                let offset = field as usize - start as usize;
+                writeln!(claims, "CLAIM(offsetof(struct {}, {}) == {});", stringify!($c), stringify!($field), offset).unwrap();
+            )*
+        }
+        $c($claims);
+    )*};
+}
+
+macro_rules! numbers {
+    ($claims:ident: $($c:ident $value:expr,)*) => {$(
+        writeln!($claims, "CLAIM({} == {});", stringify!($c), $value).unwrap();
+    )*};
+}
+
+fn claims() -> String {
+    let mut text = String::new();
+    let claims = &mut text;
+    layouts! { claims:
+        ow_ends Ends { local_port peer_port my_tag peer_tag streams_in streams_out }
+        ow_cookie Cookie { bytes len }
+        ow_keeping Keeping { point come dups listed }
+        ow_held Held { used begin end unordered tsn stream ssn ppid len }
+        ow_receiving Receiving { keeping held next }
+        ow_chunk Chunk { tsn order stream ssn ppid len begin end unordered }
+        ow_place Place { status misses chunk }
+        ow_control Control { cwnd ssthresh partial }
+        ow_clock Clock { sampled srtt rttvar rto }
+        ow_path Path { control clock flight running until tries }
+        ow_sending Sending { acked next_tsn advertised oldest places next path }
+        ow_association Record { state tries ends cookie receiving sending }
+        ow_answer Answer { number length over association }
+        ow_peeked Peeked { number kind source tag window outs ins tsn at len }
+        ow_lent Lent { tag tsn streams }
+        ow_made Made { my_tag peer_tag streams_in streams_out my_tsn peer_tsn window }
+        ow_echoed Echoed { word made }
+        ow_verdict Verdict { at value fate number cause event }
+        ow_arrived Arrived { number count verdicts length association }
+        ow_handed_in HandedIn { number chunks association }
+        ow_transmitted Transmitted { number length resent first last association }
+        ow_message Message { length stream unordered ssn ppid }
+        ow_delivered Delivered { number message association }
+        ow_blocks Blocks { count starts ends }
+        ow_sacked Sacked { point window blocks dups listed }
+        ow_acknowledged Acknowledged { number length sack association }
+        ow_value Value { bytes }
+    }
+    numbers! { claims:
+        OW_PLACES ffi::PLACES,
+        OW_STREAMS ffi::STREAMS,
+        OW_STREAMS calls::STREAMS_MOST,
+        OW_PAYLOAD calls::PAYLOAD,
+        OW_AREA calls::AREA,
+        OW_OUTPUT calls::OUTPUT,
+        OW_MESSAGE_MOST calls::MESSAGE_MOST,
+        OW_COOKIE_MOST ffi::COOKIE_MOST,
+        OW_LISTED ffi::LISTED,
+        OW_BLOCKS ffi::BLOCKS,
+        OW_VERDICTS ffi::VERDICTS,
+        OW_HEAD Refusal::TAG.0,
+        OW_STATE Refusal::STATE.0,
+        OW_DUPLICATE Refusal::DUPLICATE.0,
+        OW_WEDGED Refusal::WEDGED.0,
+        OW_FAR Refusal::FAR.0,
+        OW_STRAY Refusal::STRAY.0,
+        OW_NOTHING Refusal::NOTHING.0,
+        OW_SHORT ffi::SHORT,
+        OW_FULL Refusal::FULL.0,
+        OW_CLOSED ffi::CLOSED,
+        OW_COOKIE_WAIT ffi::COOKIE_WAIT,
+        OW_COOKIE_ECHOED ffi::COOKIE_ECHOED,
+        OW_ESTABLISHED ffi::ESTABLISHED,
+        OW_SHUTDOWN_PENDING ffi::SHUTDOWN_PENDING,
+        OW_SHUTDOWN_SENT ffi::SHUTDOWN_SENT,
+        OW_SHUTDOWN_RECEIVED ffi::SHUTDOWN_RECEIVED,
+        OW_SHUTDOWN_ACK_SENT ffi::SHUTDOWN_ACK_SENT,
+        OW_SAW_NOTHING ffi::SAW_NOTHING,
+        OW_SAW_INIT ffi::SAW_INIT,
+        OW_SAW_COOKIE_ECHO ffi::SAW_COOKIE_ECHO,
+        OW_BAD ffi::BAD,
+        OW_LATE ffi::LATE,
+        OW_GOOD ffi::GOOD,
+        OW_ACCEPTED ffi::ACCEPTED,
+        OW_REFUSED ffi::REFUSED,
+        OW_SKIPPED ffi::SKIPPED,
+        OW_SKIPPED_REPORTED ffi::SKIPPED_REPORTED,
+        OW_STOPPED ffi::STOPPED,
+        OW_STOPPED_REPORTED ffi::STOPPED_REPORTED,
+        OW_UNREAD ffi::UNREAD,
+        OW_NO_EVENT ffi::NO_EVENT,
+        OW_UP ffi::UP,
+        OW_DOWN_ABORT ffi::DOWN_ABORT,
+        OW_DOWN_STALE ffi::DOWN_STALE,
+        OW_DOWN_HOST_NAME ffi::DOWN_HOST_NAME,
+        OW_DOWN_SHUT_DOWN ffi::DOWN_SHUT_DOWN,
+        OW_CAUSE_NONE ffi::CAUSE_NONE,
+        OW_CAUSE_STREAM ffi::CAUSE_STREAM,
+        OW_CAUSE_STALE ffi::CAUSE_STALE,
+        OW_CAUSE_NO_DATA ffi::CAUSE_NO_DATA,
+        OW_CAUSE_USER ffi::CAUSE_USER,
+        OW_CAUSE_VIOLATION ffi::CAUSE_VIOLATION,
+    }
+    text
+}
+
+/// What the compiler says to a source that includes the header, or nothing where it is content.
+fn complaints(compiler: &str, language: &str, assertion: &str, claims: &str) -> String {
+    let include = Path::new(env!("CARGO_MANIFEST_DIR")).join("../include");
+    let mut run = Command::new(compiler)
+        .args(["-fsyntax-only", "-Wall", "-Wextra", "-Werror", "-pedantic", "-x", language, "-I"])
+        .arg(include)
+        .arg("-")
+        .stdin(Stdio::piped())
+        .stderr(Stdio::piped())
+        .spawn()
+        .unwrap_or_else(|e| panic!("cannot run {}: {}", compiler, e));
+    let source = format!(
+        "#include <oilwhisper.h>\n#define CLAIM(c) {}((c), #c)\n{}int main(void) {{ return 0; }}\n",
+        assertion, claims
+    );
+    run.stdin
+        .take()
+        .expect("it was piped")
+        .write_all(source.as_bytes())
+        .expect("the compiler reads its source");
+    let ended = run.wait_with_output().expect("the compiler ends");
+    let said = String::from_utf8_lossy(&ended.stderr).into_owned();
+    assert_eq!(ended.status.success(), said.is_empty(), "{}", said);
+    said
+}
+
+#[test]
+fn c_reads_the_header_as_rust_does() {
+    assert_eq!(complaints("cc", "c", "_Static_assert", &claims()), "");
+}
+
+#[test]
+fn cpp_reads_the_header_as_rust_does() {
+    let has_cpp = Command::new("c++").arg("--version").stdout(Stdio::null()).status().is_ok();
+    if !has_cpp {
+        println!("this machine has no C++ compiler: the header was read as C alone");
+        return;
+    }
+    assert_eq!(complaints("c++", "c++", "static_assert", &claims()), "");
+}
+
+#[test]
+fn a_wrong_claim_is_refused() {
+    let wrong = "CLAIM(offsetof(struct ow_ends, my_tag) == 5);\n";
+    assert!(complaints("cc", "c", "_Static_assert", wrong).contains("ow_ends"));
+    assert!(complaints("cc", "c", "_Static_assert", "CLAIM(OW_STALE == 16);\n").contains("OW_STALE"));
+}
+
+/// The declarations of the header and of `ffi`: the same functions with as many parameters.
+#[test]
+fn every_function_is_declared_alike() {
+    let header = include_str!("../../include/oilwhisper.h");
+    let rust = include_str!("../src/ffi.rs");
+    let expected: Vec<(String, usize)> = functions(header, "struct ow_");
+    let declared: Vec<(String, usize)> = functions(rust, "pub fn ow_");
+    assert_eq!(expected.len(), 17);
+    for function in &expected {
+        assert!(declared.contains(function), "{:?}", function);
+    }
+    assert_eq!(declared.len(), expected.len());
+}
+
+/// The names of declared functions and how many parameters each has; a declaration begins a line with these words and ends with a semicolon.
+fn functions(text: &str, begins: &str) -> Vec<(String, usize)> {
+    let mut found = Vec::new();
+    for (at, _) in text.match_indices(begins) {
+        let starts_line = text[..at].chars().rev().take_while(|c| *c != '\n').all(char::is_whitespace);
+        let declaration = text[at..].split(';').next().unwrap_or_default();
+        if !starts_line || declaration.contains('{') {
+            continue;
+        }
+        if let Some((head, rest)) = declaration.split_once('(') {
+            let name = head.rsplit(' ').next().unwrap_or_default().to_string();
+            let parameters = rest.split(')').next().unwrap_or_default();
+            found.push((name, parameters.split(',').filter(|part| !part.trim().is_empty()).count()));
+        }
+    }
+    found
+}

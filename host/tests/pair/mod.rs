@@ -1,0 +1,171 @@
+//! Two endpoints on a clock that the test moves, with a channel each way.
+
+use oilwhisper::calls::State;
+use oilwhisper::endpoint::{Config, Endpoint, Event};
+use oilwhisper::library::Library;
+use oilwhisper::random::Random;
+use oilwhisper::relay::{Channel, Weather};
+use std::net::SocketAddr;
+use std::time::{Duration, Instant};
+
+pub const PORTS: [u16; 2] = [5000, 5001];
+
+/// Whether a packet is lost.
+pub type Loses = Box<dyn FnMut(&[u8]) -> bool>;
+
+/// One end, with what it sent, took and saw happen.
+pub struct End<L> {
+    pub endpoint: Endpoint<L>,
+    pub address: SocketAddr,
+    pub channel: Channel,
+    /// Decides which packets of this end are lost before they reach its channel.
+    pub loses: Loses,
+    pub sent: Vec<Vec<u8>>,
+    pub taken: Vec<(u16, u16, Vec<u8>)>,
+    pub takes: bool,
+    pub events: Vec<Event>,
+}
+
+pub struct Pair<L> {
+    pub now: Instant,
+    pub ends: [End<L>; 2],
+}
+
+pub fn config(end: usize) -> Config {
+    Config {
+        first_tsn: Some(u32::MAX - 99),
+        ..Config::at_port(PORTS[end])
+    }
+}
+
+impl<L: Library> Pair<L> {
+    pub fn new(weather: Weather, seed: u64) -> Pair<L> {
+        Pair::with(weather, seed, [config(0), config(1)])
+    }
+
+    pub fn with(weather: Weather, seed: u64, configs: [Config; 2]) -> Pair<L> {
+        let now = Instant::now();
+        let end = |n: usize| End {
+            endpoint: Endpoint::new(configs[n], Random::from_key([seed as u8 ^ n as u8; 32]), now),
+            address: SocketAddr::from(([10, 0, 0, n as u8], 9899)),
+            channel: Channel::new(weather, seed.wrapping_mul(2) + n as u64),
+            loses: Box::new(|_| false),
+            sent: Vec::new(),
+            taken: Vec::new(),
+            takes: true,
+            events: Vec::new(),
+        };
+        Pair { now, ends: [end(0), end(1)] }
+    }
+
+    /// The first end asks the second for an association.
+    pub fn associate(&mut self) {
+        let (to, now) = (self.ends[1].address, self.now);
+        self.ends[0].endpoint.associate(to, PORTS[1], now).expect("a closed record can associate");
+    }
+
+    pub fn up(weather: Weather, seed: u64) -> Pair<L> {
+        let mut pair = Pair::new(weather, seed);
+        pair.associate();
+        assert!(pair.run_until(Duration::from_secs(60), |pair| pair.are(State::Established)));
+        pair
+    }
+
+    pub fn state(&self, end: usize) -> State {
+        self.ends[end].endpoint.standing().state
+    }
+
+    pub fn are(&self, state: State) -> bool {
+        self.state(0) == state && self.state(1) == state
+    }
+
+    /// Moves the clock from moment to moment until the end is reached; false where so much time passes before.
+    pub fn run_until(&mut self, most: Duration, mut is_reached: impl FnMut(&mut Pair<L>) -> bool) -> bool {
+        let deadline = self.now + most;
+        loop {
+            self.settle();
+            if is_reached(self) {
+                return true;
+            }
+            self.settle();
+            let moments = self.ends.iter().flat_map(|end| [end.endpoint.next_moment(), end.channel.next()]);
+            match moments.flatten().min() {
+                Some(next) if next <= deadline => self.now = self.now.max(next),
+                _ => {
+                    self.now = deadline;
+                    return false;
+                }
+            }
+        }
+    }
+
+    pub fn run_for(&mut self, time: Duration) {
+        self.run_until(time, |_| false);
+    }
+
+    /// All that happens at this moment.
+    fn settle(&mut self) {
+        loop {
+            let mut moved = false;
+            for n in 0..2 {
+                moved |= self.step(n);
+            }
+            if !moved {
+                return;
+            }
+        }
+    }
+
+    fn step(&mut self, n: usize) -> bool {
+        let now = self.now;
+        let (here, there) = match (&mut self.ends, n) {
+            ([a, b], 0) => (a, b),
+            ([a, b], _) => (b, a),
+        };
+        here.endpoint.expire(now);
+        let mut moved = false;
+        while let Some(packet) = there.channel.leave(now) {
+            here.endpoint.arrive(&packet, there.address, now);
+            here.take_all();
+            here.endpoint.flush(now);
+            moved = true;
+        }
+        here.take_all();
+        here.endpoint.flush(now);
+        while let Some(datagram) = here.endpoint.outgoing() {
+            assert_eq!(datagram.to, there.address);
+            if !(here.loses)(&datagram.packet) {
+                here.channel.enter(&datagram.packet, now);
+            }
+            here.sent.push(datagram.packet);
+            moved = true;
+        }
+        here.events.extend(std::iter::from_fn(|| here.endpoint.event()));
+        moved
+    }
+}
+
+impl<L: Library> End<L> {
+    fn take_all(&mut self) {
+        while self.takes {
+            match self.endpoint.take() {
+                Some((taken, message)) => self.taken.push((taken.stream, taken.ssn, message.to_vec())),
+                None => return,
+            }
+        }
+    }
+}
+
+/// The type of a packet's first chunk.
+pub fn first_chunk(packet: &[u8]) -> u8 {
+    packet[12]
+}
+
+/// Loses the first so many packets that begin with a chunk of this type.
+pub fn loses_first(chunk: u8, mut count: u32) -> Loses {
+    Box::new(move |packet| {
+        let lost = first_chunk(packet) == chunk && count > 0;
+        count -= u32::from(lost);
+        lost
+    })
+}
