@@ -16,4 +16,5 @@ pub mod AcknowledgeLaws
 pub mod ChooseSound
 pub mod HandInSound
 pub mod SumLaws
+pub mod TypedLaws
 pub mod KeptLaws
