@@ -18,3 +18,4 @@ pub mod HandInSound
 pub mod SumLaws
 pub mod TypedLaws
 pub mod KeptLaws
+pub mod SizeLaws
