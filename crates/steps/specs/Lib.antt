@@ -7,3 +7,4 @@ pub mod Closing
 pub mod Unknown
 pub mod Steps
 pub mod VerdictLaws
+pub mod SoundLaws
