@@ -1,10 +1,12 @@
 -- What keeps a record within its bounds. Assumes nothing.
-use Prim.Native.Nat.{_^_}
-use mathlib.Core.Path.{_≡_, refl, sym}
+use Prim.Native.Nat.{ℕ, _^_, _≤_}
+use mathlib.Core.Path.{_≡_, refl}
 use mathlib.Core.Bool.{Bool, true, false, not}
-use lib.Dec.{ltb, eqb}
+use borrow.Author.Tests.{le-ltb, le-leb, ltb-false, leb-true}
+use lib.Dec.{ltb, leb, eqb}
 use Rattle.scans.specs.Scan.{pick}
 use Rattle.scans.specs.Each.{clash}
+use Rattle.scans.specs.Upto.{smaller, pick-keeps}
 use Rattle.numbers.specs.Numbering.{ring}
 use Rattle.numbers.specs.Profile.{rail}
 use Rattle.path.specs.Sizes.{railSizes}
@@ -72,6 +74,20 @@ module _ (a : Association) (e : isSound a ≡ true) where
       parts-sound (withSending a s) (record { tries = p .tries; cookie = p .cookie; head = p .head; receiving = p .receiving; sending = h })
 
 -- ---- tags and streams
+
+-- one side's number and the other's: the fewer of the two can be agreed
+pub fewer-streams : (m n : ℕ) → 1 ≤ m → 1 ≤ n → smaller m n ≤ 128 → areStreams (smaller m n) ≡ true
+fewer-streams m n a b c = streams-so (smaller m n) (pick-keeps (λ (x : ℕ). 1 ≤ x) (ltb m n) m n a b) c
+  where
+    streams-so : (n : ℕ) → 1 ≤ n → n ≤ 128 → areStreams n ≡ true
+    streams-so n a b = rw (le-ltb n 1 a) (le-leb n 128 b)
+
+pub streams-few : (n : ℕ) → areStreams n ≡ true → (1 ≤ n) × (n ≤ 128)
+streams-few n e = go (ltb n 1) refl e
+  where
+    go : (t : Bool) → ltb n 1 ≡ t → pick t false (leb n 128) ≡ true → (1 ≤ n) × (n ≤ 128)
+    go true q e = clash e
+    go false q e = (ltb-false n 1 q, leb-true n 128 e)
 
 pub record Ended (e : Ends) (known : Bool) : Type 0 where
   pub mine : eqb (e .«my_tag») 0 ≡ false

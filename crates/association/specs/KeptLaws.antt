@@ -1,5 +1,5 @@
 -- A record as its types have it, within its bounds: the fresh ones are, and it stays so whatever part is replaced by one that is. Assumes nothing.
-use Prim.Native.Nat.{ℕ, _^_, _<_}
+use Prim.Native.Nat.{ℕ, _^_, _<_, _≤_}
 use mathlib.Core.Path.{_≡_, refl, _∙_}
 use mathlib.Core.Bool.{true}
 use native.Mathlib.Omega.{arith}
@@ -14,6 +14,7 @@ use Rattle.delivery.specs.Bounds.{Sound}
 use Rattle.delivery.specs.BoundsLaws.{test-sound, sound-test}
 use Rattle.delivery.specs.Laws.{Shaped, fresh-shaped, fresh-sound}
 use Rattle.sending.specs.declared.sending.Sending.{Sending}
+use Rattle.sending.specs.BoundsLaws as bounds
 use Rattle.sending.specs.TypedLaws.{Whole}
 use Rattle.sending.specs.KeptLaws as sender
 use Rattle.states.specs.declared.state.State.{State}
@@ -48,6 +49,10 @@ module _ (a : Association) (k : Kept a) where
 
   pub kept-sender : sender.Kept railSizes rail (a .sending)
   kept-sender = record { whole = k .typed .sending; within = sound-parts a (k .sound) .sending }
+
+  -- "Tries: 8 for T1, 10 for T2 and T3": no count passes its limit
+  pub kept-tries : (withinTries (a .state) ≡ true) × (a .sending .path .tries ≤ 10)
+  kept-tries = (sound-parts a (k .sound) .tries, bounds.test-sound railSizes rail (a .sending) (kept-sender .within) .path .tried)
 
   pub kept-with-receiving : (r : Receiving) → Received r → Kept (withReceiving a r)
   kept-with-receiving r h = record {
