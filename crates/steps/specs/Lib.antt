@@ -8,3 +8,4 @@ pub mod Unknown
 pub mod Steps
 pub mod VerdictLaws
 pub mod SoundLaws
+pub mod StepsLaws
