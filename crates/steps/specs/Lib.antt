@@ -9,3 +9,4 @@ pub mod Steps
 pub mod VerdictLaws
 pub mod SoundLaws
 pub mod StepsLaws
+pub mod HeldLaws
