@@ -14,3 +14,4 @@ pub mod Peek
 pub mod Transmit
 pub mod TransmitLaws
 pub mod CallLaws
+pub mod SoundLaws
