@@ -15,3 +15,4 @@ pub mod Transmit
 pub mod TransmitLaws
 pub mod CallLaws
 pub mod SoundLaws
+pub mod LeftLaws
