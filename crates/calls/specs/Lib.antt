@@ -16,3 +16,4 @@ pub mod TransmitLaws
 pub mod CallLaws
 pub mod SoundLaws
 pub mod LeftLaws
+pub mod SizeLaws
