@@ -7,3 +7,4 @@ pub mod Reply
 pub mod ReplyLaws
 pub mod Arrival
 pub mod ArrivalLaws
+pub mod KeptLaws

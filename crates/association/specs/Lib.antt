@@ -2,3 +2,4 @@
 pub mod Fresh
 pub mod Bounds
 pub mod BoundsLaws
+pub mod KeptLaws

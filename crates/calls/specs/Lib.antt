@@ -14,3 +14,6 @@ pub mod Peek
 pub mod Transmit
 pub mod TransmitLaws
 pub mod CallLaws
+pub mod SoundLaws
+pub mod LeftLaws
+pub mod SizeLaws

@@ -42,6 +42,14 @@ ended-within s = go (decLt (u16 s 2) (length s))
     go (yes x) = rw (lt-ltb (u16 s 2) (length s) x) (omega arith, omega arith)
     go (no x) = rw (le-ltb (u16 s 2) (length s) (omega arith)) (omega arith, omega arith)
 
+pub part-inside : (k : ℕ) (s : List ℕ) → partFrom k s .at + partFrom k s .len ≤ length s
+unfolding partFrom
+part-inside k s = go (decLt k (ended s))
+  where
+    go : Dec (k < ended s) → smaller k (ended s) + (ended s - k) ≤ length s
+    go (yes x) = rw (lt-ltb k (ended s) x) (omega (arith, ended-within s .1))
+    go (no x) = rw (le-ltb k (ended s) (omega arith)) (omega (arith, ended-within s .1))
+
 -- a chunk whose length lies within s ends there, and its parts are as long as they say
 module _ (s : List ℕ) (n : ℕ) (e : u16 s 2 ≡ n) (h : n ≤ length s) where
   pub ended-is : ended s ≡ n

@@ -15,3 +15,4 @@ pub mod CookieLaws
 pub mod Cause
 pub mod RoundTrips
 pub mod Again
+pub mod ReadLaws

@@ -414,7 +414,13 @@ module _ (z : Sizes) (P : Profile) where
     record { circle = record { acked = h .1 .circle .acked; next = h .1 .circle .next; tsns = h .1 .circle .tsns }; oldest = h .1 .oldest; orders = h .1 .orders; few = h .1 .few },
   )
 
-  pub filled-sound : (s : Sending) → Sound z P s → Typed s → Sound z P (filled z P s .sending)
+  filled-sure : (s : Sending) → Sure s → Sure (filled z P s .sending)
   unfolding filled
-  filled-sound s w t =
-      run-kept (λ (f : Chosen). Sure (f .sending)) (λ f. going f .go) (λ f. filling P f (going f .place)) step-sure (z .bundled) (begun z s) (begun-sure s (w, t)) .0
+  filled-sure s h =
+      run-kept (λ (f : Chosen). Sure (f .sending)) (λ f. going f .go) (λ f. filling P f (going f .place)) step-sure (z .bundled) (begun z s) (begun-sure s h)
+
+  pub filled-sound : (s : Sending) → Sound z P s → Typed s → Sound z P (filled z P s .sending)
+  filled-sound s w t = filled-sure s (w, t) .0
+
+  pub filled-typed : (s : Sending) → Sound z P s → Typed s → Typed (filled z P s .sending)
+  filled-typed s w t = filled-sure s (w, t) .1

@@ -51,7 +51,7 @@ module _ {A B : Type 0} (f : B → A → B) (g : B → A → A) where
       go true p false q ih = clash (sym q ∙ k b x p)
       go false p false q ih = ih (rw p at e)
 
-  carry-all : (Q : A → Type 0) → ((b : B) (x : A) → Q x → Q (g b x)) → (b : B) (xs : List A) → All Q xs → All Q (carried f g b xs)
+  pub carry-all : (Q : A → Type 0) → ((b : B) (x : A) → Q x → Q (g b x)) → (b : B) (xs : List A) → All Q xs → All Q (carried f g b xs)
   carry-all Q k b [] w = tt
   carry-all Q k b (x ∷ xs) w = (k b x (w .0), carry-all Q k (f b x) xs (w .1))
 

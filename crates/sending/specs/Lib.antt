@@ -16,4 +16,6 @@ pub mod AcknowledgeLaws
 pub mod ChooseSound
 pub mod HandInSound
 pub mod SumLaws
+pub mod TypedLaws
 pub mod KeptLaws
+pub mod SizeLaws

@@ -3,3 +3,4 @@ pub mod Tries
 pub mod Rows
 pub mod Calls
 pub mod TriesLaws
+pub mod RowsLaws

@@ -6,6 +6,7 @@ use native.Mathlib.Omega.{arith}
 use borrow.Author.Tests.{ltb-true, le-leb}
 use lib.Dec.{ltb}
 use Rattle.scans.specs.Scan.{pick}
+use Rattle.scans.specs.Upto.{pick-keeps}
 use Rattle.states.specs.declared.state.State.{State}
 use Rattle.states.specs.declared.state.State.the-variants.{Closed, CookieWait, CookieEchoed, Established, ShutdownPending, ShutdownSent, ShutdownReceived, ShutdownAckSent}
 use Rattle.states.specs.Tries.{triedAgain, withinTries}
@@ -29,3 +30,16 @@ tries-kept ShutdownPending h = refl
 tries-kept (ShutdownSent n) h = once ShutdownSent 10 (λ m e. le-leb (m + 1) 10 (omega (arith, ltb-true m 10 e))) n
 tries-kept ShutdownReceived h = refl
 tries-kept (ShutdownAckSent n) h = once ShutdownAckSent 10 (λ m e. le-leb (m + 1) 10 (omega (arith, ltb-true m 10 e))) n
+
+-- one try more is the same state with another count, or CLOSED
+pub tried-keeps : (P : State → Type 0) → P Closed → ((n : ℕ) → P (CookieWait n) → P (CookieWait (n + 1))) → ((n : ℕ) → P (CookieEchoed n) → P (CookieEchoed (n + 1)))
+    → ((n : ℕ) → P (ShutdownSent n) → P (ShutdownSent (n + 1))) → ((n : ℕ) → P (ShutdownAckSent n) → P (ShutdownAckSent (n + 1))) → (s : State) → P s → P (triedAgain s)
+unfolding triedAgain
+tried-keeps P c a b d e Closed h = h
+tried-keeps P c a b d e (CookieWait n) h = pick-keeps P (ltb n 8) _ _ (a n h) c
+tried-keeps P c a b d e (CookieEchoed n) h = pick-keeps P (ltb n 8) _ _ (b n h) c
+tried-keeps P c a b d e Established h = h
+tried-keeps P c a b d e ShutdownPending h = h
+tried-keeps P c a b d e (ShutdownSent n) h = pick-keeps P (ltb n 10) _ _ (d n h) c
+tried-keeps P c a b d e ShutdownReceived h = h
+tried-keeps P c a b d e (ShutdownAckSent n) h = pick-keeps P (ltb n 10) _ _ (e n h) c

@@ -7,3 +7,6 @@ pub mod Closing
 pub mod Unknown
 pub mod Steps
 pub mod VerdictLaws
+pub mod SoundLaws
+pub mod StepsLaws
+pub mod HeldLaws

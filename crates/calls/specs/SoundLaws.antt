@@ -1,0 +1,191 @@
+-- Every call keeps a record within its bounds. Assumes nothing.
+use Prim.Native.Nat.{ℕ, _^_, _<_, _≤_}
+use mathlib.Core.Path.{_≡_, refl}
+use mathlib.Core.Bool.{Bool, true, false}
+use mathlib.Core.List.{List}
+use native.Mathlib.Omega.{arith}
+use borrow.Author.Tests.{eqb-true, eqb-false}
+use lib.Dec.{eqb}
+use Rattle.scans.specs.Scan.{pick}
+use Rattle.scans.specs.Upto.{pick-keeps}
+use Rattle.numbers.specs.declared.circle.StreamId.{StreamId}
+use Rattle.numbers.specs.declared.circle.Tsn.{Tsn}
+use Rattle.numbers.specs.Numbering.{ring}
+use Rattle.numbers.specs.Profile.{rail}
+use Rattle.path.specs.Sizes.{railSizes}
+use Rattle.path.specs.Laws.{rail-fair, smaller-right}
+use Rattle.holding.specs.declared.taking.Answer as took
+use Rattle.holding.specs.declared.taking.Answer.the-variants.{Taken, Nothing, Short}
+use Rattle.delivery.specs.Laws.{taken-shaped, taken-sound, told-shaped, told-sound}
+use Rattle.sending.specs.KeptLaws as sending
+use Rattle.sending.specs.Sending.{isBare}
+use Rattle.sending.specs.Expiry.{expired}
+use Rattle.states.specs.declared.state.State.{State}
+use Rattle.states.specs.declared.state.State.the-variants.{CookieWait, CookieEchoed, Established, ShutdownPending, ShutdownSent, ShutdownReceived, ShutdownAckSent}
+use Rattle.states.specs.declared.calls.Call.{Call}
+use Rattle.states.specs.declared.calls.Call.the-variants.{Associate, HandIn, Acknowledge, ThirdTimer, Shutdown, Abort, Heartbeat, Sample, TellStale}
+use Rattle.states.specs.Calls.{permitted}
+use Rattle.states.specs.Tries.{triedAgain, withinTries}
+use Rattle.states.specs.TriesLaws.{tries-kept, tried-keeps}
+use Rattle.states.specs.RowsLaws.{each-state, shutdown-knows}
+use Rattle.association.specs.declared.ends.Association.{Association}
+use Rattle.association.specs.Fresh.{withState}
+use Rattle.association.specs.Bounds.{isHead, isSound}
+use Rattle.association.specs.BoundsLaws.{sound-parts, fewer-streams, ended-ends}
+use Rattle.association.specs.KeptLaws.{Kept, kept-receiver, kept-sender, kept-with-receiving, kept-with-sending, kept-with-state, kept-closed, kept-moved, kept-started}
+use Rattle.calls.specs.declared.acknowledging.Acknowledged.{Acknowledged}
+use Rattle.calls.specs.declared.closing.Reason.{Reason}
+use Rattle.calls.specs.declared.messages.HandedIn.{HandedIn}
+use Rattle.calls.specs.declared.messages.Delivered.{Delivered}
+use Rattle.calls.specs.declared.transmitting.Transmitted.{Transmitted}
+use Rattle.calls.specs.Answer.{isShortArea, isShortOut, barred, earlier, Plan, refusing, unless, answerOf}
+use Rattle.calls.specs.Opening.{wanting, associateRefusal, associating}
+use Rattle.calls.specs.Messages.{handedIn, deliveredAs, taking, delivered}
+use Rattle.calls.specs.Transmit.{transmitBar, transmitted}
+use Rattle.calls.specs.Acknowledging.{acknowledged}
+use Rattle.calls.specs.Timers.{backedOff, triedTo, expiring, expiringThird, sampling}
+use Rattle.calls.specs.Closing.{shutting, aborted, aborting}
+use Rattle.calls.specs.Telling.{tellingStream, tellingStale, beating}
+
+-- ---- calls that answer by a plan
+
+abbrev pub Keeps : Plan → Type 0
+Keeps p = Kept (p .association)
+
+pub answer-keeps : (p : Plan) (out : List ℕ) → Keeps p → Kept (answerOf p out .association)
+unfolding answerOf
+answer-keeps p out k = k
+
+-- a call that is let in is one for the state
+let-in-state : (a : Association) (short : Bool) (call : Call) → barred a short call ≡ 0 → permitted call (a .state) ≡ true
+unfolding barred
+let-in-state a short call e = go (isSound a) short (permitted call (a .state)) e
+  where
+    go : (s t p : Bool) → _≡_ {A = ℕ} (pick s (pick t 18 (pick p 0 7)) 1) 0 → p ≡ true
+    go true true p h = absurd (omega (arith, h))
+    go true false true h = refl
+    go true false false h = absurd (omega (arith, h))
+    go false t p h = absurd (omega (arith, h))
+
+next-none : (m n : ℕ) → earlier m n ≡ 0 → n ≡ 0
+next-none m n e = go (eqb m 0) refl e
+  where
+    go : (t : Bool) → eqb m 0 ≡ t → pick t n m ≡ 0 → n ≡ 0
+    go true q h = h
+    go false q h = absurd (eqb-false m 0 q h)
+
+wanted : (tag port streams : ℕ) → associateRefusal tag port streams ≡ 0 → (eqb tag 0 ≡ false) × (1 ≤ streams)
+unfolding associateRefusal
+wanted tag port streams e = go (eqb port 0) (eqb tag 0) (eqb streams 0) refl e
+  where
+    go : (p t s : Bool) → eqb streams 0 ≡ s → _≡_ {A = ℕ} (pick p 4 (pick t 8 (pick s 8 0))) 0 → (t ≡ false) × (1 ≤ streams)
+    go true t s q h = absurd (omega (arith, h))
+    go false true s q h = absurd (omega (arith, h))
+    go false false true q h = absurd (omega (arith, h))
+    go false false false q h = (refl, omega (arith, eqb-false streams 0 q))
+
+-- "our own INIT, starts from a fresh record"
+wanting-kept : (a : Association) (tag : ℕ) (tsn : Tsn) (port streams : ℕ) → tsn .0 < 2 ^ 32 → eqb tag 0 ≡ false → 1 ≤ streams → Kept (wanting a tag tsn port streams)
+unfolding wanting
+wanting-kept a tag tsn port streams h t n =
+    kept-started (CookieWait 0) _ tsn 0 (record { 0 = 1 }) refl
+    (ended-ends _ false (record { mine = t; theirs = refl; ins = refl; outs = fewer-streams streams 128 n (omega arith) (smaller-right streams 128) })) h (omega arith)
+
+module _ (a : Association) (k : Kept a) where
+  unless-keeps : (n : ℕ) (p : Plan) → (n ≡ 0 → Keeps p) → Keeps (unless n a p)
+  unless-keeps n p f = go (eqb n 0) refl
+    where
+      go : (t : Bool) → eqb n 0 ≡ t → Keeps (pick t p (refusing a n))
+      go true e = f (eqb-true n 0 e)
+      go false e = k
+
+  pub associate-keeps : (tag : ℕ) (tsn : Tsn) (port streams : ℕ) (out : List ℕ) → tsn .0 < 2 ^ 32 → Keeps (associating a tag tsn port streams out)
+  unfolding associating
+  associate-keeps tag tsn port streams out h =
+      unless-keeps (earlier (barred a (isShortOut out) Associate) (associateRefusal tag port streams)) _ (λ e. let w = wanted tag port streams (next-none (barred a (isShortOut out) Associate) (associateRefusal tag port streams) e) in wanting-kept a tag tsn port streams h (w .0) (w .1))
+
+  -- T1 and T2
+  tried-keeps-bounds : (s : State) → withinTries s ≡ true → isHead s (a .ends) (a .cookie) ≡ true → Keeps (triedTo a s)
+  unfolding triedTo backedOff
+  tried-keeps-bounds =
+      let on : (s : State) → withinTries s ≡ true → isHead s (a .ends) (a .cookie) ≡ true → Kept (backedOff a s)
+      = λ s t h. kept-with-sending (withState a s) (kept-with-state a k s t h) _ (sending.doubled-kept railSizes rail rail-fair (a .sending) (kept-sender a k)) in
+      each-state (λ s. withinTries s ≡ true → isHead s (a .ends) (a .cookie) ≡ true → Keeps (triedTo a s)) (λ t h. kept-closed a k) (λ n. on (CookieWait n)) (λ n. on (CookieEchoed n)) (on Established)
+      (on ShutdownPending) (λ n. on (ShutdownSent n)) (on ShutdownReceived) (λ n. on (ShutdownAckSent n))
+
+  pub expiry-keeps : (call : Call) (out : List ℕ) → Keeps (expiring a call out)
+  unfolding expiring
+  expiry-keeps call out =
+      let p = sound-parts a (k .sound) in
+      unless-keeps (barred a (isShortOut out) call) _
+      (λ e. tried-keeps-bounds (triedAgain (a .state)) (tries-kept (a .state) (p .tries)) (tried-keeps (λ s. isHead s (a .ends) (a .cookie) ≡ true) refl (λ n h. h) (λ n h. h) (λ n h. h) (λ n h. h) (a .state) (p .head)))
+
+  pub third-keeps : Keeps (expiringThird a)
+  unfolding expiringThird
+  third-keeps =
+      unless-keeps (barred a false ThirdTimer) _
+      (λ e. pick-keeps Keeps (eqb (expired railSizes (a .sending) .number) 0) _ _ (pick-keeps Keeps (expired railSizes (a .sending) .over) _ _ (kept-closed a k) (kept-with-sending a k _ (sending.expired-kept railSizes rail rail-fair (a .sending) (kept-sender a k)))) k)
+
+  pub sample-keeps : (sample : ℕ) → Keeps (sampling a sample)
+  unfolding sampling
+  sample-keeps sample = unless-keeps (barred a false Sample) _ (λ e. kept-with-sending a k _ (sending.sampled-kept railSizes rail rail-fair (a .sending) (kept-sender a k) sample))
+
+  pub shutdown-keeps : (out : List ℕ) → Keeps (shutting a out)
+  unfolding shutting
+  shutdown-keeps out =
+      unless-keeps (barred a (isShortOut out) Shutdown) _
+      (λ e. let o = shutdown-knows (a .state) (let-in-state a (isShortOut out) Shutdown e) in pick-keeps Keeps (isBare (a .sending)) _ _ (kept-moved a k o (ShutdownSent 0) refl refl) (kept-moved a k o ShutdownPending refl refl))
+
+  aborted-keeps : (why : Reason) (s : State) → Keeps (aborted s a why)
+  aborted-keeps why =
+      let c = kept-closed a k in
+      each-state (λ s. Keeps (aborted s a why)) c (λ n. c) (λ n. c) c c (λ n. c) c (λ n. c)
+
+  pub abort-keeps : (why : Reason) (out : List ℕ) → Keeps (aborting a why out)
+  unfolding aborting
+  abort-keeps why out = unless-keeps (barred a (isShortOut out) Abort) _ (λ e. aborted-keeps why (a .state))
+
+  pub stream-keeps : (stream : StreamId) (out : List ℕ) → Keeps (tellingStream a stream out)
+  unfolding tellingStream
+  stream-keeps stream out = unless-keeps (barred a (isShortOut out) Acknowledge) _ (λ e. k)
+
+  pub stale-keeps : (port tag late : ℕ) (out : List ℕ) → Keeps (tellingStale a port tag late out)
+  unfolding tellingStale
+  stale-keeps port tag late out = unless-keeps (barred a (isShortOut out) TellStale) _ (λ e. k)
+
+  pub heartbeat-keeps : (value out : List ℕ) → Keeps (beating a value out)
+  unfolding beating
+  heartbeat-keeps value out = unless-keeps (barred a (isShortOut out) Heartbeat) _ (λ e. k)
+
+  -- ---- calls with answers of their own
+
+  pub hand-in-keeps : (area : List ℕ) (len : ℕ) (stream : StreamId) (unordered : Bool) (ppid : ℕ) → Kept (handedIn a area len stream unordered ppid .association)
+  unfolding handedIn
+  hand-in-keeps area len stream unordered ppid =
+      pick-keeps (λ (x : HandedIn). Kept (x .association)) (eqb (barred a (isShortArea area) HandIn) 0) _ _
+      (kept-with-sending a k _ (sending.handed-kept railSizes rail rail-fair (a .sending) (kept-sender a k) (omega arith) len stream unordered ppid (a .ends .«streams_out»))) k
+
+  pub transmit-keeps : (area out : List ℕ) → Kept (transmitted a area out .association)
+  unfolding transmitted
+  transmit-keeps area out =
+      pick-keeps (λ (x : Transmitted). Kept (x .association)) (eqb (transmitBar a area out) 0) _ _
+      (kept-with-sending a k _ (sending.filled-kept railSizes rail rail-fair (a .sending) (kept-sender a k))) k
+
+  delivered-keeps : (x : took.Answer) (b : Association) → Kept b → Kept (deliveredAs x b .association)
+  delivered-keeps (Taken m) b h = h
+  delivered-keeps Nothing b h = h
+  delivered-keeps (Short n) b h = h
+
+  pub take-keeps : (area : List ℕ) (room : ℕ) → Kept (delivered a area room .association)
+  unfolding delivered
+  take-keeps area room =
+      let r = kept-receiver a k in
+      let t = kept-with-receiving a k (taking a room .receiving) (record { shaped = taken-shaped (ring (2 ^ 32)) (ring (2 ^ 16)) rail (a .receiving) room (r .shaped); sound = taken-sound (ring (2 ^ 32)) (ring (2 ^ 16)) rail (a .receiving) room (r .sound) }) in
+      pick-keeps (λ (x : Delivered). Kept (x .association)) (isSound a) _ _ (pick-keeps (λ (x : Delivered). Kept (x .association)) (isShortArea area) _ _ k (delivered-keeps (taking a room .answer) _ t)) k
+
+  pub sack-keeps : (out : List ℕ) → Kept (acknowledged a out .association)
+  unfolding acknowledged
+  sack-keeps out =
+      let r = kept-receiver a k in
+      pick-keeps (λ (x : Acknowledged). Kept (x .association)) (eqb (barred a (isShortOut out) Acknowledge) 0) _ _
+      (kept-with-receiving a k _ (record { shaped = told-shaped (ring (2 ^ 32)) rail (a .receiving) (r .shaped); sound = told-sound (ring (2 ^ 32)) rail (a .receiving) (r .sound) })) k
