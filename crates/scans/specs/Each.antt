@@ -19,6 +19,7 @@ module _ {A : Type 0} where
 -- ---- a list whose elements are replaced, each by one that answers the test alike
 
 module _ {A B : Type 0} (f : A → B) (p : A → Bool) (q : B → Bool) where
+  -- the one that takes the place of x answers as x does
   abbrev pub Alike : A → Type 0
   Alike x = q (f x) ≡ p x
 
