@@ -26,6 +26,7 @@ use Rattle.numbers.specs.KeepingLaws.{Comes, flagOf, come-below, same-ah
 -- ---- the numbers of what is used
 
 module _ {A : Type 0} (used : A → Bool) (number : A → ℕ) where
+  -- the numbers of those that are used
   abbrev pub numbersOf : List A → List ℕ
   numbersOf [] = []
   numbersOf (x ∷ xs) = pick (used x) (number x ∷ numbersOf xs) (numbersOf xs)
@@ -84,6 +85,7 @@ apart t (y ∷ ts) e = go (ℕ-discrete y t) (apart t ts)
 
 -- ---- flags
 
+-- a flag is its own test
 abbrev flag : Bool → Bool
 flag b = b
 
