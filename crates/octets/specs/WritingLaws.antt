@@ -212,7 +212,7 @@ module _ {xs ys zs a b : List ℕ} {n m : ℕ} (short : length a + length b ≤ 
       rw (← room-is)
       (length-append (fitting (length xs) a) (fitting (length ys - n) b) ∙ (λ i. sym (one .count-is) i + sym (two .count-is) i))
 
-  -- a second writer in the part of the space behind the first
+  -- a second writer in the part of the output behind the first
   pub wrote-both : Wrote xs (bothFitting (length xs) a b) (n + m) behind
   wrote-both =
       wrote-all both-long (omega (arith, one .most, two .most)) (omega (arith, long, one .within, two .within)) both-holds
