@@ -73,6 +73,7 @@ module _ (P : List ℕ → Type 0) (room : ℕ) (w : Bool) (k : (x p : List ℕ)
 
 -- ---- "Parameters .. fill the chunk to its length exactly, the last one's padding excluded"
 
+-- one parameter alone, or one with its padding and others that fill the rest
 pub data Filling : List ℕ → Type 0 where
   last : {s : List ℕ} → 4 ≤ length s → u16 s 2 ≡ length s → Filling s
   more : {s : List ℕ} (p b : List ℕ) → s ≡ p ++ b → 4 ≤ u16 p 2 → up4 (u16 p 2) ≡ length p → Filling b → Filling s
