@@ -1,5 +1,5 @@
 -- The laws of receiving: a fresh record is within its bounds and every call keeps it so; a chunk that passes the checks finds a free place; a
--- number that has come is answered 11 from then on; a refused call leaves all but what document 01's table names. Over either numbering.
+-- number that has come is answered 11 from then on; a refused call leaves all but what 01's table names. Over either numbering.
 -- Assumes nothing.
 use Prim.Native.Nat.{ℕ, zero, suc, _+_, _-_, _<_, _≤_}
 use mathlib.Core.Path.{_≡_, refl, sym, ap, _∙_, subst}
@@ -270,7 +270,7 @@ arrived-sound T P r h streams wide w s on u = go (verdictOf T P r h streams) ref
     go Wedged e = s
     go Far e = s
 
--- "a chunk that passes the checks finds a free place"
+-- a chunk that passes the checks finds a free place
 pub kept-placed : (T : Numbering) (P : Profile) (r : Receiving) (h : Held) (streams : ℕ) → Short T (P .places + P .places) → Shaped T P r → Sound T P r
     → On T (h .tsn .0) → verdictOf T P r h streams ≡ Kept
     → (i : ℕ) × (findFrom isFree 0 (r .held) ≡ At i) × (i < length (r .held)) × (getD (r .held) i noHeld .used ≡ false)
