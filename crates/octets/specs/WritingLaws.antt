@@ -256,7 +256,7 @@ length-items f four i zero = refl
 length-items f four i (suc n) = omega (arith, length-append (f i) (items f (i + 1) n), four i, length-items f four (i + 1) n)
 
 -- item j of a list of items of four bytes
-item-at : (f : ℕ → List ℕ) → ((k : ℕ) → length (f k) ≡ 4) → (i n j : ℕ) (rest : List ℕ) → j < n
+pub item-at : (f : ℕ → List ℕ) → ((k : ℕ) → length (f k) ≡ 4) → (i n j : ℕ) (rest : List ℕ) → j < n
     → drop (4 * j) (items f i n ++ rest) ≡ f (i + j) ++ (items f (i + j + 1) (n - (j + 1)) ++ rest)
 item-at f four i zero j rest h = absurd (omega arith)
 item-at f four i (suc n) zero rest h =
