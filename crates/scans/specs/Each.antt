@@ -9,7 +9,7 @@ use native.Mathlib.Omega.{arith}
 use lib.ListN.{length, set, getD}
 use Rattle.scans.specs.declared.Found.{Found}
 use Rattle.scans.specs.declared.Found.the-variants.{At, Nothing}
-use Rattle.scans.specs.Scan.{pick, count, findFrom, any}
+use Rattle.scans.specs.Scan.{tick, pick, count, findFrom, any}
 use Rattle.scans.specs.Upto.{anyUpto}
 
 module _ {A : Type 0} where
@@ -126,3 +126,9 @@ module _ (p : ℕ → Bool) where
   pub none-upto : (i n : ℕ) → ((j : ℕ) → i ≤ j → j < i + n → p j ≡ false) → anyUpto p i n ≡ false
   none-upto i zero f = refl
   none-upto i (suc n) f = rw (f i (omega arith) (omega arith)) (none-upto (i + 1) n (λ j a b. f j (omega arith) (omega arith)))
+
+-- in a count it does not matter which of two stands first
+pub tick-tick : (a b : Bool) (m : ℕ) → tick a (tick b m) ≡ tick b (tick a m)
+tick-tick true true m = refl
+tick-tick true false m = refl
+tick-tick false b m = refl
