@@ -32,7 +32,7 @@ use Rattle.holding.specs.declared.taking.Took.{Took}
 use Rattle.holding.specs.Held.{noHeld, ssn0, isFree, holds, any-holds}
 use Rattle.holding.specs.Taking.{emptied, advanced, took, written}
 use Rattle.holding.specs.Taking as taking
-use Rattle.holding.specs.TakingLaws.{Leaves, same, less, took-leaves, advanced-long, took-refused}
+use Rattle.holding.specs.TakingLaws.{Leaves, same, less, took-leaves, emptied-long, advanced-long, took-refused}
 use Rattle.delivery.specs.declared.receiving.Receiving.{Receiving}
 use Rattle.delivery.specs.declared.arrival.Verdict.{Verdict}
 use Rattle.delivery.specs.declared.arrival.Verdict.the-variants.{Kept, Empty, Long, Duplicate, Wedged, Far, Stray}
@@ -282,10 +282,6 @@ module _ (Q : Held → Type 0) (q : Q noHeld) where
   all-emptied : (hs : List Held) (is : List ℕ) → All Q hs → All Q (emptied hs is)
   all-emptied hs [] w = w
   all-emptied hs (i ∷ is) w = all-emptied (set hs i noHeld) is (all-set Q hs i noHeld q w)
-
-emptied-long : (hs : List Held) (is : List ℕ) → length (emptied hs is) ≡ length hs
-emptied-long hs [] = refl
-emptied-long hs (i ∷ is) = emptied-long (set hs i noHeld) is ∙ length-set hs i noHeld
 
 emptied-apart : (hs : List Held) (is : List ℕ) → Distinct (heldNumbers hs) → Distinct (heldNumbers (emptied hs is))
 emptied-apart hs [] s = s
