@@ -34,7 +34,7 @@ rankOf acked oldest p =
 unfoldable pub better : Tsn → ℕ → Best → ℕ → Place → Best
 better acked oldest b i p = pick (ltb (rankOf acked oldest p) (b .rank)) (record { rank = rankOf acked oldest p; place = i }) b
 
--- the best of all places, if its rank is one of a candidate
+-- the best of all places; a rank of 8589934592 says that there is no candidate
 unfoldable pub bestOf : Tsn → ℕ → List Place → Best
 bestOf acked oldest ps = foldFrom (better acked oldest) (record { rank = 8589934592; place = 0 }) 0 ps
 
