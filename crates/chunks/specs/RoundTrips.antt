@@ -6,7 +6,7 @@ use mathlib.Core.List.{List, [], _∷_, _++_, append-assoc}
 use native.Mathlib.Omega.{arith}
 use lib.Dec.{eqb}
 use lib.ListN.{length, drop, getD, replicate}
-use lib.Seq.{drop-at, drop-drop, drop-append-add}
+use lib.Seq.{drop-at, drop-drop}
 use Rattle.scans.specs.Upto.{smaller}
 use Rattle.numbers.specs.Profile.{rail}
 use Rattle.numbers.specs.Blocks.{padded}
