@@ -50,9 +50,11 @@ answeredOut w packet reply out =
     pick (isSilenced packet) out
     (sentOut (replyHead (w .association) (w .complete) (headerOf packet) (drop 12 packet)) (wholeReply w reply) out)
 
+-- the answer to a packet that is let in, with a reply of n bytes
 abbrev pub acceptedAs : Walked → ℕ → Arrived
 acceptedAs w n = record { number = 0; count = w .count; verdicts = w .verdicts; length = n; association = w .association }
 
+-- the promise for such a packet: the answer, the lent area, the lent output
 pub record LetIn (t : Turn) (packet out : List ℕ) (r : Arrived) (area' out' : List ℕ) : Type 0 where
   pub answer : r ≡ acceptedAs (t .walked) (answeredLength (t .walked) packet (t .reply) out)
   pub area : area' ≡ t .area
@@ -63,6 +65,7 @@ unfoldable pub numberOf : Association → List ℕ → List ℕ → Echoed → L
 numberOf a area packet e out =
     pick (eqb (lentNumber a (length area) (length out)) 0) (packetNumber a packet (heeded e)) (lentNumber a (length area) (length out))
 
+-- what the host is told
 unfoldable pub arrivedOf : Association → List ℕ → List ℕ → Lent → List ℕ → Echoed → List ℕ → Arrived
 arrivedOf a area packet lent cookie e out =
     pick (eqb (numberOf a area packet e out) 0)

@@ -25,6 +25,7 @@ isAbort s = eqb (u8 s 0) 6
 unfoldable pub isSilenced : List ℕ → Bool
 isSilenced packet = ltb (firstItem isAbort packet 12) (length packet)
 
+-- the state is SHUTDOWN-SENT
 abbrev pub isShutdownSent : State → Bool
 isShutdownSent (ShutdownSent n) = true
 isShutdownSent Closed = false
@@ -44,16 +45,18 @@ unfoldable pub endedBy : Walked → List ℕ → List ℕ
 endedBy w reply =
     pick (isShutdownDue w) (reply ++ fitting (1460 - length reply) (framed 7 0 (be32 (w .association .receiving .keeping .point .0)))) reply
 
+-- SHUTDOWN COMPLETE, with or without the T bit (section 3.3.13)
 abbrev pub completeBytes : Bool → List ℕ
 completeBytes reflected = framed 14 (weight reflected 1) []
 
--- "SHUTDOWN COMPLETE stand[s] alone": it takes the place of all other replies
+-- "INIT ACK and SHUTDOWN COMPLETE stand alone": it takes the place of all other replies
 abbrev pub closedBy : Walked → List ℕ → Owed → List ℕ
 closedBy w reply Complete = completeBytes false
 closedBy w reply Reflected = completeBytes true
 closedBy w reply Nothing = endedBy w reply
 closedBy w reply Shutdown = endedBy w reply
 
+-- all chunks of the reply
 unfoldable pub wholeReply : Walked → List ℕ → List ℕ
 wholeReply w reply = closedBy w reply (w .complete)
 

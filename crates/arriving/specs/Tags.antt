@@ -26,6 +26,7 @@ unfoldable pub arePorts : State → Ends → Header → Bool
 arePorts s e h =
     pick (eqb (h .destination) (e .«local_port»)) (pick (isClosed s) (not (eqb (h .source) 0)) (eqb (h .source) (e .«peer_port»))) false
 
+-- "ABORT and SHUTDOWN COMPLETE with the T bit"
 abbrev pub isReflecting : Kind → Bool → Bool
 isReflecting Abort t = t
 isReflecting ShutdownComplete t = t
@@ -42,11 +43,13 @@ isReflecting CookieEcho t = false
 isReflecting CookieAck t = false
 isReflecting (Unknown h) t = false
 
+-- "the cookie's, if good"; any tag with another, which is answered 27
 abbrev pub echoRule : Echoed → Rule
 echoRule (Good m) = Tag (m .«my_tag»)
 echoRule (Stale m) = Any
 echoRule Bad = Any
 
+-- "in CLOSED anything else but INIT gets 4"
 abbrev pub ruleClosed : Kind → Echoed → Rule
 ruleClosed Init e = Tag 0
 ruleClosed CookieEcho e = echoRule e
@@ -63,6 +66,7 @@ ruleClosed CookieAck e = Never
 ruleClosed ShutdownComplete e = Never
 ruleClosed (Unknown h) e = Never
 
+-- "INIT has tag 0", in every state
 abbrev pub isInit : Kind → Bool
 isInit Init = true
 isInit Data = false
@@ -84,6 +88,7 @@ unfoldable pub ruleOpen : Kind → Bool → Bool → Ends → Rule
 ruleOpen k t known e =
     pick (isReflecting k t) (pick known (Tag (e .«peer_tag»)) Never) (pick (isInit k) (Tag 0) (Tag (e .«my_tag»)))
 
+-- the rule of each state; only in COOKIE-WAIT is the peer's tag not known yet
 abbrev pub ruleIn : State → Kind → Bool → Ends → Echoed → Rule
 ruleIn Closed k t e w = ruleClosed k w
 ruleIn (CookieWait n) k t e w = ruleOpen k t false e
@@ -94,15 +99,17 @@ ruleIn (ShutdownSent n) k t e w = ruleOpen k t true e
 ruleIn ShutdownReceived k t e w = ruleOpen k t true e
 ruleIn (ShutdownAckSent n) k t e w = ruleOpen k t true e
 
--- s is the packet from its first chunk on
+-- "The first chunk settles which tag rule holds": `chunk` is the packet from there on
 unfoldable pub ruleFor : State → Ends → List ℕ → Echoed → Rule
 ruleFor s e chunk w = ruleIn s (kindOf (u8 chunk 0)) (flagged chunk 1) e w
 
+-- the tag keeps to the rule
 abbrev pub isTag : Rule → ℕ → Bool
 isTag (Tag n) tag = eqb tag n
 isTag Any tag = true
 isTag Never tag = false
 
+-- 4 "port or tag", or 0; s is the packet from its first chunk on
 unfoldable pub headNumber : Association → Header → List ℕ → Echoed → ℕ
 headNumber a h s w =
     pick (arePorts (a .state) (a .ends) h) (pick (isTag (ruleFor (a .state) (a .ends) s w) (h .tag)) 0 4) 4

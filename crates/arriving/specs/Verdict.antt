@@ -12,6 +12,7 @@ use Rattle.steps.specs.declared.verdict.Event.the-variants.{NoEvent, Up, Down}
 use Rattle.steps.specs.Verdict.{numberOf, causeOf}
 use Rattle.arriving.specs.declared.verdict.Verdict.{Verdict}
 
+-- the fate; its number, where it is refused, stands beside it
 abbrev pub fateCode : Fate → ℕ
 fateCode Accepted = 0
 fateCode (Refused n) = 1
@@ -29,6 +30,7 @@ valueOf AbortViolation = 0
 valueOf (ErrorStream s) = s .0
 valueOf ErrorStale = 0
 
+-- what happened: 0 nothing, 1 the association is up, from 2 on why it is down
 abbrev pub reasonCode : Reason → ℕ
 reasonCode Aborted = 2
 reasonCode StaleCookie = 3
@@ -40,6 +42,7 @@ eventCode NoEvent = 0
 eventCode Up = 1
 eventCode (Down r) = reasonCode r
 
+-- a chunk behind one that leaves the rest of the packet unread
 abbrev pub unreadAt : ℕ → Verdict
 unreadAt at = record { at = at; value = 0; fate = 6; number = 0; cause = 0; event = 0 }
 

@@ -74,6 +74,7 @@ isDue Nothing = false
 isDue Complete = false
 isDue Reflected = false
 
+-- what became of the chunk at `at`, taken in
 unfoldable pub takenIn : Walked → ℕ → Done → Walked
 takenIn w at d =
     noted
@@ -88,6 +89,7 @@ takenIn w at d =
     })
     (verdictOf at d)
 
+-- the chunk at `at` is the first where it follows the header
 abbrev pub besideAt : ℕ → Beside → Beside
 besideAt at b = record { first = eqb at 12; source = b .source; lent = b .lent; echoed = b .echoed }
 
@@ -99,6 +101,7 @@ roomOf t = 1460 - length (t .reply)
 abbrev pub stepAt : ℕ → Beside → List ℕ → List ℕ → Turn → Step
 stepAt at b cookie s t = stepOf (roomOf t) (t .walked .association) (besideAt at b) cookie s
 
+-- its reply, "and what no longer fits is left out"
 abbrev pub replyAt : ℕ → Beside → List ℕ → List ℕ → Turn → List ℕ
 replyAt at b cookie s t = fitting (roomOf t) (stepAt at b cookie s t .reply)
 

@@ -20,6 +20,7 @@ use Rattle.association.specs.declared.ends.Association.{Association}
 abbrev pub areStreams : ℕ → Bool
 areStreams n = pick (ltb n 1) false (leb n 128)
 
+-- a tag that is to be known is 0
 abbrev pub lacksTag : Bool → ℕ → Bool
 lacksTag known tag = pick known (eqb tag 0) false
 
@@ -34,6 +35,7 @@ areEnds e known =
 abbrev pub isEcho : Cookie → Bool
 isEcho c = pick (ltb (c .len) 1) false (leb (c .len) 256)
 
+-- what each state asks of the ends and of the cookie; CLOSED asks nothing
 abbrev pub isHead : State → Ends → Cookie → Bool
 isHead Closed e c = true
 isHead (CookieWait n) e c = areEnds e false
@@ -44,6 +46,7 @@ isHead (ShutdownSent n) e c = areEnds e true
 isHead ShutdownReceived e c = areEnds e true
 isHead (ShutdownAckSent n) e c = areEnds e true
 
+-- the record is within its bounds
 unfoldable pub isSound : Association → Bool
 isSound a =
     pick (not (withinTries (a .state))) false

@@ -21,6 +21,7 @@ use Rattle.calls.specs.Answer.{isShortOut, barred}
 abbrev pub chunkOf : receiver.Sack → Sack
 chunkOf k = record { point = k .point; window = k .window; blocks = k .blocks; dups = k .dups; listed = k .listed }
 
+-- of a refused call: no SACK
 abbrev pub noSack : Sack
 noSack = record {
   point = record { 0 = 0 };
@@ -39,12 +40,14 @@ acknowledgedAs a k out = record {
   association = withReceiving a (k .receiving);
 }
 
+-- what the call answers
 unfoldable pub acknowledged : Association → List ℕ → Acknowledged
 acknowledged a out =
     pick (eqb (barred a (isShortOut out) Acknowledge) 0)
     (acknowledgedAs a (receiving.acknowledged rail (a .receiving)) out)
     (record { number = barred a (isShortOut out) Acknowledge; length = 0; sack = noSack; association = a })
 
+-- what then stands in the lent output
 unfoldable pub acknowledgedOut : Association → List ℕ → List ℕ
 acknowledgedOut a out =
     pick (eqb (barred a (isShortOut out) Acknowledge) 0)

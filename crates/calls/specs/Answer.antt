@@ -40,7 +40,7 @@ pub record Plan : Type 0 where
   pub header : Header
   pub chunk : List ℕ
 
--- "Leaves all"
+-- a refused call leaves all
 abbrev pub refusing : Association → ℕ → Plan
 refusing a n = record { number = n; association = a; over = false; sends = false; header = toPeer (a .ends); chunk = [] }
 
@@ -48,6 +48,7 @@ refusing a n = record { number = n; association = a; over = false; sends = false
 abbrev pub quietly : Association → Plan
 quietly a = refusing a 0
 
+-- done, with a packet of one chunk to send
 abbrev pub carrying : Association → Header → List ℕ → Plan
 carrying a h bs = record { number = 0; association = a; over = false; sends = true; header = h; chunk = bs }
 

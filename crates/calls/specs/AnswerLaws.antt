@@ -19,7 +19,7 @@ use Rattle.calls.specs.declared.answer.Answer.{Answer}
 use Rattle.calls.specs.Packet.{Sent}
 use Rattle.calls.specs.Answer.{isShortOut, barred, earlier, Plan, refusing, quietly, carrying, ending, unless, answerOf, outOf, Done, Kept}
 
--- a call that is let in has its buffers
+-- a call that is let in has its lent output and area
 pub let-in : (a : Association) (short : Bool) (call : Call) → barred a short call ≡ 0 → short ≡ false
 unfolding barred
 let-in a short call e = go (isSound a) short (permitted call (a .state)) e

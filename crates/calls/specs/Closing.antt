@@ -26,12 +26,13 @@ shutting a out =
     (carrying (withState a (ShutdownSent 0)) (toPeer (a .ends)) (shutdownBytes a))
     (quietly (withState a ShutdownPending)))
 
--- "9 calls for ABORT with cause 9, 12 and 16 with cause 13"; the user's own has cause 12
+-- "9 calls for ABORT with cause 9, 12 and 16 with cause 13"; the host's own has cause 12
 abbrev pub causeOf : Reason → Cause
 causeOf User = UserAbort
 causeOf (NoData t) = NoUserData t
 causeOf Violation = ProtocolViolation
 
+-- ABORT with its cause (section 3.3.7)
 abbrev pub abortBytes : Reason → List ℕ
 abortBytes why = framed 6 0 (caused (code (causeOf why)) (information (causeOf why)))
 
@@ -46,5 +47,6 @@ aborted (ShutdownSent n) a why = carrying (withState a Closed) (toPeer (a .ends)
 aborted ShutdownReceived a why = carrying (withState a Closed) (toPeer (a .ends)) (abortBytes why)
 aborted (ShutdownAckSent n) a why = carrying (withState a Closed) (toPeer (a .ends)) (abortBytes why)
 
+-- the host's own ABORT, or one that a verdict calls for
 unfoldable pub aborting : Association → Reason → List ℕ → Plan
 aborting a why out = unless (barred a (isShortOut out) Abort) a (aborted (a .state) a why)

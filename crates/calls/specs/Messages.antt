@@ -29,15 +29,18 @@ use Rattle.calls.specs.Answer.{isShortArea, barred}
 abbrev pub handing : Association → ℕ → StreamId → Bool → ℕ → Handed
 handing a len stream unordered ppid = sender.handedIn rail (a .sending) len stream unordered ppid (a .ends .«streams_out»)
 
+-- a message that the sending side answers so
 abbrev pub handedAs : Association → Handed → HandedIn
 handedAs a h = record { number = h .number; chunks = h .chunks; association = withSending a (h .sending) }
 
+-- what the call answers: 1, 18, 7, 19, 20
 unfoldable pub handedIn : Association → List ℕ → ℕ → StreamId → Bool → ℕ → HandedIn
 handedIn a area len stream unordered ppid =
     pick (eqb (barred a (isShortArea area) HandIn) 0)
     (handedAs a (handing a len stream unordered ppid))
     (record { number = barred a (isShortArea area) HandIn; chunks = 0; association = a })
 
+-- what then stands in the lent area
 unfoldable pub handedArea : Association → List ℕ → List ℕ → StreamId → List ℕ
 handedArea a area message stream =
     pick (eqb (barred a (isShortArea area) HandIn) 0)
@@ -60,15 +63,18 @@ deliveredAs (Taken m) a = record { number = 0; message = m; association = a }
 deliveredAs Nothing a = undelivered a 17 0
 deliveredAs (Short n) a = undelivered a 18 n
 
+-- a take from the receiving side into `room` bytes
 abbrev pub taking : Association → ℕ → receiver.Taken
 taking a room = taken (ring (2 ^ 32)) (ring (2 ^ 16)) rail (a .receiving) room
 
+-- what the call answers: 1, 18 for the area, 17, 18 for the output
 unfoldable pub delivered : Association → List ℕ → ℕ → Delivered
 delivered a area room =
     pick (isSound a)
     (pick (isShortArea area) (undelivered a 18 0) (deliveredAs (taking a room .answer) (withReceiving a (taking a room .receiving))))
     (undelivered a 1 0)
 
+-- what then stands in the lent output
 unfoldable pub deliveredOut : Association → List ℕ → List ℕ → List ℕ
 deliveredOut a area out =
     pick (isSound a)

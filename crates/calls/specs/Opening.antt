@@ -25,10 +25,11 @@ initOf a = record {
   tsn = a .sending .«next_tsn»;
 }
 
+-- the same as bytes
 abbrev pub initBytes : Association → List ℕ
 initBytes a = framed 1 0 (initFields (initOf a))
 
--- "our own INIT, starts from a fresh record": the peer's tag and first number are not known yet; "128 streams each way at most"
+-- "our own INIT, starts from a fresh record": the peer's tag and initial TSN are not known yet; "128 streams each way at most"
 unfoldable pub wanting : Association → ℕ → Tsn → ℕ → ℕ → Association
 wanting a tag tsn port streams =
     started (CookieWait 0)

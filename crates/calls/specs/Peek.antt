@@ -12,7 +12,7 @@ use Rattle.chunks.specs.InitChunk.{initOf}
 use Rattle.calls.specs.declared.peeking.Peeked.{Peeked}
 use Rattle.calls.specs.declared.peeking.Peeked.the-variants.{Refused, Nothing, Init, Echo}
 
--- the number of document 01 for what was seen
+-- the number of 01 for what was seen
 abbrev pub numberOf : Peeked → ℕ
 numberOf (Refused n) = n
 numberOf Nothing = 0

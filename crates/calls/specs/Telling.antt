@@ -12,6 +12,7 @@ use Rattle.association.specs.declared.ends.Association.{Association}
 use Rattle.calls.specs.Packet.{toPeer}
 use Rattle.calls.specs.Answer.{isShortOut, barred, Plan, carrying, unless}
 
+-- ERROR with one cause (section 3.3.10)
 abbrev pub errorBytes : Cause → List ℕ
 errorBytes c = framed 9 0 (caused (code c) (information c))
 

@@ -47,6 +47,7 @@ repeating ShutdownReceived a = quietly a
 unfoldable pub backedOff : Association → State → Association
 backedOff a s = withSending (withState a s) (doubled railSizes (a .sending))
 
+-- the next expiry closes; one before it asks again
 unfoldable pub triedTo : Association → State → Plan
 triedTo a s = pick (isClosed s) (ending a) (repeating s (backedOff a s))
 
@@ -58,6 +59,7 @@ expiring a call out = unless (barred a (isShortOut out) call) a (triedTo a (trie
 abbrev pub overdue : Association → Expiry → Plan
 overdue a e = pick (eqb (e .number) 0) (pick (e .over) (ending a) (quietly (withSending a (e .sending)))) (refusing a (e .number))
 
+-- T3: "all outstanding marked", and nothing is sent by this call
 unfoldable pub expiringThird : Association → Plan
 expiringThird a = unless (barred a false ThirdTimer) a (overdue a (expired railSizes (a .sending)))
 

@@ -24,6 +24,7 @@ use Rattle.calls.specs.declared.transmitting.Transmitted.{Transmitted}
 use Rattle.calls.specs.Packet.{toPeer}
 use Rattle.calls.specs.Answer.{isShortArea, isShortOut, barred}
 
+-- the fields of a chunk that goes out
 abbrev pub dataOf : Chunk → Data
 dataOf c = record { tsn = c .tsn; stream = c .stream; ssn = c .ssn; ppid = c .ppid; begin = c .begin; end = c .end; unordered = c .unordered }
 
@@ -47,6 +48,7 @@ added area p i t = record {
 abbrev pub turned : List ℕ → ℕ → List Place → Bundle → ℕ → ℕ → Bundle
 turned area count ps t k i = pick (ltb k count) (added area (getD ps i noPlace) i t) t
 
+-- the chunks of every place chosen, in the order of choice
 unfoldable pub bundled : List ℕ → Chosen → List ℕ → Bundle
 bundled area f out = foldFrom (turned area (f .count) (f .sending .places)) (record { at = 12; out = out }) 0 (f .places)
 
@@ -57,6 +59,7 @@ bundleLength b = pick (ltb 12 (b .at)) (sealCount (b .at) (b .out)) 0
 unfoldable pub bundleOut : Header → Bundle → List ℕ
 bundleOut h b = pick (ltb 12 (b .at)) (sealBytes h (b .at) (b .out)) (b .out)
 
+-- 1, 18 for the area or the output, 7
 abbrev pub transmitBar : Association → List ℕ → List ℕ → ℕ
 transmitBar a area out = barred a (either (isShortArea area) (isShortOut out)) Transmit
 
@@ -71,12 +74,14 @@ transmittedAs a area out f = record {
   association = withSending a (f .sending);
 }
 
+-- what the call answers
 unfoldable pub transmitted : Association → List ℕ → List ℕ → Transmitted
 transmitted a area out =
     pick (eqb (transmitBar a area out) 0)
     (transmittedAs a area out (filled railSizes rail (a .sending)))
     (record { number = transmitBar a area out; length = 0; resent = false; first = record { 0 = 0 }; last = record { 0 = 0 }; association = a })
 
+-- what then stands in the lent output
 unfoldable pub transmittedOut : Association → List ℕ → List ℕ → List ℕ
 transmittedOut a area out =
     pick (eqb (transmitBar a area out) 0)

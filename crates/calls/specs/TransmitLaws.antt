@@ -48,7 +48,7 @@ module _ (at : ℕ) (xs : List ℕ) {bs ys : List ℕ} {r : ℕ} (h : at ≤ len
       let t : r ≡ wroteCount (drop at xs) (chunkBytes area p i) = w .count ∙ (λ j. wroteCount (part-is xs at j) (b j)) in
       record { is = (λ j. record { at = at + t j; out = e j }); within = part-small; near = omega (arith, part-few) }
 
--- both buffers are long enough
+-- the lent area and output are long enough
 pub both-roomy : (a : Association) (area out : List ℕ) (call : Call) {n : ℕ} → n ≡ barred a (either (isShortArea area) (isShortOut out)) call → n ≡ 0 → 12 ≤ length out
 both-roomy a area out call e z =
     go (isShortArea area) (isShortOut out) refl (let-in a (either (isShortArea area) (isShortOut out)) call (sym e ∙ z))

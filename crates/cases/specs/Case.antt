@@ -18,6 +18,7 @@ use Rattle.path.specs.declared.path.Path.{Path}
 use Rattle.path.specs.Sizes.{railSizes}
 use Rattle.path.specs.Path as path
 
+-- what is given
 pub data Given : Type 0 where
   -- from one number to another, on the circle of so many bits
   distance : ℕ → ℕ → ℕ → Given
@@ -35,6 +36,7 @@ pub record Left : Type 0 where
   pub blocks : List Block
   pub held : ℕ
 
+-- what is answered
 pub data Answer : Type 0 where
   apart : Distance → Answer
   left : Left → Answer
@@ -43,12 +45,14 @@ pub data Answer : Type 0 where
   -- ssthresh, then cwnd
   allows : ℕ → ℕ → Answer
 
+-- a line of the table
 pub record Case : Type 0 where
   pub given : Given
   pub expected : Answer
 
 -- ---- what the definitions answer
 
+-- the circle of TSNs
 abbrev tsns : Numbering
 tsns = ring (2 ^ 32)
 
@@ -74,6 +78,7 @@ abbrev arriveAll : Receiving → ℕ → List ℕ → Left
 arriveAll r number [] = leftIn r number
 arriveAll r number (t ∷ ts) = arriveAll (arrived tsns rail r (chunk t) 1 .receiving) (numberOf (arrived tsns rail r (chunk t) 1 .verdict)) ts
 
+-- the RTO after each sample
 abbrev waitsOf : Path → List ℕ → List ℕ
 waitsOf p [] = []
 waitsOf p (r ∷ rs) = path.sampledBy railSizes p r .clock .rto ∷ waitsOf (path.sampledBy railSizes p r) rs
@@ -82,9 +87,11 @@ waitsOf p (r ∷ rs) = path.sampledBy railSizes p r .clock .rto ∷ waitsOf (pat
 abbrev pathAt : ℕ → Path
 pathAt cwnd = path.controlled (path.fresh railSizes) (record { cwnd = cwnd; ssthresh = railSizes .top; partial = 0 })
 
+-- ssthresh and cwnd after T3
 abbrev allowsOf : Path → Answer
 allowsOf p = allows (p .control .ssthresh) (p .control .cwnd)
 
+-- the definitions' answer
 abbrev pub answered : Given → Answer
 answered (distance bits a b) = apart (far (ring (2 ^ bits)) a b)
 answered (arrivals point ts) = left (arriveAll (freshAt point) 0 ts)

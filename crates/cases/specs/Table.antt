@@ -19,6 +19,7 @@ use Rattle.path.specs.Clock as clock
 use Rattle.path.specs.Path as path
 use Rattle.cases.specs.Case.{Given, distance, arrivals, samples, expiry, Left, Answer, apart, left, waits, allows, Case, answered}
 
+-- what is given, and what is to be answered; a single block
 abbrev row : Given → Answer → Case
 row g a = record { given = g; expected = a }
 

@@ -26,6 +26,7 @@ use Rattle.chunks.specs.declared.data.Data.{Data}
 use Rattle.chunks.specs.declared.sack.Sack.{Sack}
 use Rattle.chunks.specs.declared.sack.SackHead.{SackHead}
 
+-- a byte
 abbrev pub Octet : ℕ → Type 0
 Octet x = x < 256
 

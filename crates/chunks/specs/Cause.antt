@@ -10,6 +10,7 @@ use Rattle.chunks.specs.declared.cause.Cause.the-variants.{InvalidStream
 abbrev pub caused : ℕ → List ℕ → List ℕ
 caused c info = be16 c ++ be16 (4 + length info) ++ info
 
+-- the cause codes that we send: 1, 3, 9 and 13 as 01 calls for them, 12 for the host's own ABORT
 unfoldable pub code : Cause → ℕ
 code (InvalidStream s) = 1
 code (StaleCookie late) = 3
@@ -17,6 +18,7 @@ code (NoUserData t) = 9
 code UserAbort = 12
 code ProtocolViolation = 13
 
+-- the stream with two reserved bytes, how late in microseconds, the TSN (sections 3.3.10.1, 3.3.10.3, 3.3.10.9); the others carry none
 unfoldable pub information : Cause → List ℕ
 information (InvalidStream s) = be16 (s .0) ++ be16 0
 information (StaleCookie late) = be32 late

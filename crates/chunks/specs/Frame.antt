@@ -30,6 +30,7 @@ ended s = smaller (u16 s 2) (length s)
 unfoldable pub partFrom : ℕ → List ℕ → Part
 partFrom k s = record { at = smaller k (ended s); len = ended s - k }
 
+-- the bytes of a part
 abbrev pub bytesIn : List ℕ → Part → List ℕ
 bytesIn s p = take (p .len) (drop (p .at) s)
 
@@ -37,5 +38,6 @@ bytesIn s p = take (p .len) (drop (p .at) s)
 abbrev pub flagged : List ℕ → ℕ → Bool
 flagged s w = eqb (u8 s 1 / w % 2) 1
 
+-- what a flag of weight w adds to the flags
 abbrev pub weight : Bool → ℕ → ℕ
 weight b w = pick b w 0

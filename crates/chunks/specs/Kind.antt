@@ -11,6 +11,7 @@ use Rattle.chunks.specs.declared.kind.Kind.the-variants.{Data, Init, Ini
 unfoldable pub handled : ℕ → Handling
 handled bits = pick (eqb bits 0) Stop (pick (eqb bits 1) StopAndReport (pick (eqb bits 2) Skip SkipAndReport))
 
+-- the thirteen types that 01 names; "Unknown chunk types, by the two high bits"
 unfoldable pub kindOf : ℕ → Kind
 kindOf k =
     pick (eqb k 0) Data

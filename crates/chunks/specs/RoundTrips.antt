@@ -6,7 +6,7 @@ use mathlib.Core.List.{List, [], _∷_, _++_, append-assoc}
 use native.Mathlib.Omega.{arith}
 use lib.Dec.{eqb}
 use lib.ListN.{length, drop, getD, replicate}
-use lib.Seq.{drop-at, drop-drop, drop-append-add}
+use lib.Seq.{drop-at, drop-drop}
 use Rattle.scans.specs.Upto.{smaller}
 use Rattle.numbers.specs.Profile.{rail}
 use Rattle.numbers.specs.Blocks.{padded}
@@ -14,7 +14,7 @@ use Rattle.numbers.specs.declared.circle.Tsn.{Tsn}
 use Rattle.octets.specs.Bytes.{u16, u32, be32, zeros}
 use Rattle.octets.specs.BytesLaws.{u16-at, u32-at}
 use Rattle.octets.specs.Writing.{items}
-use Rattle.octets.specs.WritingLaws.{length-items}
+use Rattle.octets.specs.WritingLaws.{length-items, item-at}
 use Rattle.chunks.specs.Frame.{framed, partFrom, bytesIn, flagged, weight}
 use Rattle.chunks.specs.Back.{Back, framed-bytes, smaller-le}
 use Rattle.chunks.specs.DataChunk.{dataOf, dataBytes, dataFields, flagsOf}
@@ -95,21 +95,6 @@ point-back t = record { value = λ rest. rw (u32-at (framed 7 0 (be32 (t .0)) ++
 
 -- ---- SACK
 
--- item j of a list of items of four bytes
-item-is : (f : ℕ → List ℕ) → ((k : ℕ) → length (f k) ≡ 4) → (i n j : ℕ) (rest : List ℕ) → j < n
-    → drop (4 * j) (items f i n ++ rest) ≡ f (i + j) ++ (items f (i + j + 1) (n - (j + 1)) ++ rest)
-item-is f four i zero j rest h = absurd (omega arith)
-item-is f four i (suc n) zero rest h =
-    let a : i + 0 ≡ i = omega arith in
-    let b : suc n - (0 + 1) ≡ n = omega arith in
-    rw (append-assoc (f i) (items f (i + 1) n) rest, a, b)
-item-is f four i (suc n) (suc j) rest h =
-    let a : 4 * suc j ≡ length (f i) + 4 * j = omega (arith, four i) in
-    let b : i + suc j ≡ i + 1 + j = omega arith in
-    let m : suc n - (suc j + 1) ≡ n - (j + 1) = omega arith in
-    rw (append-assoc (f i) (items f (i + 1) n) rest, a, drop-append-add (f i) (items f (i + 1) n ++ rest) (4 * j), b, m)
-    (item-is f four (i + 1) n j rest (omega arith))
-
 -- numbers that are alike as far as they are listed
 table-alike : (f g : ℕ → ℕ) (i n : ℕ) → ((j : ℕ) → j < i + n → f j ≡ g j) → table f i n ≡ table g i n
 table-alike f g i zero e = refl
@@ -135,7 +120,7 @@ module _ (k : Sack) where
         _,
         sym (drop-drop (4 * i) 16 (bytes rest))
             ∙ ap (drop (4 * i)) (lists-are rest)
-            ∙ item-is (blockAt (k .blocks .starts) (k .blocks .ends)) (λ j. refl) 0 (k .blocks .count) i (items (dupAt (k .dups)) 0 (k .listed) ++ behind rest) h
+            ∙ item-at (blockAt (k .blocks .starts) (k .blocks .ends)) (λ j. refl) 0 (k .blocks .count) i (items (dupAt (k .dups)) 0 (k .listed) ++ behind rest) h
             ∙ ap (λ (j : ℕ). blockAt (k .blocks .starts) (k .blocks .ends) j ++ (items (blockAt (k .blocks .starts) (k .blocks .ends)) (0 + i + 1) (k .blocks .count - (i + 1)) ++ (items (dupAt (k .dups)) 0 (k .listed) ++ behind rest))) z,
       )
 
@@ -159,7 +144,7 @@ module _ (k : Sack) where
       let d : drop (16 + 4 * b) (bytes rest) ≡ items (dupAt (k .dups)) 0 (k .listed) ++ behind rest = sym (drop-drop (4 * b) 16 (bytes rest)) ∙ ap (drop (4 * b)) (lists-are rest) ∙ drop-at (items (blockAt (k .blocks .starts) (k .blocks .ends)) 0 b) (items (dupAt (k .dups)) 0 (k .listed) ++ behind rest) (4 * b) l in
       u32-at (bytes rest) (16 + 4 * b + 4 * i) (getD (k .dups) i (record { 0 = 0 }) .0)
       (sym (drop-drop (4 * i) (16 + 4 * b) (bytes rest)) ∙ ap (drop (4 * i)) d
-      ∙ item-is (dupAt (k .dups)) (λ j. refl) 0 (k .listed) i (behind rest) h
+      ∙ item-at (dupAt (k .dups)) (λ j. refl) 0 (k .listed) i (behind rest) h
       ∙ ap (λ (j : ℕ). dupAt (k .dups) j ++ (items (dupAt (k .dups)) (0 + i + 1) (k .listed - (i + 1)) ++ behind rest)) z)
 
   module _ (h : k .blocks .count ≤ 64) (g : k .listed ≤ 16) where

@@ -16,6 +16,7 @@ use Rattle.chunks.specs.declared.sack.Sack.{Sack}
 use Rattle.chunks.specs.declared.sack.SackHead.{SackHead}
 use Rattle.chunks.specs.declared.sack.Block.{Block}
 
+-- the fixed fields: the point, the window, and how many blocks and duplicates it counts
 unfoldable pub sackOf : List ℕ → SackHead
 sackOf s = record { point = record { 0 = u32 s 4 }; window = u32 s 8; blocks = u16 s 12; repeats = u16 s 14 }
 
@@ -36,6 +37,7 @@ table f i (suc n) = f i ∷ table f (i + 1) n
 unfoldable pub listedIn : Profile → List ℕ → ℕ
 listedIn P s = smaller (u16 s 12) (P .places / 2)
 
+-- the blocks that are listed
 unfoldable pub blocksIn : Profile → List ℕ → Blocks
 blocksIn P s = record {
   count = listedIn P s;
@@ -43,6 +45,7 @@ blocksIn P s = record {
   ends = padded (P .places / 2) (table (λ (i : ℕ). u16 s (18 + 4 * i)) 0 (listedIn P s));
 }
 
+-- a block and a duplicate as bytes, and all that stands behind the head of the chunk
 abbrev pub blockAt : List ℕ → List ℕ → ℕ → List ℕ
 blockAt starts ends i = be16 (getD starts i 0) ++ be16 (getD ends i 0)
 

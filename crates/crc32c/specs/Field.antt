@@ -7,6 +7,7 @@ use lib.ListN.{length, take, drop, getD}
 use Rattle.scans.specs.Scan.{pick}
 use Rattle.crc32c.specs.Crc.{packetCrc}
 
+-- the four bytes of a register
 abbrev pub lowFirst : ℕ → List ℕ
 lowFirst c = c % 256 ∷ c / 256 % 256 ∷ c / 65536 % 256 ∷ c / 16777216 ∷ []
 
@@ -20,6 +21,6 @@ fieldOf s =
 unfoldable pub withField : List ℕ → ℕ → List ℕ
 withField s c = pick (ltb (length s) 12) s (take 8 s ++ lowFirst c ++ drop 12 s)
 
--- check 3: the field is the packet's checksum
+-- what 3, "checksum", asks: the field is the packet's checksum
 unfoldable pub sealed : List ℕ → Bool
 sealed s = eqb (fieldOf s) (packetCrc s)

@@ -52,7 +52,7 @@ module _ (s : List ℕ) (c : ℕ) (h : 12 ≤ length s) where
   unfolding packetCrc
   crc-with = rw (length-with, le-ltb (length s) 12 h, before-field, behind-field)
 
--- a packet whose checksum was written in its field passes check 3
+-- a packet whose checksum was written in its field is not answered 3
 pub sealed-with : (s : List ℕ) → 12 ≤ length s → sealed (withField s (packetCrc s)) ≡ true
 unfolding sealed
 sealed-with s h =

@@ -28,7 +28,7 @@ use Rattle.delivery.specs.declared.arrival.Verdict.the-variants.{Kept, E
 use Rattle.delivery.specs.declared.arrival.Arrival.{Arrival}
 use Rattle.delivery.specs.Receiving.{lowOf}
 
--- the number of document 01 for each verdict
+-- the number of 01 for each verdict
 abbrev pub numberOf : Verdict → ℕ
 numberOf Kept = 0
 numberOf Empty = 9
@@ -100,6 +100,7 @@ abbrev pub keptIn : Numbering → Profile → Receiving → Held → Found → R
 keptIn T P r h (At i) = kept T P r i h
 keptIn T P r h Nothing = passed T P r (h .tsn .0)
 
+-- the record after each verdict; 9, 10, 12 and 13 leave all
 abbrev pub after : Numbering → Profile → Receiving → Held → Verdict → Receiving
 after T P r h Kept = keptIn T P r h (findFrom isFree 0 (r .held))
 after T P r h Duplicate = noted P r (h .tsn)
@@ -109,6 +110,7 @@ after T P r h Long = r
 after T P r h Wedged = r
 after T P r h Far = r
 
+-- the verdict, with the record after it
 unfoldable pub arrived : Numbering → Profile → Receiving → Held → ℕ → Arrival
 arrived T P r h streams = record { verdict = verdictOf T P r h streams; receiving = after T P r h (verdictOf T P r h streams) }
 
@@ -117,6 +119,7 @@ abbrev pub stored : Profile → List ℕ → List ℕ → Found → List ℕ
 stored P area bytes (At i) = laid area (P .payload * i) bytes
 stored P area bytes Nothing = area
 
+-- only a chunk that is held is written to the area
 abbrev pub storedBy : Profile → List Held → List ℕ → List ℕ → Verdict → List ℕ
 storedBy P hs area bytes Kept = stored P area bytes (findFrom isFree 0 hs)
 storedBy P hs area bytes Empty = area

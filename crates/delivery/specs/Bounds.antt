@@ -18,6 +18,7 @@ use Rattle.holding.specs.Held.{noHeld, holds}
 use Rattle.delivery.specs.declared.receiving.Receiving.{Receiving}
 use Rattle.delivery.specs.Receiving.{lowOf}
 
+-- a place is used; the TSN that is held there
 abbrev pub isUsed : Held → Bool
 isUsed h = h .used
 
@@ -43,6 +44,7 @@ pub record Sound (T : Numbering) (P : Profile) (r : Receiving) : Type 0 where
 
 -- ---- the test
 
+-- a held chunk that is not `Fit`
 unfoldable pub isUnfit : Profile → Held → Bool
 isUnfit P h =
     pick (h .used)
@@ -53,9 +55,11 @@ isUnfit P h =
 abbrev pub isSecond : List Held → ℕ → Bool
 isSecond hs i = pick (getD hs i noHeld .used) (any (holds (getD hs i noHeld .tsn .0)) (take i hs)) false
 
+-- a TSN is held twice
 unfoldable pub isTwice : List Held → Bool
 isTwice hs = anyUpto (isSecond hs) 0 (length hs)
 
+-- the bounds, one after the other
 unfoldable pub isSound : Numbering → Profile → Receiving → Bool
 isSound T P r =
     pick (not (keepingSound P (r .keeping))) false

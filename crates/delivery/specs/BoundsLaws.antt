@@ -19,7 +19,7 @@ use Rattle.numbers.specs.Keeping.{highestOf, keepingSound}
 use Rattle.numbers.specs.KeepingLaws.{sound-bounded, bounded-sound}
 use Rattle.numbers.specs.KeepingRoom.{Distinct, count-numbers, distinct-once, once-distinct}
 use Rattle.scans.specs.Scan.{pick, tick, any, count, either}
-use Rattle.scans.specs.Each.{All, all-map, clash}
+use Rattle.scans.specs.Each.{all-map, clash, any-none, none-any, upto-none, none-upto}
 use Rattle.scans.specs.Upto.{anyUpto, Trying, try-start, try-yes, try-no, try-end}
 use Rattle.holding.specs.declared.held.Held.{Held}
 use Rattle.holding.specs.Held.{noHeld, holds, holds-is, is-held, holds-unused, holds-other, count-holds}
@@ -185,18 +185,6 @@ module _ {n base : ℕ} {hs : List Held} {m : ℕ} {seen : List Bool} {i : ℕ} 
 -- ---- the test says what the bounds say
 
 module _ {A : Type 0} (p : A → Bool) where
-  any-none : (xs : List A) → any p xs ≡ false → All (λ (x : A). p x ≡ false) xs
-  any-none [] e = tt
-  any-none (x ∷ xs) e = go (p x) refl (any-none xs)
-    where
-      go : (t : Bool) → p x ≡ t → (any p xs ≡ false → All (λ (y : A). p y ≡ false) xs) → (p x ≡ false) × All (λ (y : A). p y ≡ false) xs
-      go true q ih = clash (sym (rw q at e))
-      go false q ih = (q, ih (rw q at e))
-
-  none-any : (xs : List A) → All (λ (x : A). p x ≡ false) xs → any p xs ≡ false
-  none-any [] w = refl
-  none-any (x ∷ xs) w = rw (w .0) (none-any xs (w .1))
-
   none-count : (xs : List A) → any p xs ≡ false → count p xs ≡ 0
   none-count [] e = refl
   none-count (x ∷ xs) e = go (p x) refl (none-count xs)
@@ -220,20 +208,6 @@ module _ {A : Type 0} (p : A → Bool) where
       go : (t : Bool) → count p (xs ++ ys) ≡ count p xs + count p ys → tick t (count p (xs ++ ys)) ≡ tick t (count p xs) + count p ys
       go true e = omega arith
       go false e = e
-
-module _ (p : ℕ → Bool) where
-  upto-none : (i n : ℕ) → anyUpto p i n ≡ false → (j : ℕ) → i ≤ j → j < i + n → p j ≡ false
-  upto-none i zero e j a b = absurd (omega arith)
-  upto-none i (suc n) e j a b = go (p i) refl (ℕ-discrete i j) (λ q l. upto-none (i + 1) n q j l (omega arith))
-    where
-      go : (t : Bool) → p i ≡ t → Dec (i ≡ j) → (anyUpto p (i + 1) n ≡ false → i + 1 ≤ j → p j ≡ false) → p j ≡ false
-      go true q d ih = clash (sym (rw q at e))
-      go false q (yes d) ih = rw (← d) q
-      go false q (no d) ih = ih (rw q at e) (omega arith)
-
-  none-upto : (i n : ℕ) → ((j : ℕ) → i ≤ j → j < i + n → p j ≡ false) → anyUpto p i n ≡ false
-  none-upto i zero f = refl
-  none-upto i (suc n) f = rw (f i (omega arith) (omega arith)) (none-upto (i + 1) n (λ j a b. f j (omega arith) (omega arith)))
 
 module _ (hs : List Held) where
   next-count : (p : Held → Bool) (i : ℕ) → i < length hs → count p (take (i + 1) hs) ≡ count p (take i hs) + tick (p (getD hs i noHeld)) 0

@@ -1,5 +1,5 @@
 -- The laws of receiving: a fresh record is within its bounds and every call keeps it so; a chunk that passes the checks finds a free place; a
--- number that has come is answered 11 from then on; a refused call leaves all but what document 01's table names. Over either numbering.
+-- number that has come is answered 11 from then on; a refused call leaves all but what 01's table names. Over either numbering.
 -- Assumes nothing.
 use Prim.Native.Nat.{ℕ, zero, suc, _+_, _-_, _<_, _≤_}
 use mathlib.Core.Path.{_≡_, refl, sym, ap, _∙_, subst}
@@ -32,7 +32,7 @@ use Rattle.holding.specs.declared.taking.Took.{Took}
 use Rattle.holding.specs.Held.{noHeld, ssn0, isFree, holds, any-holds}
 use Rattle.holding.specs.Taking.{emptied, advanced, took, written}
 use Rattle.holding.specs.Taking as taking
-use Rattle.holding.specs.TakingLaws.{Leaves, same, less, took-leaves, advanced-long, took-refused}
+use Rattle.holding.specs.TakingLaws.{Leaves, same, less, took-leaves, emptied-long, advanced-long, took-refused}
 use Rattle.delivery.specs.declared.receiving.Receiving.{Receiving}
 use Rattle.delivery.specs.declared.arrival.Verdict.{Verdict}
 use Rattle.delivery.specs.declared.arrival.Verdict.the-variants.{Kept, Empty, Long, Duplicate, Wedged, Far, Stray}
@@ -270,7 +270,7 @@ arrived-sound T P r h streams wide w s on u = go (verdictOf T P r h streams) ref
     go Wedged e = s
     go Far e = s
 
--- "a chunk that passes the checks finds a free place"
+-- a chunk that passes the checks finds a free place
 pub kept-placed : (T : Numbering) (P : Profile) (r : Receiving) (h : Held) (streams : ℕ) → Short T (P .places + P .places) → Shaped T P r → Sound T P r
     → On T (h .tsn .0) → verdictOf T P r h streams ≡ Kept
     → (i : ℕ) × (findFrom isFree 0 (r .held) ≡ At i) × (i < length (r .held)) × (getD (r .held) i noHeld .used ≡ false)
@@ -282,10 +282,6 @@ module _ (Q : Held → Type 0) (q : Q noHeld) where
   all-emptied : (hs : List Held) (is : List ℕ) → All Q hs → All Q (emptied hs is)
   all-emptied hs [] w = w
   all-emptied hs (i ∷ is) w = all-emptied (set hs i noHeld) is (all-set Q hs i noHeld q w)
-
-emptied-long : (hs : List Held) (is : List ℕ) → length (emptied hs is) ≡ length hs
-emptied-long hs [] = refl
-emptied-long hs (i ∷ is) = emptied-long (set hs i noHeld) is ∙ length-set hs i noHeld
 
 emptied-apart : (hs : List Held) (is : List ℕ) → Distinct (heldNumbers hs) → Distinct (heldNumbers (emptied hs is))
 emptied-apart hs [] s = s

@@ -28,7 +28,7 @@ isLow T k h = pick (h .used) (not (keeping.isCome T k (h .tsn .0))) false
 unfoldable pub lowOf : Numbering → Receiving → ℕ
 lowOf T r = count (isLow T (r .keeping)) (r .held)
 
--- what a take leaves: "offsets stay come", so number-keeping is as it was
+-- what a take leaves: number-keeping as it was, since "Freeing a taken chunk's offset above the point" is a wrong build
 abbrev pub takenBy : Receiving → Took → Taken
 takenBy r t = record { answer = t .answer; receiving = record { keeping = r .keeping; held = t .held; next = t .next } }
 

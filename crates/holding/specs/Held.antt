@@ -11,6 +11,7 @@ use Rattle.scans.specs.Each.{clash}
 use Rattle.holding.specs.declared.held.Chunk.{Chunk}
 use Rattle.holding.specs.declared.held.Held.{Held}
 
+-- the SSN that a stream begins with
 abbrev pub ssn0 : Ssn
 ssn0 = record { 0 = 0 }
 
@@ -42,6 +43,7 @@ asHeld c n = record {
   len = n;
 }
 
+-- no chunk is held here
 abbrev pub isFree : Held → Bool
 isFree h = not (h .used)
 

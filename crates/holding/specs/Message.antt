@@ -30,14 +30,17 @@ pub data Run : Type 0 where
   broken : Run
   whole : List ℕ → Run
 
+-- place i ahead of the rest of its run
 abbrev pub led : ℕ → Run → Run
 led i broken = broken
 led i (whole is) = whole (i ∷ is)
 
+-- the run goes on at the place that was found, or is broken
 abbrev pub onward : (ℕ → Run) → Found → Run
 onward go (At j) = go j
 onward go Nothing = broken
 
+-- it reaches its last chunk
 abbrev pub isWhole : Run → Bool
 isWhole broken = false
 isWhole (whole is) = true
@@ -69,15 +72,18 @@ pub data Choice : Type 0 where
   none : Choice
   one : ℕ → List ℕ → Choice
 
+-- a message can be taken
 abbrev pub isOne : Choice → Bool
 isOne none = false
 isOne (one k is) = true
 
+-- of two messages the one with the smaller key, of equal keys the one that was there before
 abbrev pub ranked : Choice → ℕ → Run → Choice
 ranked best k broken = best
 ranked none k (whole is) = one k is
 ranked (one l js) k (whole is) = pick (leb l k) (one l js) (one k is)
 
+-- the choice so far against the message that begins with h, at place i, if it can be taken
 unfoldable pub better : Numbering → Profile → List Held → List Ssn → ℕ → Choice → ℕ → Held → Choice
 better T P hs next point best i h =
     pick (opens P next h) (ranked best (key T point (h .tsn .0)) (follow T hs h (P .places) i h)) best
@@ -86,5 +92,6 @@ better T P hs next point best i h =
 unfoldable pub chosen : Numbering → Profile → List Held → List Ssn → ℕ → Choice
 chosen T P hs next point = foldFrom (better T P hs next point) none 0 hs
 
+-- the chunks of a message, by their places
 abbrev pub chunksAt : List Held → List ℕ → List Held
 chunksAt hs is = map (λ (i : ℕ). getD hs i noHeld) is

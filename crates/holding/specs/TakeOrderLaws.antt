@@ -12,6 +12,7 @@ use Rattle.numbers.specs.declared.circle.Ssn.{Ssn}
 use Rattle.numbers.specs.Numbering.{Numbering, key}
 use Rattle.numbers.specs.Profile.{Profile}
 use Rattle.scans.specs.Scan.{pick, tick, count, foldFrom}
+use Rattle.scans.specs.Each.{tick-tick}
 use Rattle.holding.specs.declared.held.Held.{Held}
 use Rattle.holding.specs.Held.{noHeld}
 use Rattle.holding.specs.Message.{Run, broken, whole, isLeftEnd, follow, opens, Choice, none, one, ranked, better, chosen}
@@ -118,14 +119,9 @@ module _ (k : ℕ → ℕ) where
   inserted-count p i [] = refl
   inserted-count p i (j ∷ js) = go (ltb (k i) (k j)) (inserted-count p i js)
     where
-      swap : (s t : Bool) (n : ℕ) → tick s (tick t n) ≡ tick t (tick s n)
-      swap true true n = refl
-      swap true false n = refl
-      swap false t n = refl
-
       go : (t : Bool) → count p (inserted k i js) ≡ tick (p i) (count p js) → count p (pick t (i ∷ (j ∷ js)) (j ∷ inserted k i js)) ≡ tick (p i) (tick (p j) (count p js))
       go true ih = refl
-      go false ih = ap (tick (p j)) ih ∙ swap (p j) (p i) (count p js)
+      go false ih = ap (tick (p j)) ih ∙ tick-tick (p j) (p i) (count p js)
 
   module _ (i : ℕ) where
     queued-other : (js : List ℕ) (m : ℕ) (h : Held) → eqb i m ≡ false → count (eqb i) (queued k js m h) ≡ count (eqb i) js

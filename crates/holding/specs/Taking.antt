@@ -16,16 +16,18 @@ use Rattle.holding.specs.declared.taking.Took.{Took}
 use Rattle.holding.specs.Held.{noHeld, ssn0}
 use Rattle.holding.specs.Message.{Choice, none, one, chunksAt, chosen}
 
--- the number of document 01 for an answer
+-- the number of 01 for an answer
 abbrev pub numberOf : Answer → ℕ
 numberOf (Taken m) = 0
 numberOf Nothing = 17
 numberOf (Short n) = 18
 
+-- the first chunk of a message
 abbrev pub firstOf : List Held → Held
 firstOf [] = noHeld
 firstOf (h ∷ hs) = h
 
+-- the bytes of payload of the chunk at place i
 abbrev pub lenAt : List Held → ℕ → ℕ
 lenAt hs i = getD hs i noHeld .len
 
@@ -74,6 +76,7 @@ tookBy S hs next room (one k is) =
       next = advanced S next (firstOf (chunksAt hs is));
     })
 
+-- a take into `room` bytes: its answer, and what it leaves
 unfoldable pub took : Numbering → Numbering → Profile → List Held → List Ssn → ℕ → ℕ → Took
 took T S P hs next point room = tookBy S hs next room (chosen T P hs next point)
 
@@ -82,5 +85,6 @@ abbrev pub writtenBy : Profile → List Held → List ℕ → List ℕ → Choic
 writtenBy P hs area out none = out
 writtenBy P hs area out (one k is) = pick (ltb (length out) (lengthOf hs is)) out (copied P area hs out 0 is)
 
+-- the same, of the message that the take gives
 unfoldable pub written : Numbering → Profile → List Held → List Ssn → ℕ → List ℕ → List ℕ → List ℕ
 written T P hs next point area out = writtenBy P hs area out (chosen T P hs next point)

@@ -276,6 +276,10 @@ module _ (T : Numbering) (P : Profile) (hs : List Held) (next : List Ssn) (point
 
 -- ---- what a take leaves, for those above
 
+pub emptied-long : (hs : List Held) (is : List ℕ) → length (emptied hs is) ≡ length hs
+emptied-long hs [] = refl
+emptied-long hs (i ∷ is) = emptied-long (set hs i noHeld) is ∙ length-set hs i noHeld
+
 pub advanced-long : (S : Numbering) (next : List Ssn) (h : Held) → length (advanced S next h) ≡ length next
 unfolding advanced
 advanced-long S next h = go (h .unordered)

@@ -210,6 +210,7 @@ marked-is P k t a b = rw (le-ltb (offsetOf line k t) 1 a, le-ltb (P .places) (of
 
 -- ---- the record
 
+-- the invariant `Sound` of a receiving record
 abbrev pub SoundOf : Profile → ℕ → (ℕ → Chunk) → (ℕ → ℕ) → Receiving → (ℕ → ℕ) → ℕ → Type 0
 SoundOf P base chunk size r gone least = Sound P base chunk size (r .keeping .point .0) (r .keeping .come) (r .held) (r .next) gone least
 

@@ -36,6 +36,7 @@ bit-ge a b e = go (ltb a b) refl
     go true q = absurd (omega (arith, sym (ap bit q) ∙ e))
     go false q = ltb-false a b q
 
+-- a number below a is held here
 abbrev pub isBelow : ℕ → Held → Bool
 isBelow a x = pick (x .used) (ltb (x .tsn .0) a) false
 

@@ -64,6 +64,7 @@ laid-here vs l a h =
 
 -- ---- the payload of each held chunk lies in its place
 
+-- the area has every place, and each held chunk has its payload there
 pub record Lodged (P : Profile) (payload : ℕ → List ℕ) (area : List ℕ) (hs : List Held) : Type 0 where
   pub long : P .payload * P .places ≤ length area
   pub there : (i n : ℕ) → holds n (getD hs i noHeld) ≡ true

@@ -11,6 +11,7 @@ use Rattle.holding.specs.declared.taking.Answer.the-variants.{Taken, Nothing, S
 use Rattle.delivery.specs.declared.receiving.Receiving.{Receiving}
 use Rattle.delivery.specs.declared.acknowledging.Sack.{Sack}
 
+-- an SSN, a chunk, a held chunk, a receiving record, what a take answers, a SACK
 abbrev pub reduceSsn : ℕ → Ssn → Ssn
 reduceSsn m s = record { 0 = s .0 % m }
 

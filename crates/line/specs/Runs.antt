@@ -49,10 +49,12 @@ pub record Lent : Type 0 where
   pub receiving : Receiving
   pub area : List ℕ
 
+-- the answer to one event, and what the receiver then has
 pub record Turn : Type 0 where
   pub answer : Answer
   pub lent : Lent
 
+-- an event, answered by the rules that the code's promises cite
 abbrev pub turn : Numbering → Numbering → Profile → ℕ → Lent → Event → Turn
 turn T S P streams l (arrive c bytes) = record {
   answer = judges (arrived T P (l .receiving) (asHeld c (length bytes)) streams .verdict);
@@ -126,6 +128,7 @@ abbrev pub handedBy : List Held → ℕ → Choice → List Held
 handedBy hs room none = []
 handedBy hs room (one k is) = pick (ltb room (lengthOf hs is)) [] (chunksAt hs is)
 
+-- of the message that the take chooses
 unfoldable pub handed : Numbering → Profile → Receiving → ℕ → List Held
 handed T P r room = handedBy (r .held) room (chosen T P (r .held) (r .next) (r .keeping .point .0))
 
@@ -147,12 +150,13 @@ isOrderedIn q (Taken m) = pick (m .unordered) false (eqb (m .stream .0) q)
 isOrderedIn q Nothing = false
 isOrderedIn q (Short n) = false
 
+-- the SSN of the message that a take gives
 abbrev pub ssnOf : Taking → ℕ
 ssnOf (Taken m) = m .ssn .0
 ssnOf Nothing = 0
 ssnOf (Short n) = 0
 
--- the sequence numbers of the ordered messages of stream q that a run gave
+-- the SSNs of the ordered messages of stream q that a run gave
 abbrev pub orderGiven : ℕ → List Answer → List ℕ
 orderGiven q [] = []
 orderGiven q (judges v ∷ zs) = orderGiven q zs

@@ -31,7 +31,7 @@ pub record Sender (P : Profile) (first streams : ℕ) (chunk : ℕ → Chunk) : 
   -- it cuts whole messages: one begins at the first number and behind each end, and nowhere else
   pub begins : chunk first .begin ≡ true
   pub parts : (n : ℕ) → first ≤ n → chunk (suc n) .begin ≡ chunk n .end
-  -- the chunks of a message are of one stream, of one kind and, if ordered, of one sequence number
+  -- the chunks of a message are of one stream, of one kind and, if ordered, of one SSN
   pub one-stream : (n : ℕ) → first ≤ n → chunk n .end ≡ false → chunk (suc n) .stream .0 ≡ chunk n .stream .0
   pub one-kind : (n : ℕ) → first ≤ n → chunk n .end ≡ false → chunk (suc n) .unordered ≡ chunk n .unordered
   pub one-ssn : (n : ℕ) → first ≤ n → chunk n .end ≡ false → chunk n .unordered ≡ false → chunk (suc n) .ssn .0 ≡ chunk n .ssn .0

@@ -14,6 +14,7 @@ use Rattle.numbers.specs.declared.circle.Distance.the-variants.{Ahead, B
 abbrev pub along : ℕ → ℕ → ℕ → ℕ
 along n a k = (a + k) % n
 
+-- one of two, by a test
 abbrev pub pickℕ : Bool → ℕ → ℕ → ℕ
 pickℕ true x y = x
 pickℕ false x y = y

@@ -19,6 +19,7 @@ use Rattle.numbers.specs.Come.{run}
 use Rattle.numbers.specs.Keeping.{fresh, offsetOf, isCome, settled, marked, listed, told, highestOf, keepingSound}
 use Rattle.numbers.specs.Blocks.{blocksOf}
 
+-- a number of the line, as the circle of n points has it
 abbrev pub reduceTsn : ℕ → Tsn → Tsn
 reduceTsn n t = record { 0 = t .0 % n }
 

@@ -14,7 +14,7 @@ use lib.ListN.{length, set, replicate, getD}
 use lib.Seq.{getD-set-other}
 use lib.Dec.{eqb}
 use Rattle.scans.specs.Scan.{pick, tick, count, any}
-use Rattle.scans.specs.Each.{All, clash}
+use Rattle.scans.specs.Each.{All, clash, tick-tick}
 use Rattle.numbers.specs.declared.keeping.Keeping.{Keeping}
 use Rattle.numbers.specs.Numbering.{Numbering}
 use Rattle.numbers.specs.Profile.{Profile}
@@ -26,6 +26,7 @@ use Rattle.numbers.specs.KeepingLaws.{Comes, flagOf, come-below, same-ah
 -- ---- the numbers of what is used
 
 module _ {A : Type 0} (used : A → Bool) (number : A → ℕ) where
+  -- the numbers of those that are used
   abbrev pub numbersOf : List A → List ℕ
   numbersOf [] = []
   numbersOf (x ∷ xs) = pick (used x) (number x ∷ numbersOf xs) (numbersOf xs)
@@ -84,6 +85,7 @@ apart t (y ∷ ts) e = go (ℕ-discrete y t) (apart t ts)
 
 -- ---- flags
 
+-- a flag is its own test
 abbrev flag : Bool → Bool
 flag b = b
 
@@ -308,11 +310,6 @@ once-distinct (y ∷ ts) f =
     rest : (t : ℕ) (b : Bool) → tick b (count (λ (z : ℕ). eqb z t) ts) ≤ 1 → count (λ (z : ℕ). eqb z t) ts ≤ 1
     rest t true g = omega arith
     rest t false g = g
-
-tick-tick : (a b : Bool) (m : ℕ) → tick a (tick b m) ≡ tick b (tick a m)
-tick-tick true true m = refl
-tick-tick true false m = refl
-tick-tick false b m = refl
 
 module _ {A : Type 0} (used : A → Bool) (number : A → ℕ) where
   count-cons : (q : ℕ → Bool) (u : Bool) (n : ℕ) (ts : List ℕ) → count q (pick u (n ∷ ts) ts) ≡ tick (pick u (q n) false) (count q ts)

@@ -16,6 +16,7 @@ use Rattle.numbers.specs.Circle.{onCircle, steps, along, steps-are}
 use Rattle.numbers.specs.Signed.{only, right}
 use Rattle.scans.specs.Scan.{pick}
 
+-- a circle of so many points, or the line
 pub data Numbering : Type 0 where
   ring : ℕ → Numbering
   line : Numbering

@@ -1,6 +1,7 @@
 -- The numbers that a profile fixes for receiving. Definitions take a profile; the code's constants are the rail's.
 use Prim.Native.Nat.{ℕ}
 
+-- places for held chunks, streams each way, the longest payload, how many duplicates are listed
 pub record Profile : Type 0 where
   pub places : ℕ
   pub streams : ℕ

@@ -4,6 +4,7 @@ use Prim.Native.Nat.{ℕ, zero, suc, _+_, _-_, _*_, _%_, _<_, _≤_}
 use mathlib.Core.Path.{_≡_, refl, sym, ap, _∙_}
 use mathlib.Core.Bool.{Bool, true, false}
 use mathlib.Core.List.{List, [], _∷_, _++_}
+use native.Mathlib.Decide.{decLt}
 use native.Mathlib.Omega.{arith}
 use borrow.Author.Tests.{lt-ltb, le-ltb, ltb-false}
 use lib.Dec.{ltb}
@@ -89,6 +90,19 @@ module _ {ℓ} {R : Type ℓ} (f : R → List ℕ → R) (r : R) (s : List ℕ) 
   pub over-end : length s ≤ at → overItems f r s at ≡ r
   unfolding overItems
   over-end h = rw (walk-end s at h)
+
+-- what the step of every item keeps, the whole keeps
+module _ {R : Type 0} (P : R → Type 0) (f : R → List ℕ → R) (s : List ℕ) (k : (r : R) (at : ℕ) → P r → P (f r (drop at s))) where
+  over-by : (n : ℕ) (r : R) (at : ℕ) → length s ≤ at + n → P r → P (overItems f r s at)
+  over-by zero r at h p = rw (over-end f r s at (omega arith)) p
+  over-by (suc n) r at h p = go (decLt at (length s)) (over-by n (f r (drop at s)) (at + size (drop at s)) (omega (arith, size-least (drop at s))) (k r at p))
+    where
+      go : Dec (at < length s) → P (overItems f (f r (drop at s)) s (at + size (drop at s))) → P (overItems f r s at)
+      go (yes x) q = rw (over-on f r s at x) q
+      go (no x) q = rw (over-end f r s at (omega arith)) p
+
+  pub over-keeps : (r : R) (at : ℕ) → P r → P (overItems f r s at)
+  over-keeps r at p = over-by (length s) r at (omega arith) p
 
 -- ---- a loop over the items of s
 pub record Walking (p : List ℕ → Bool) (s : List ℕ) (from at : ℕ) : Type 0 where

@@ -212,7 +212,7 @@ module _ {xs ys zs a b : List ℕ} {n m : ℕ} (short : length a + length b ≤ 
       rw (← room-is)
       (length-append (fitting (length xs) a) (fitting (length ys - n) b) ∙ (λ i. sym (one .count-is) i + sym (two .count-is) i))
 
-  -- a second writer in the part of the space behind the first
+  -- a second writer in the part of the output behind the first
   pub wrote-both : Wrote xs (bothFitting (length xs) a b) (n + m) behind
   wrote-both =
       wrote-all both-long (omega (arith, one .most, two .most)) (omega (arith, long, one .within, two .within)) both-holds
@@ -256,7 +256,7 @@ length-items f four i zero = refl
 length-items f four i (suc n) = omega (arith, length-append (f i) (items f (i + 1) n), four i, length-items f four (i + 1) n)
 
 -- item j of a list of items of four bytes
-item-at : (f : ℕ → List ℕ) → ((k : ℕ) → length (f k) ≡ 4) → (i n j : ℕ) (rest : List ℕ) → j < n
+pub item-at : (f : ℕ → List ℕ) → ((k : ℕ) → length (f k) ≡ 4) → (i n j : ℕ) (rest : List ℕ) → j < n
     → drop (4 * j) (items f i n ++ rest) ≡ f (i + j) ++ (items f (i + j + 1) (n - (j + 1)) ++ rest)
 item-at f four i zero j rest h = absurd (omega arith)
 item-at f four i (suc n) zero rest h =

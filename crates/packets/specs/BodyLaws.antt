@@ -1,4 +1,4 @@
--- Chunks as writers leave them are sound, and a packet made of them passes the checks 2, 3, 5 and 6. Assumes nothing.
+-- Chunks as writers leave them are sound, and a packet made of them is not answered 2, 3, 5 or 6. Assumes nothing.
 use Prim.Native.Nat.{ℕ, _+_, _-_, _*_, _%_, _≤_}
 use mathlib.Core.Path.{_≡_, refl, sym, ap, _∙_}
 use mathlib.Core.Bool.{Bool, true, false}
@@ -199,7 +199,7 @@ laden-more used out bs w s = go s (wrote-at out used bs)
           is = gathered-more (w .chunks) bs out used (w .begun) (omega (arith, w .within)) (w .is);
         }
 
--- ---- "a written packet passes checks 2, 3, 5, 6"
+-- ---- a written packet is not answered 2, 3, 5 or 6
 
 module _ (h : Header) (n : ℕ) (out : List ℕ) (cs : List (List ℕ)) (w : All Sound cs) (t : Together cs) (l : 16 ≤ n) (m : n ≤ 1472) (r : n ≤ length out) (e : drop 12 (take n out) ≡ joined cs) where
   pub written-passes : packetNumber (take n (sealBytes h n out)) ≡ 0

@@ -9,6 +9,7 @@ use Rattle.crc32c.specs.Field.{withField}
 use Rattle.octets.specs.Bytes.{u16, u32, be16, be32, laid}
 use Rattle.packets.specs.declared.header.Header.{Header}
 
+-- ports and tag; the checksum is judged by itself (3)
 unfoldable pub headerOf : List ℕ → Header
 headerOf s = record { source = u16 s 0; destination = u16 s 2; tag = u32 s 4 }
 

@@ -45,7 +45,7 @@ filled s =
     (pick (eqb (u8 s 0) 2) (tiled (params s))
     (pick (eqb (u8 s 0) 3) (counted s) true))
 
--- "length under the chunk's least, past the packet, or not filled"
+-- "length under the chunk's least .., past the packet, or not filled by its parameters or SACK counts"
 unfoldable pub ill : List ℕ → Bool
 ill s = pick (ltb (u16 s 2) (least (u8 s 0))) true (pick (ltb (length s) (u16 s 2)) true (pick (filled s) false true))
 

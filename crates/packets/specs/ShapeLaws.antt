@@ -21,7 +21,7 @@ use Rattle.packets.specs.Shape.{least, alone, misplaced, tiled, params, 
 
 -- ---- what is accepted
 
--- a chunk that is not ill "has the length it says": no less than its least, within the packet, and filled
+-- a chunk that is not ill has the length that it says: no less than its least, within the packet, and filled
 pub record Accepted (s : List ℕ) : Type 0 where
   pub enough : least (u8 s 0) ≤ u16 s 2
   pub within : u16 s 2 ≤ length s

@@ -1,9 +1,8 @@
 -- What is gathered fills its chunk, and begins with what was there; so an INIT ACK is read back as it was written. Assumes nothing.
-use Prim.Native.Nat.{ℕ, zero, suc, _+_, _-_, _%_, _<_, _≤_}
+use Prim.Native.Nat.{ℕ, _+_, _-_, _%_, _≤_}
 use mathlib.Core.Path.{_≡_, refl, sym, ap, _∙_}
 use mathlib.Core.Bool.{Bool, true, false}
 use mathlib.Core.List.{List, [], _++_, append-assoc, append-nil}
-use native.Mathlib.Decide.{decLt}
 use native.Mathlib.Omega.{arith}
 use lib.Dec.{ltb}
 use lib.ListN.{length, take, drop, length-append}
@@ -12,8 +11,7 @@ use borrow.Author.Tests.{eq-eqb}
 use Rattle.scans.specs.Scan.{pick}
 use Rattle.octets.specs.Bytes.{u16, up4, zeros}
 use Rattle.octets.specs.BytesLaws.{u16-at, u16-append, part-is, zeros-of, zeros-long}
-use Rattle.octets.specs.Walk.{size, overItems}
-use Rattle.octets.specs.WalkLaws.{size-least, over-on, over-end, first-here}
+use Rattle.octets.specs.WalkLaws.{over-keeps, first-here}
 use Rattle.chunks.specs.Frame.{framed, partFrom, bytesIn, ended}
 use Rattle.chunks.specs.Back.{Back, from-is, framed-part}
 use Rattle.chunks.specs.RoundTrips.{init-back, parameters-back}
@@ -29,16 +27,6 @@ use Rattle.parameters.specs.Report.{parameter, report, behind, fitted, G
 use Rattle.parameters.specs.ReportLaws.{init-ack-is}
 
 -- ---- what every step keeps, the whole keeps
-
-pub over-keeps : {R : Type 0} (P : R → Type 0) (f : R → List ℕ → R) → ((r : R) (t : List ℕ) → P r → P (f r t))
-    → (n : ℕ) (r : R) (s : List ℕ) (at : ℕ) → length s ≤ at + n → P r → P (overItems f r s at)
-over-keeps P f k zero r s at h p = rw (over-end f r s at (omega arith)) p
-over-keeps P f k (suc n) r s at h p =
-    go (decLt at (length s)) (over-keeps P f k n (f r (drop at s)) s (at + size (drop at s)) (omega (arith, size-least (drop at s))) (k r (drop at s) p))
-  where
-    go : Dec (at < length s) → P (overItems f (f r (drop at s)) s (at + size (drop at s))) → P (overItems f r s at)
-    go (yes x) q = rw (over-on f r s at x) q
-    go (no x) q = rw (over-end f r s at (omega arith)) p
 
 module _ (P : List ℕ → Type 0) (room : ℕ) (w : Bool) (k : (x p : List ℕ) → P x → P (behind x (report w p))) where
   fitted-keeps : (x p : List ℕ) → P x → P (fitted room x (report w p))
@@ -69,10 +57,11 @@ module _ (P : List ℕ → Type 0) (room : ℕ) (w : Bool) (k : (x p : List ℕ)
 
   pub gather-keeps : (acc b : List ℕ) → P acc → P (gatherAll room w acc b)
   unfolding gatherAll
-  gather-keeps acc b q = over-keeps (λ (g : Gathered). P (g .bytes)) (gatherOne room w) one-keeps (length b) (record { bytes = acc; done = false }) b 0 (omega arith) q
+  gather-keeps acc b q = over-keeps (λ (g : Gathered). P (g .bytes)) (gatherOne room w) b (λ g at p. one-keeps g (drop at b) p) (record { bytes = acc; done = false }) 0 q
 
 -- ---- "Parameters .. fill the chunk to its length exactly, the last one's padding excluded"
 
+-- one parameter alone, or one with its padding and others that fill the rest
 pub data Filling : List ℕ → Type 0 where
   last : {s : List ℕ} → 4 ≤ length s → u16 s 2 ≡ length s → Filling s
   more : {s : List ℕ} (p b : List ℕ) → s ≡ p ++ b → 4 ≤ u16 p 2 → up4 (u16 p 2) ≡ length p → Filling b → Filling s

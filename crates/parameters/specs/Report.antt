@@ -38,12 +38,14 @@ pub record Gathered : Type 0 where
   pub bytes : List ℕ
   pub done : Bool
 
+-- an unknown parameter p, by the two high bits of its type: whether it is reported, and whether the reports end with it
 abbrev pub acted : ℕ → Bool → List ℕ → List ℕ → Handling → Gathered
 acted room w acc p Stop = record { bytes = acc; done = true }
 acted room w acc p StopAndReport = record { bytes = fitted room acc (report w p); done = true }
 acted room w acc p Skip = record { bytes = acc; done = false }
 acted room w acc p SkipAndReport = record { bytes = fitted room acc (report w p); done = false }
 
+-- a known parameter is not reported
 abbrev pub judged : ℕ → Bool → List ℕ → List ℕ → Treatment → Gathered
 judged room w acc p Known = record { bytes = acc; done = false }
 judged room w acc p (Unknown h) = acted room w acc p h
@@ -64,9 +66,10 @@ ROOM = 1440
 unfoldable pub initAckBytes : Init → List ℕ → List ℕ → List ℕ
 initAckBytes v c s = carrying 256 c (framed 2 0 (initFields v ++ gatherAll ROOM true (parameter 7 c) (paramsOf s)))
 
--- the ERROR that goes with the answer to the INIT ACK s
+-- an ERROR with cause 8 and the parameters v; none where there are none
 abbrev pub errorOf : List ℕ → List ℕ
 errorOf v = carrying ROOM v (framed 9 0 (caused 8 v))
 
+-- the ERROR that goes with the answer to the INIT ACK s
 unfoldable pub errorParametersBytes : List ℕ → List ℕ
 errorParametersBytes s = errorOf (gatherAll ROOM false [] (paramsOf s))

@@ -1,4 +1,4 @@
--- The path as a whole: what a SACK, T3, a sample and the peer's sign of life do to it.
+-- The path as a whole: what a SACK, T3, a sample and a HEARTBEAT ACK do to it.
 use Prim.Native.Nat.{ℕ, _+_, _^_}
 use mathlib.Core.Bool.{Bool, true, false, not}
 use lib.Dec.{ltb, leb}
@@ -23,7 +23,7 @@ fresh z = record { control = control.fresh z; clock = clock.fresh z; flight = 0;
 abbrev pub isFree : Path → Bool → Bool
 isFree p b = pick b (not (p .running)) false
 
--- the path with other congestion numbers, and with another clock
+-- the path with other congestion numbers, with another clock, with another count of tries
 abbrev pub controlled : Path → Control → Path
 controlled p k = record { control = k; clock = p .clock; flight = p .flight; running = p .running; until = p .until; tries = p .tries }
 
@@ -49,6 +49,7 @@ struckBy z p struck last =
 unfoldable pub restedBy : Path → Bool → Path
 restedBy p left = pick left p (controlled p (record { cwnd = p .control .cwnd; ssthresh = p .control .ssthresh; partial = 0 }))
 
+-- the number judged is not ahead of the point
 abbrev pub reaches : Judgement → Bool
 reaches AtOrBehind = true
 reaches (AheadWithin d) = false
@@ -76,6 +77,7 @@ expired z p =
     tried (clocked (controlled p (control.collapsed z (p .control))) (clock.doubled z (p .clock)))
     (pick (ltb (p .tries) (z .tries)) (p .tries + 1) (p .tries))
 
+-- a round trip was measured (RFC 9260, section 6.3.1)
 unfoldable pub sampledBy : Sizes → Path → ℕ → Path
 sampledBy z p sample = clocked p (clock.sampled z (p .clock) sample)
 

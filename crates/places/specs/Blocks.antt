@@ -7,10 +7,11 @@ use Rattle.scans.specs.Scan.{pick}
 use Rattle.scans.specs.Upto.{smaller, anyUpto}
 use Rattle.places.specs.declared.blocks.Blocks.{Blocks}
 
+-- no block: a SHUTDOWN has none
 abbrev pub none : Blocks
 none = record { starts = replicate 64 0; ends = replicate 64 0; count = 0 }
 
--- as many as there is room for
+-- how many the arrays list: "64 gap blocks" at most
 abbrev pub held : Blocks → ℕ
 held b = smaller (b .count) 64
 
@@ -26,6 +27,7 @@ isIll b room j =
     (pick (ltb (getD (b .ends) j 0) (getD (b .starts) j 0)) true
     (ltb room (getD (b .ends) j 0)))
 
+-- one of its blocks is such a one
 unfoldable pub anyIll : Blocks → ℕ → Bool
 anyIll b room = anyUpto (isIll b room) 0 (held b)
 
@@ -33,5 +35,6 @@ anyIll b room = anyUpto (isIll b room) 0 (held b)
 unfoldable pub blockHas : Blocks → ℕ → ℕ → Bool
 blockHas b d j = pick (ltb d (getD (b .starts) j 0)) false (leb d (getD (b .ends) j 0))
 
+-- "those in blocks": the offset d is in one of them
 unfoldable pub isBlocked : Blocks → ℕ → Bool
 isBlocked b d = anyUpto (blockHas b d) 0 (held b)

@@ -16,6 +16,7 @@ use Rattle.places.specs.declared.all.Tally.{Tally}
 abbrev pub being : Place → ℕ → Place
 being p s = record { status = s; misses = p .misses; chunk = p .chunk }
 
+-- whether a place has the status n
 abbrev pub hasStatus : ℕ → Place → Bool
 hasStatus n p = eqb (p .status) n
 
@@ -23,6 +24,7 @@ hasStatus n p = eqb (p .status) n
 unfoldable pub isOutstanding : Place → Bool
 isOutstanding p = pick (eqb (p .status) 2) true (eqb (p .status) 3)
 
+-- outstanding, or acknowledged by a block
 unfoldable pub isSent : Place → Bool
 isSent p = pick (eqb (p .status) 4) true (isOutstanding p)
 
@@ -42,10 +44,11 @@ payloadOf p = pick (eqb (p .status) 2) (p .chunk .len) 0
 abbrev pub aheadOf : Tsn → Tsn → ℕ
 aheadOf a b = forward (far (ring (2 ^ 32)) (a .0) (b .0))
 
+-- the same of the chunk of a place
 abbrev pub offsetOf : Tsn → Place → ℕ
 offsetOf from p = aheadOf from (p .chunk .tsn)
 
--- of the highest outstanding
+-- the offset of an outstanding chunk, 0 of another
 unfoldable pub lastOf : Tsn → Place → ℕ
 lastOf from p = pick (isOutstanding p) (offsetOf from p) 0
 
@@ -81,5 +84,6 @@ missed from limit p =
     (pick (eqb (p .misses) 2) (record { status = 3; misses = 3; chunk = p .chunk }) p))
     p
 
+-- every place after it, and whether a chunk came to three
 unfoldable pub missedAll : Tsn → ℕ → List Place → Missed
 missedAll from limit ps = record { places = map (missed from limit) ps; struck = any (reaches from limit) ps }

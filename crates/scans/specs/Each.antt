@@ -4,11 +4,13 @@ use Prim.Native.Nat.{ℕ, zero, suc, _+_, _<_, _≤_}
 use mathlib.Core.Path.{_≡_, refl, sym, _∙_, ap}
 use mathlib.Core.Bool.{Bool, true, false}
 use mathlib.Core.List.{List, [], _∷_, map}
+use native.Mathlib.Decide.{ℕ-discrete}
 use native.Mathlib.Omega.{arith}
 use lib.ListN.{length, set, getD}
 use Rattle.scans.specs.declared.Found.{Found}
 use Rattle.scans.specs.declared.Found.the-variants.{At, Nothing}
-use Rattle.scans.specs.Scan.{pick, count, findFrom, any}
+use Rattle.scans.specs.Scan.{tick, pick, count, findFrom, any}
+use Rattle.scans.specs.Upto.{anyUpto}
 
 module _ {A : Type 0} where
   -- every one is P
@@ -19,6 +21,7 @@ module _ {A : Type 0} where
 -- ---- a list whose elements are replaced, each by one that answers the test alike
 
 module _ {A B : Type 0} (f : A → B) (p : A → Bool) (q : B → Bool) where
+  -- the one that takes the place of x answers as x does
   abbrev pub Alike : A → Type 0
   Alike x = q (f x) ≡ p x
 
@@ -94,3 +97,38 @@ found-at p d xs j e =
     let w = found p d xs 0 j e in
     let q : w .0 ≡ j = omega arith in
     rw q at (w .2)
+
+-- ---- no one passes, and each one fails
+
+module _ {A : Type 0} (p : A → Bool) where
+  pub any-none : (xs : List A) → any p xs ≡ false → All (λ (x : A). p x ≡ false) xs
+  any-none [] e = tt
+  any-none (x ∷ xs) e = go (p x) refl (any-none xs)
+    where
+      go : (t : Bool) → p x ≡ t → (any p xs ≡ false → All (λ (y : A). p y ≡ false) xs) → (p x ≡ false) × All (λ (y : A). p y ≡ false) xs
+      go true q ih = clash (sym (rw q at e))
+      go false q ih = (q, ih (rw q at e))
+
+  pub none-any : (xs : List A) → All (λ (x : A). p x ≡ false) xs → any p xs ≡ false
+  none-any [] w = refl
+  none-any (x ∷ xs) w = rw (w .0) (none-any xs (w .1))
+
+module _ (p : ℕ → Bool) where
+  pub upto-none : (i n : ℕ) → anyUpto p i n ≡ false → (j : ℕ) → i ≤ j → j < i + n → p j ≡ false
+  upto-none i zero e j a b = absurd (omega arith)
+  upto-none i (suc n) e j a b = go (p i) refl (ℕ-discrete i j) (λ q l. upto-none (i + 1) n q j l (omega arith))
+    where
+      go : (t : Bool) → p i ≡ t → Dec (i ≡ j) → (anyUpto p (i + 1) n ≡ false → i + 1 ≤ j → p j ≡ false) → p j ≡ false
+      go true q d ih = clash (sym (rw q at e))
+      go false q (yes d) ih = rw (← d) q
+      go false q (no d) ih = ih (rw q at e) (omega arith)
+
+  pub none-upto : (i n : ℕ) → ((j : ℕ) → i ≤ j → j < i + n → p j ≡ false) → anyUpto p i n ≡ false
+  none-upto i zero f = refl
+  none-upto i (suc n) f = rw (f i (omega arith) (omega arith)) (none-upto (i + 1) n (λ j a b. f j (omega arith) (omega arith)))
+
+-- in a count it does not matter which of two stands first
+pub tick-tick : (a b : Bool) (m : ℕ) → tick a (tick b m) ≡ tick b (tick a m)
+tick-tick true true m = refl
+tick-tick true false m = refl
+tick-tick false b m = refl

@@ -37,6 +37,7 @@ judgedBy b room (AheadWithin d) = judgedBlocks b (room - d)
 judgedBy b room (AheadBeyond d) = 16
 judgedBy b room AtOpposite = 16
 
+-- 15, 16, or 0: a point that is ours is neither behind nor ahead
 unfoldable pub judgedPoint : Sending → Sack → ℕ
 judgedPoint s k =
     pick (eqb (s .acked .0) (k .point .0)) (judgedBlocks (k .blocks) (roomOf s))
@@ -44,6 +45,7 @@ judgedPoint s k =
 
 -- ---- a SACK that is neither
 
+-- "the point moved"
 unfoldable pub isMoved : Tsn → Tsn → Bool
 isMoved from point = ltb 0 (aheadOf from point)
 
@@ -59,7 +61,7 @@ unfoldable pub pathAfter : Sizes → Path → ℕ → Bool → Bool → Tsn → 
 pathAfter z p newly moved struck last left point =
     way.endedBy (way.restedBy (way.struckBy z (way.grew z p newly moved) struck last) left) point
 
--- freed, acknowledged, withdrawn; the window as advertised; then the path, with flight the sum over its chunks
+-- freed, acknowledged, outstanding again; the window as advertised; then the path, with flight the sum over its chunks
 unfoldable pub accepted : Sizes → Sending → Sack → Sending
 accepted z s k =
     let taken : Taken = takenIn k (s .acked) (s .places) in
@@ -80,12 +82,14 @@ accepted z s k =
 unfoldable pub acknowledged : Sizes → Sending → Sack → Answer
 acknowledged z s k = record { number = judgedPoint s k; sending = pick (eqb (judgedPoint s k) 0) (accepted z s k) s }
 
+-- a SACK: chunks that its blocks leave out are outstanding again
 abbrev pub sackOf : Tsn → ℕ → Blocks → Sack
 sackOf point window blocks = record { point = point; window = window; whole = true; blocks = blocks }
 
--- "SHUTDOWN's point works alike, window and block marks kept; if stale, only the state moves"
+-- "SHUTDOWN's point works alike, window and block marks kept"
 abbrev pub shutOf : Sending → Tsn → Sack
 shutOf s point = record { point = point; window = s .advertised; whole = false; blocks = none }
 
+-- "if stale, only the state moves": nothing here
 unfoldable pub shutdownPoint : Sizes → Sending → Tsn → Answer
 shutdownPoint z s point = pick (eqb (judgedPoint s (shutOf s point)) 15) (record { number = 0; sending = s }) (acknowledged z s (shutOf s point))

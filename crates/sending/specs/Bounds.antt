@@ -49,6 +49,7 @@ membersOf sent ps = pick sent (count isSent ps) (count (hasStatus 1) ps)
 unfoldable pub spotOf : Profile → ℕ → ℕ
 spotOf P k = pick (ltb k 1) (P .places) (pick (ltb (P .places) k) (P .places) (k - 1))
 
+-- the number k is noted
 unfoldable pub markedBy : Profile → List Bool → ℕ → List Bool
 markedBy P seen k = pick (ltb (spotOf P k) (P .places)) (set seen (spotOf P k) true) seen
 
@@ -56,9 +57,11 @@ markedBy P seen k = pick (ltb (spotOf P k) (P .places)) (set seen (spotOf P k) t
 unfoldable pub seenOf : Profile → Bool → Tsn → ℕ → List Place → List Bool
 seenOf P sent acked oldest ps = foldFrom (λ seen i p. markedBy P seen (keyOf sent acked oldest p)) (replicate (P .places) false) 0 ps
 
+-- the number j + 1 is not there
 abbrev pub isGap : List Bool → ℕ → Bool
 isGap seen j = not (getD seen j false)
 
+-- one of the numbers 1 to n is not there
 unfoldable pub hasGap : List Bool → ℕ → Bool
 hasGap seen n = anyUpto (isGap seen) 0 n
 
@@ -95,6 +98,7 @@ pub record Fit (P : Profile) (p : Place) : Type 0 where
   pub misses : p .misses ≤ 3
   pub cut : (p .status ≡ 0 → ⊥) → Cut P (p .chunk)
 
+-- the chunk is number k of them
 abbrev pub hasKey : Bool → Tsn → ℕ → ℕ → Place → Bool
 hasKey sent acked oldest k p = eqb (keyOf sent acked oldest p) k
 
@@ -103,6 +107,7 @@ pub record Successive (sent : Bool) (acked : Tsn) (oldest : ℕ) (ps : List Plac
   pub many : membersOf sent ps ≡ n
   pub each : (k : ℕ) → 0 < k → k ≤ n → any (hasKey sent acked oldest k) ps ≡ true
 
+-- a record within its bounds
 pub record Sound (z : Sizes) (P : Profile) (s : Sending) : Type 0 where
   pub path : Within z (s .path)
   pub summed : s .path .flight ≡ total flightOf (s .places)

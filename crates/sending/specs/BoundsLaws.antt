@@ -11,9 +11,9 @@ use lib.Seq.{getD-set-same, getD-set-other}
 use lib.Dec.{eqb, ltb, leb}
 use Rattle.numbers.specs.declared.circle.Tsn.{Tsn}
 use Rattle.numbers.specs.Profile.{Profile}
+use Rattle.numbers.specs.ComeLaws.{clear-at}
 use Rattle.scans.specs.Scan.{pick, tick, any, count, either, foldFrom}
-use Rattle.scans.specs.Each.{All, all-map, clash}
-use Rattle.scans.specs.Upto.{anyUpto}
+use Rattle.scans.specs.Each.{all-map, clash, any-none, none-any, upto-none, none-upto}
 use Rattle.path.specs.Sizes.{Sizes}
 use Rattle.path.specs.Path as way
 use Rattle.path.specs.Laws.{within-so, so-within}
@@ -27,18 +27,6 @@ use Rattle.sending.specs.Bounds.{isOdd, keyOf, membersOf, spotOf, marked
 -- ---- scans
 
 module _ {A : Type 0} (p : A → Bool) where
-  pub any-none : (xs : List A) → any p xs ≡ false → All (λ (x : A). p x ≡ false) xs
-  any-none [] e = tt
-  any-none (x ∷ xs) e = go (p x) refl (any-none xs)
-    where
-      go : (t : Bool) → p x ≡ t → (any p xs ≡ false → All (λ (y : A). p y ≡ false) xs) → (p x ≡ false) × All (λ (y : A). p y ≡ false) xs
-      go true q ih = clash (sym (rw q at e))
-      go false q ih = (q, ih (rw q at e))
-
-  pub none-any : (xs : List A) → All (λ (x : A). p x ≡ false) xs → any p xs ≡ false
-  none-any [] w = refl
-  none-any (x ∷ xs) w = rw (w .0) (none-any xs (w .1))
-
   pub count-most : (xs : List A) → count p xs ≤ length xs
   count-most [] = zero-le
   count-most (x ∷ xs) = go (p x) (count-most xs)
@@ -47,30 +35,11 @@ module _ {A : Type 0} (p : A → Bool) where
       go true h = omega arith
       go false h = omega arith
 
-module _ (p : ℕ → Bool) where
-  upto-none : (i n : ℕ) → anyUpto p i n ≡ false → (j : ℕ) → i ≤ j → j < i + n → p j ≡ false
-  upto-none i zero e j a b = absurd (omega arith)
-  upto-none i (suc n) e j a b = go (p i) refl (ℕ-discrete i j) (λ q l. upto-none (i + 1) n q j l (omega arith))
-    where
-      go : (t : Bool) → p i ≡ t → Dec (i ≡ j) → (anyUpto p (i + 1) n ≡ false → i + 1 ≤ j → p j ≡ false) → p j ≡ false
-      go true q d ih = clash (sym (rw q at e))
-      go false q (yes d) ih = rw (← d) q
-      go false q (no d) ih = ih (rw q at e) (omega arith)
-
-  none-upto : (i n : ℕ) → ((j : ℕ) → i ≤ j → j < i + n → p j ≡ false) → anyUpto p i n ≡ false
-  none-upto i zero f = refl
-  none-upto i (suc n) f = rw (f i (omega arith) (omega arith)) (none-upto (i + 1) n (λ j a b. f j (omega arith) (omega arith)))
-
 -- past the end there is nothing
 beyond : {A : Type 0} (xs : List A) (j : ℕ) (d : A) → length xs ≤ j → getD xs j d ≡ d
 beyond [] j d h = refl
 beyond (x ∷ xs) zero d h = absurd (omega arith)
 beyond (x ∷ xs) (suc j) d h = beyond xs j d (omega arith)
-
-none-set : (n j : ℕ) → getD (replicate n false) j false ≡ false
-none-set zero j = refl
-none-set (suc n) zero = refl
-none-set (suc n) (suc j) = none-set n j
 
 -- ---- which numbers are there
 
@@ -148,7 +117,7 @@ module _ (P : Profile) where
     unfolding seenOf
     seen-at ps j h =
         seen-from j h ps (replicate (P .places) false) 0 (length-replicate (P .places) false)
-        ∙ ap (λ (t : Bool). either t (any (hasKey sent acked oldest (suc j)) ps)) (none-set (P .places) j)
+        ∙ ap (λ (t : Bool). either t (any (hasKey sent acked oldest (suc j)) ps)) (clear-at (P .places) j)
 
     seen-past : (ps : List Place) (j : ℕ) → P .places ≤ j → getD (seenOf P sent acked oldest ps) j false ≡ false
     unfolding seenOf

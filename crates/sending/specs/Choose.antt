@@ -30,9 +30,11 @@ rankOf acked oldest p =
     pick (eqb (p .status) 3) (offsetOf acked p)
     (pick (eqb (p .status) 1) (4294967296 + steps (2 ^ 32) oldest (p .chunk .order)) 8589934592)
 
+-- place i against the best so far: of equal ranks the lower place
 unfoldable pub better : Tsn → ℕ → Best → ℕ → Place → Best
 better acked oldest b i p = pick (ltb (rankOf acked oldest p) (b .rank)) (record { rank = rankOf acked oldest p; place = i }) b
 
+-- the best of all places; a rank of 8589934592 says that there is no candidate
 unfoldable pub bestOf : Tsn → ℕ → List Place → Best
 bestOf acked oldest ps = foldFrom (better acked oldest) (record { rank = 8589934592; place = 0 }) 0 ps
 
@@ -65,6 +67,7 @@ counted P ns c =
     (pick (ltb (c .stream .0) (P .streams)) (set ns (c .stream .0) (record { 0 = on (ring (2 ^ 16)) (getD ns (c .stream .0) noSsn .0) 1 })) ns)
     ns)
 
+-- a new chunk, with the TSN and SSN that it goes out with
 unfoldable pub numbered : Profile → Sending → Chunk → Chunk
 numbered P s c = record {
   tsn = s .«next_tsn»;
@@ -90,6 +93,7 @@ put s i q = record {
   path = withFlight (s .path) (s .path .flight + weightOf q);
 }
 
+-- a marked one is in flight again
 unfoldable pub again : Sending → ℕ → Place → Sending
 again s i p = put s i (being p 2)
 
@@ -107,6 +111,7 @@ first P s i p =
       path = r .path;
     }
 
+-- a marked one goes again, another for the first time
 unfoldable pub sent : Profile → Sending → ℕ → Place → Sending
 sent P s i p = pick (eqb (p .status) 3) (again s i p) (first P s i p)
 
@@ -116,6 +121,7 @@ sent P s i p = pick (eqb (p .status) 3) (again s i p) (first P s i p)
 unfoldable pub tsnOf : Sending → Place → Tsn
 tsnOf s p = pick (eqb (p .status) 3) (p .chunk .tsn) (s .«next_tsn»)
 
+-- whether one more goes, and from which place
 unfoldable pub going : Chosen → Going
 going f =
     let b : Best = bestOf (f .sending .acked) (f .sending .oldest) (f .sending .places) in

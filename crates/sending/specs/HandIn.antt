@@ -42,6 +42,7 @@ refusal P s len stream streams =
 abbrev pub partLen : Profile → ℕ → ℕ → ℕ
 partLen P len k = smaller (len - P .payload * k) (P .payload)
 
+-- the bytes of the chunk k
 abbrev pub partOf : Profile → List ℕ → ℕ → List ℕ
 partOf P message k = take (P .payload) (drop (P .payload * k) message)
 
@@ -59,6 +60,7 @@ chunkAt P m n k = record {
   unordered = m .unordered;
 }
 
+-- the chunk k of n, in a place where it waits
 unfoldable pub waitingAt : Profile → Message → ℕ → ℕ → Place
 waitingAt P m n k = record { status = 1; misses = 0; chunk = chunkAt P m n k }
 
@@ -72,6 +74,7 @@ takes n k p = pick (eqb (p .status) 0) (ltb k n) false
 abbrev pub after : ℕ → ℕ → Place → ℕ
 after n k p = pick (takes n k p) (k + 1) k
 
+-- the places, with every chunk in its own
 unfoldable pub laidOut : Profile → Message → ℕ → List Place → List Place
 laidOut P m n ps = carried (after n) (λ k p. pick (takes n k p) (waitingAt P m n k) p) 0 ps
 
@@ -87,6 +90,7 @@ stored P n message a i p = record {
   area = pick (takes n (a .chunk) p) (laid (a .area) (P .payload * i) (partOf P message (a .chunk))) (a .area);
 }
 
+-- the lent area, with every payload in its place
 unfoldable pub storedIn : Profile → ℕ → List ℕ → List Place → List ℕ → List ℕ
 storedIn P n message ps area = foldFrom (stored P n message) (record { chunk = 0; area = area }) 0 ps .area
 
@@ -117,6 +121,7 @@ handedIn P s len stream unordered ppid streams =
       sending = pick (eqb no 0) (waited P s len stream unordered ppid) s;
     }
 
+-- what stands in the lent area afterwards
 unfoldable pub areaAfter : Profile → Sending → List ℕ → List ℕ → StreamId → ℕ → List ℕ
 areaAfter P s area message stream streams =
     pick (eqb (refusal P s (length message) stream streams) 0) (storedIn P (chunksOf P (length message)) message (s .places) area) area

@@ -13,6 +13,7 @@ use Rattle.places.specs.declared.place.Place.{Place}
 use Rattle.places.specs.Places.{aheadOf, tallied, isEmpty}
 use Rattle.sending.specs.declared.sending.Sending.{Sending}
 
+-- numbers that are not given yet, and a free place
 abbrev pub noSsn : Ssn
 noSsn = record { 0 = 0 }
 
@@ -42,16 +43,19 @@ fresh z P t window = record {
 abbrev pub roomOf : Sending → ℕ
 roomOf s = aheadOf (s .acked) (s .«next_tsn») - 1
 
+-- nothing is left to send, and nothing to be acknowledged
 unfoldable pub isBare : Sending → Bool
 isBare s = isEmpty (s .places)
 
+-- whether anything is outstanding
 unfoldable pub hasOutstanding : Sending → Bool
 hasOutstanding s = tallied (s .acked) (s .places) .left
 
+-- the path with another flight
 abbrev pub withFlight : Path → ℕ → Path
 withFlight p n = record { control = p .control; clock = p .clock; flight = n; running = p .running; until = p .until; tries = p .tries }
 
--- the record with another path; with other places and their flight
+-- the record with another path
 abbrev pub withPath : Sending → Path → Sending
 withPath s p = record {
   acked = s .acked;
@@ -63,6 +67,7 @@ withPath s p = record {
   path = p;
 }
 
+-- what the path does at a measured round trip, at T1 and T2, and at a HEARTBEAT ACK
 unfoldable pub sampled : Sizes → Sending → ℕ → Sending
 sampled z s sample = withPath s (way.sampledBy z (s .path) sample)
 

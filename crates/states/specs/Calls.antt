@@ -137,6 +137,7 @@ tellStaleIn (ShutdownSent n) = false
 tellStaleIn ShutdownReceived = false
 tellStaleIn (ShutdownAckSent n) = false
 
+-- every call but a take: messages are "taken in any state"
 unfoldable pub permitted : Call → State → Bool
 permitted Associate s = associateIn s
 permitted HandIn s = handInIn s

@@ -6,7 +6,7 @@ use Rattle.scans.specs.Scan.{pick}
 use Rattle.states.specs.declared.state.State.{State}
 use Rattle.states.specs.declared.state.State.the-variants.{Closed, CookieWait, CookieEchoed, Established, ShutdownPending, ShutdownSent, ShutdownReceived, ShutdownAckSent}
 
--- T1 or T2 ran out
+-- T1 or T2 expires
 unfoldable pub triedAgain : State → State
 triedAgain Closed = Closed
 triedAgain (CookieWait n) = pick (ltb n 8) (CookieWait (n + 1)) Closed
@@ -17,6 +17,7 @@ triedAgain (ShutdownSent n) = pick (ltb n 10) (ShutdownSent (n + 1)) Closed
 triedAgain ShutdownReceived = ShutdownReceived
 triedAgain (ShutdownAckSent n) = pick (ltb n 10) (ShutdownAckSent (n + 1)) Closed
 
+-- the state is CLOSED
 abbrev pub isClosed : State → Bool
 isClosed Closed = true
 isClosed (CookieWait n) = false

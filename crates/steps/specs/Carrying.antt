@@ -37,6 +37,7 @@ use Rattle.steps.specs.Opening.{bytesOf}
 
 -- ---- DATA
 
+-- what the receiving side is told of a DATA
 unfoldable pub chunkOf : List ℕ → Chunk
 chunkOf s = record {
   begin = dataOf s .begin;
@@ -48,9 +49,11 @@ chunkOf s = record {
   ppid = dataOf s .ppid;
 }
 
+-- its payload: what follows the 16 bytes of its fields
 abbrev pub payloadOf : List ℕ → List ℕ
 payloadOf s = bytesOf (partFrom 16 s) s
 
+-- the chunk is held
 abbrev pub isKept : Verdict → Bool
 isKept Kept = true
 isKept Empty = false
@@ -60,6 +63,7 @@ isKept Wedged = false
 isKept Far = false
 isKept Stray = false
 
+-- the numbers 9 to 14 are those of the receiving side
 abbrev pub fateOf : Verdict → Fate
 fateOf Kept = Accepted
 fateOf Empty = Refused 9
@@ -84,6 +88,7 @@ unfoldable pub arrivalOf : Association → List ℕ → Arrival
 arrivalOf a s =
     arrived (ring (2 ^ 32)) rail (a .receiving) (asHeld (chunkOf s) (length (payloadOf s))) (a .ends .«streams_in»)
 
+-- what becomes of a DATA that the receiving side answers so
 unfoldable pub dataRead : Association → List ℕ → Arrival → Step
 dataRead a s o = record {
   association = withReceiving a (o .receiving);
@@ -95,6 +100,7 @@ dataRead a s o = record {
   reply = [];
 }
 
+-- in ESTABLISHED and SHUTDOWN-PENDING (section 6.2)
 unfoldable pub readData : Association → List ℕ → Step
 readData a s = dataRead a s (arrivalOf a s)
 
@@ -105,16 +111,18 @@ readLateData a s =
     (owing (withState (withReceiving a (arrivalOf a s .receiving)) (ShutdownSent 0)) NoEvent Shutdown)
     (dataRead a s (arrivalOf a s))
 
+-- what then stands in the lent area
 unfoldable pub areaData : Association → List ℕ → List ℕ → List ℕ
 areaData a area s =
     areaAfter (ring (2 ^ 32)) rail (a .receiving) (asHeld (chunkOf s) (length (payloadOf s))) (a .ends .«streams_in») area (payloadOf s)
 
 -- ---- SACK
 
--- the first 64 blocks, with the count that the chunk gives: more are never all valid
+-- the first 64 blocks, with the count that the chunk gives: of more one is always false (16)
 unfoldable pub blocksOf : List ℕ → Blocks
 blocksOf s = record { count = sackOf s .blocks; starts = blocksIn rail s .starts; ends = blocksIn rail s .ends }
 
+-- the sending side's answer to a SACK
 unfoldable pub heardSack : Association → List ℕ → Answer
 heardSack a s = sender.acknowledged railSizes (a .sending) (sender.sackOf (sackOf s .point) (sackOf s .window) (blocksOf s))
 
@@ -122,10 +130,12 @@ heardSack a s = sender.acknowledged railSizes (a .sending) (sender.sackOf (sackO
 abbrev pub sackCall : ℕ → Named
 sackCall n = pick (eqb n 16) AbortViolation NoCall
 
+-- 15 and 16 leave all
 abbrev pub sackRead : Association → Answer → Step
 sackRead a o =
     pick (eqb (o .number) 0) (accepted (withSending a (o .sending)) NoEvent []) (refused a (o .number) (sackCall (o .number)))
 
+-- in ESTABLISHED (section 6.2.1)
 unfoldable pub readSack : Association → List ℕ → Step
 readSack a s = sackRead a (heardSack a s)
 
@@ -149,9 +159,10 @@ readSackReceived a s =
 
 -- ---- HEARTBEAT
 
--- "the Heartbeat Information field … is echoed" (section 8.3)
+-- answered by a HEARTBEAT ACK that carries what it carried (section 8.3)
 unfoldable pub echoHeartbeat : Association → List ℕ → Step
 echoHeartbeat a s = accepted a NoEvent (framed 5 0 (bytesOf (partFrom 4 s) s))
 
+-- HEARTBEAT ACK ends the count of tries (sections 8.1 and 8.3)
 unfoldable pub clearTries : Association → Step
 clearTries a = accepted (withSending a (heard (a .sending))) NoEvent []

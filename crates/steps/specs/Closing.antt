@@ -19,7 +19,7 @@ use Rattle.steps.specs.declared.verdict.Owed.the-variants.{Complete, Ref
 use Rattle.steps.specs.Verdict.{Step, accepted, owing, refused, ending}
 use Rattle.steps.specs.Carrying.{sackCall, isLast}
 
--- ABORT (section 9.1): all but the state stays, and "the rest of the packet" is unread (section 3.3.7)
+-- ABORT (section 9.1): all but the state stays, and the chunks behind it are left unread (section 3.3.7)
 abbrev pub becomeClosed : Association → Step
 becomeClosed a = ending (accepted (withState a Closed) (Down Aborted) [])
 
@@ -27,6 +27,7 @@ becomeClosed a = ending (accepted (withState a Closed) (Down Aborted) [])
 unfoldable pub readError : Association → List ℕ → Step
 readError a s = pick (staleIn s) (accepted (withState a Closed) (Down StaleCookie) []) (accepted a NoEvent [])
 
+-- the sending side's answer to the point of a SHUTDOWN
 unfoldable pub heardShutdown : Association → List ℕ → Answer
 heardShutdown a s = shutdownPoint railSizes (a .sending) (pointOf s)
 

@@ -75,6 +75,7 @@ answerInit a l cookie s =
 abbrev pub kept : List ℕ → Cookie
 kept cookie = record { bytes = laid (replicate 256 0) 0 cookie; len = length cookie }
 
+-- the sending side with the window that the peer advertises
 abbrev pub withWindow : Sending → ℕ → Sending
 withWindow s w = record {
   acked = s .acked;
@@ -132,6 +133,7 @@ established a source m =
     (m .window)
     (m .«peer_tsn»)
 
+-- a good cookie is answered by COOKIE ACK; 27: "echoed cookie bad or stale"
 abbrev pub readEchoed : Association → ℕ → Echoed → Step
 readEchoed a source (Good m) = accepted (established a source m) Up (framed 11 0 [])
 readEchoed a source (Stale m) = ending (refused a 27 ErrorStale)

@@ -70,11 +70,14 @@ rowArea a area s BecomeComplete = area
 rowArea a area s (PassUnknown h) = area
 rowArea a area s (TellUnknown h) = area
 
+-- the row that the chunk at the head of s meets
 abbrev pub rowMet : Association → Beside → List ℕ → Row
 rowMet a b s = rowOf (kindOf (u8 s 0)) (b .first) (a .state)
 
+-- what becomes of the chunk
 unfoldable pub stepOf : ℕ → Association → Beside → List ℕ → List ℕ → Step
 stepOf room a b cookie s = rowStep room a b cookie s (rowMet a b s)
 
+-- what then stands in the lent area
 unfoldable pub areaOf : Association → Beside → List ℕ → List ℕ → List ℕ
 areaOf a b area s = rowArea a area s (rowMet a b s)

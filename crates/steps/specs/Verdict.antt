@@ -14,7 +14,7 @@ use Rattle.steps.specs.declared.verdict.Owed.{Owed}
 use Rattle.steps.specs.declared.verdict.Owed.the-variants.{Nothing}
 use Rattle.steps.specs.declared.verdict.Done.{Done}
 
--- the number of document 01 for a fate
+-- the number of 01 for a fate
 abbrev pub numberOf : Fate → ℕ
 numberOf Accepted = 0
 numberOf (Refused n) = n
@@ -55,7 +55,7 @@ doneWith n s = record {
   written = n;
 }
 
--- a step whose reply finds this space
+-- a step whose reply is to stand in this part of the output
 abbrev pub doneIn : List ℕ → Step → Done
 doneIn space s = doneWith (wroteCount space (s .reply)) s
 
@@ -83,6 +83,7 @@ ending s = record {
   reply = s .reply;
 }
 
+-- the same, of a step whose reply is written
 abbrev pub unreadBy : Done → Done
 unreadBy d = record {
   association = d .association;

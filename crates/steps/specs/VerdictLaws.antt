@@ -32,7 +32,7 @@ use Rattle.steps.specs.Carrying.{isKept, arrivalOf, dataRead, readData, 
 use Rattle.steps.specs.Closing.{readError}
 use Rattle.steps.specs.Unknown.{passUnknown}
 
--- nothing is written of it, and the space stays
+-- nothing is written of it, and the output stays
 pub quiet-done : (space : List ℕ) (s : Step) → s .reply ≡ [] → doneWith 0 s ≡ doneIn space s
 quiet-done space s e =
     ap (λ (n : ℕ). doneWith n s) (wrote-none space .count ∙ ap (λ (bs : List ℕ). wroteCount space bs) (sym e))

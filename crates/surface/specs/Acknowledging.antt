@@ -5,6 +5,7 @@ use Rattle.surface.specs.declared.stored.Stored.{Stored}
 use Rattle.surface.specs.declared.acknowledging.Acknowledged.{Acknowledged}
 use Rattle.surface.specs.Stored.{packed}
 
+-- with the record packed; and 1 where the record names no state
 abbrev pub packedAcknowledged : call.Acknowledged → Acknowledged
 packedAcknowledged r = record { number = r .number; length = r .length; sack = r .sack; association = packed (r .association) }
 

@@ -9,6 +9,7 @@ use Rattle.surface.specs.declared.stored.Stored.{Stored}
 use Rattle.surface.specs.declared.answer.Answer.{Answer}
 use Rattle.surface.specs.Stored.{named, packed}
 
+-- with the record packed
 abbrev pub packedAnswer : call.Answer → Answer
 packedAnswer r = record { number = r .number; length = r .length; over = r .over; association = packed (r .association) }
 

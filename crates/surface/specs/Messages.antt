@@ -7,12 +7,14 @@ use Rattle.surface.specs.declared.messages.HandedIn.{HandedIn}
 use Rattle.surface.specs.declared.messages.Delivered.{Delivered}
 use Rattle.surface.specs.Stored.{packed}
 
+-- handing in: with the record packed; and 1 where the record names no state
 abbrev pub packedHandedIn : handing.HandedIn → HandedIn
 packedHandedIn r = record { number = r .number; chunks = r .chunks; association = packed (r .association) }
 
 abbrev pub unnamedHandedIn : Stored → HandedIn
 unnamedHandedIn s = record { number = 1; chunks = 0; association = s }
 
+-- taking: with the record packed; and 1 where the record names no state
 abbrev pub packedDelivered : taking.Delivered → Delivered
 packedDelivered r = record { number = r .number; message = r .message; association = packed (r .association) }
 

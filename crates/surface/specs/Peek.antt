@@ -4,9 +4,11 @@ use Rattle.calls.specs.declared.peeking.Peeked as call
 use Rattle.calls.specs.declared.peeking.Peeked.the-variants.{Refused, Nothing, Init, Echo}
 use Rattle.surface.specs.declared.peeking.Peeked.{Peeked}
 
+-- nothing to see, or a packet refused with n
 abbrev pub unseen : ℕ → Peeked
 unseen n = record { number = n; kind = 0; source = 0; tag = 0; window = 0; outs = 0; ins = 0; tsn = record { 0 = 0 }; at = 0; len = 0 }
 
+-- 1 an INIT with its fields, 2 a COOKIE ECHO with the place of its cookie, 0 anything else
 abbrev pub packedPeek : call.Peeked → Peeked
 packedPeek (Refused n) = unseen n
 packedPeek Nothing = unseen 0

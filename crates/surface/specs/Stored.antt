@@ -36,6 +36,7 @@ stateOf k n =
     pick (eqb k 1) (CookieWait n) (pick (eqb k 2) (CookieEchoed n) (pick (eqb k 3) Established (pick (eqb k 4) ShutdownPending
     (pick (eqb k 5) (ShutdownSent n) (pick (eqb k 6) ShutdownReceived (pick (eqb k 7) (ShutdownAckSent n) Closed))))))
 
+-- the two numbers are those of a state
 unfoldable pub isNamed : ℕ → ℕ → Bool
 isNamed k n = pick (eqb (numberOf (stateOf k n)) k) (eqb (triesOf (stateOf k n)) n) false
 
@@ -43,6 +44,7 @@ isNamed k n = pick (eqb (numberOf (stateOf k n)) k) (eqb (triesOf (stateOf k n))
 abbrev pub named : {A : Type 0} → Stored → A → A → A
 named s x y = pick (isNamed (s .state) (s .tries)) x y
 
+-- the record that the rules are about, and that which the host keeps
 unfoldable pub unpacked : Stored → Association
 unpacked s = record { state = stateOf (s .state) (s .tries); ends = s .ends; cookie = s .cookie; receiving = s .receiving; sending = s .sending }
 

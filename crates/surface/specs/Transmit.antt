@@ -5,6 +5,7 @@ use Rattle.surface.specs.declared.stored.Stored.{Stored}
 use Rattle.surface.specs.declared.transmitting.Transmitted.{Transmitted}
 use Rattle.surface.specs.Stored.{packed}
 
+-- with the record packed; and 1 where the record names no state
 abbrev pub packedTransmitted : call.Transmitted → Transmitted
 packedTransmitted r = record {
   number = r .number;
