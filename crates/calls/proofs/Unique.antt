@@ -12,6 +12,7 @@ use Rattle.calls.proofs.answer.over.Reads as over-reads
 use Rattle.calls.proofs.closing.shutdown.Reads as shutdown-reads
 use Rattle.calls.proofs.closing.abort.Reads as abort-reads
 use Rattle.calls.proofs.messages.hand_in.Reads as hand-in-reads
+use Rattle.calls.proofs.acknowledging.no_sack.Reads as no-sack-reads
 use Rattle.calls.proofs.messages.with_receiving.Reads as with-receiving-reads
 use Rattle.calls.proofs.messages.take.Reads as take-reads
 use Rattle.calls.proofs.opening.associate.Reads as associate-reads
@@ -52,6 +53,9 @@ abort-unique κs a r q s t x y = done-one x y
 
 pub hand-in-unique : (κs : _) (a : _) (r q : _) (s t : _) → hand-in-reads.Post κs a r s → hand-in-reads.Post κs a q t → (r ≡ q) × (now (s .1 .0) ≡ now (t .1 .0))
 hand-in-unique κs a r q s t x y = (x .0 ∙ sym (y .0), x .1 ∙ sym (y .1))
+
+pub no-sack-unique : (κs : _) (a : _) (r q : _) (s t : _) → no-sack-reads.Post κs a r s → no-sack-reads.Post κs a q t → r ≡ q
+no-sack-unique κs a r q s t x y = x ∙ sym y
 
 pub with-receiving-unique : (κs : _) (a : _) (r q : _) (s t : _) → with-receiving-reads.Post κs a r s → with-receiving-reads.Post κs a q t → r ≡ q
 with-receiving-unique κs a r q s t x y = x ∙ sym y
