@@ -18,6 +18,7 @@ pub fn heeded(mut e: Echoed) -> Echoed {
 fn is_let_in(a: &Association, packet: &[u8], e: &Echoed) -> bool {
     let h = read::header(packet);
     let (kind, t) = (packet[12], packet[13] & 1 == 1);
+    // Section 3.1 forbids port 0: a record keeps the port that it was given, and every packet to port 0 is 4.
     if h.destination != a.ends.local_port || h.destination == 0 {
         return false;
     }
