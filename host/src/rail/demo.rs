@@ -251,3 +251,54 @@ fn yes_or_no(flag: bool) -> &'static str {
         "no"
     }
 }
+
+#[cfg(test)]
+mod tests {
+    use super::*;
+    use crate::relay::Weather;
+    use crate::tiles::tile;
+
+    const MESSAGES: u64 = 65_600;
+
+    fn demo() -> Demo {
+        Demo { messages: MESSAGES, seed: 3, weather: Weather::FAIR, pcap: None }
+    }
+
+    fn field() -> FieldOutcome {
+        let mut counts = Counts::default();
+        counts.messages_in += Plan::total(MESSAGES);
+        FieldOutcome { result: Ok(()), counts, last_tsn: 80_000, has_closed_tsn_circle: true }
+    }
+
+    fn album(tiles: u64) -> Album {
+        let mut album = Album::default();
+        for (band, index) in Plan::of(MESSAGES).take(tiles as usize) {
+            assert_eq!(album.add(band, index as u16, &tile(3, band, index)), Ok(()));
+        }
+        album
+    }
+
+    fn head(album: &Album) -> HeadOutcome {
+        HeadOutcome { result: Ok(()), counts: Counts::default(), album: album.clone(), differences: Vec::new() }
+    }
+
+    fn faults(field: FieldOutcome, head: HeadOutcome) -> Vec<String> {
+        judge(&demo(), field, head, Mishaps::default(), Duration::from_secs(1)).faults
+    }
+
+    #[test]
+    fn a_run_is_good_only_where_nothing_differs() {
+        let all = album(Plan::total(MESSAGES));
+        assert_eq!(faults(field(), head(&all)), [] as [String; 0]);
+        let one_less = album(Plan::total(MESSAGES) - 1);
+        assert_eq!(faults(field(), head(&one_less)), ["73,799 of 73,800 tiles came as they were handed in"]);
+        let differs = HeadOutcome { differences: vec![Difference::Band(9)], ..head(&all) };
+        assert_eq!(faults(field(), differs), ["stream 9 is no band"]);
+        let broken = FieldOutcome { result: Err(Failure("gone".to_string())), ..field() };
+        assert_eq!(faults(broken, head(&all)), ["gone"]);
+        let stuck = FieldOutcome { has_closed_tsn_circle: false, ..field() };
+        assert_eq!(faults(stuck, head(&all)), ["the TSNs did not go round their circle"]);
+        let few = album(1000);
+        assert!(faults(field(), head(&few)).contains(&"the first band's SSNs did not go round their circle".to_string()));
+    }
+}
