@@ -18,11 +18,7 @@ pub struct DelayedSack {
 
 impl Default for DelayedSack {
     fn default() -> DelayedSack {
-        DelayedSack {
-            packets: 0,
-            due: None,
-            offered: AREA as u32,
-        }
+        DelayedSack { packets: 0, due: None, offered: AREA as u32 }
     }
 }
 

@@ -25,14 +25,9 @@ pub fn peek<L: Library>(packet: &[u8]) -> Peeked {
         return Peeked::Refused(Refusal(seen.number));
     }
     match seen.kind {
-        ffi::SAW_INIT => Peeked::Init(Init {
-            source: seen.source,
-            tag: seen.tag,
-            window: seen.window,
-            outs: seen.outs,
-            ins: seen.ins,
-            tsn: seen.tsn,
-        }),
+        ffi::SAW_INIT => {
+            Peeked::Init(Init { source: seen.source, tag: seen.tag, window: seen.window, outs: seen.outs, ins: seen.ins, tsn: seen.tsn })
+        }
         ffi::SAW_COOKIE_ECHO => Peeked::Echo { at: seen.at, len: seen.len },
         _ => Peeked::Nothing,
     }
@@ -45,12 +40,7 @@ impl<L: Library> Association<L> {
 
     /// An association from a record of any origin: the core tests it at each call.
     pub fn from_record(record: ffi::Record) -> Association<L> {
-        Association {
-            record,
-            received: vec![0; AREA].into_boxed_slice(),
-            to_send: vec![0; AREA].into_boxed_slice(),
-            library: PhantomData,
-        }
+        Association { record, received: vec![0; AREA].into_boxed_slice(), to_send: vec![0; AREA].into_boxed_slice(), library: PhantomData }
     }
 
     pub fn record(&self) -> &ffi::Record {
@@ -74,21 +64,11 @@ impl<L: Library> Association<L> {
     }
 
     pub fn arrive(&mut self, packet: &[u8], lent: &Lent, echoed: Echoed, out: &mut [u8]) -> Answer<Arrived> {
-        let values = ffi::Lent {
-            tag: lent.tag,
-            tsn: lent.tsn,
-            streams: lent.streams,
-        };
+        let values = ffi::Lent { tag: lent.tag, tsn: lent.tsn, streams: lent.streams };
         let answer = L::arrive(self.record, &mut self.received, packet, values, &lent.cookie, echoed_for_c(echoed), out);
         self.record = answer.association;
         let verdicts = answer.verdicts.iter().take(answer.count).map(verdict_of).collect();
-        answered(
-            answer.number,
-            Arrived {
-                verdicts,
-                reply: answer.length,
-            },
-        )
+        answered(answer.number, Arrived { verdicts, reply: answer.length })
     }
 
     pub fn associate(&mut self, tag: u32, tsn: u32, port: u16, streams: u16, out: &mut [u8]) -> Answer<usize> {
@@ -105,15 +85,7 @@ impl<L: Library> Association<L> {
     pub fn transmit(&mut self, out: &mut [u8]) -> Answer<Transmitted> {
         let answer = L::transmit(self.record, &self.to_send, out);
         self.record = answer.association;
-        answered(
-            answer.number,
-            Transmitted {
-                length: answer.length,
-                resent: answer.resent,
-                first: answer.first,
-                last: answer.last,
-            },
-        )
+        answered(answer.number, Transmitted { length: answer.length, resent: answer.resent, first: answer.first, last: answer.last })
     }
 
     /// The buffer may have any length.
@@ -122,13 +94,7 @@ impl<L: Library> Association<L> {
         self.record = answer.association;
         let message = answer.message;
         match answer.number {
-            0 => Ok(Taken {
-                length: message.length,
-                stream: message.stream,
-                unordered: message.unordered,
-                ssn: message.ssn,
-                ppid: message.ppid,
-            }),
+            0 => Ok(Taken { length: message.length, stream: message.stream, unordered: message.unordered, ssn: message.ssn, ppid: message.ppid }),
             ffi::SHORT => Err(NotTaken::Short(message.length)),
             number => Err(NotTaken::Refused(Refusal(number))),
         }
@@ -137,13 +103,7 @@ impl<L: Library> Association<L> {
     pub fn sack(&mut self, out: &mut [u8]) -> Answer<Acknowledged> {
         let answer = L::sack(self.record, out);
         self.record = answer.association;
-        answered(
-            answer.number,
-            Acknowledged {
-                length: answer.length,
-                window: answer.sack.window,
-            },
-        )
+        answered(answer.number, Acknowledged { length: answer.length, window: answer.sack.window })
     }
 
     pub fn t1(&mut self, out: &mut [u8]) -> Answer<Expired> {

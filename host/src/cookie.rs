@@ -28,11 +28,7 @@ pub struct CookieJar {
 
 impl CookieJar {
     pub fn new(key: [u8; DIGEST], now: Instant) -> CookieJar {
-        CookieJar {
-            key,
-            opened: now,
-            used: Vec::new(),
-        }
+        CookieJar { key, opened: now, used: Vec::new() }
     }
 
     pub fn bake(&self, made: Made, from: SocketAddr, port: u16, now: Instant) -> Vec<u8> {
@@ -141,15 +137,8 @@ impl Fields<'_> {
 mod tests {
     use super::*;
 
-    const MADE: Made = Made {
-        my_tag: 0x0102_0304,
-        peer_tag: 0xfffe_fdfc,
-        streams_in: 8,
-        streams_out: 127,
-        my_tsn: 4_294_967_196,
-        peer_tsn: 7,
-        window: 65_536,
-    };
+    const MADE: Made =
+        Made { my_tag: 0x0102_0304, peer_tag: 0xfffe_fdfc, streams_in: 8, streams_out: 127, my_tsn: 4_294_967_196, peer_tsn: 7, window: 65_536 };
 
     fn peer() -> SocketAddr {
         SocketAddr::from(([192, 0, 2, 7], 9899))
@@ -217,14 +206,7 @@ mod tests {
 
     #[test]
     fn streams_are_agreed_by_the_smaller_number() {
-        let init = Init {
-            source: 5001,
-            tag: 3,
-            window: 2000,
-            outs: 300,
-            ins: 10,
-            tsn: 4,
-        };
+        let init = Init { source: 5001, tag: 3, window: 2000, outs: 300, ins: 10, tsn: 4 };
         let made = agreed(&init, 1, 2, 200);
         assert_eq!((made.streams_in, made.streams_out), (128, 10));
         let wide = agreed(&Init { ins: 500, ..init }, 1, 2, 200);

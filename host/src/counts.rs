@@ -27,10 +27,7 @@ impl Counts {
 
     /// How often each number was answered, of those that were.
     pub fn refusals(&self) -> impl Iterator<Item = (Refusal, u64)> + '_ {
-        (0u8..)
-            .zip(self.refused)
-            .filter(|(_, count)| *count > 0)
-            .map(|(number, count)| (Refusal(number), count))
+        (0u8..).zip(self.refused).filter(|(_, count)| *count > 0).map(|(number, count)| (Refusal(number), count))
     }
 }
 

@@ -38,12 +38,7 @@ pub struct Config {
 
 impl Config {
     pub fn at_port(port: u16) -> Config {
-        Config {
-            port,
-            streams: 8,
-            first_tsn: None,
-            heartbeat: heartbeat::INTERVAL,
-        }
+        Config { port, streams: 8, first_tsn: None, heartbeat: heartbeat::INTERVAL }
     }
 }
 
@@ -115,11 +110,7 @@ struct Prepared {
 
 impl Prepared {
     fn nothing() -> Prepared {
-        Prepared {
-            lent: Lent::default(),
-            echoed: Echoed::Bad,
-            stale: None,
-        }
+        Prepared { lent: Lent::default(), echoed: Echoed::Bad, stale: None }
     }
 }
 
@@ -291,11 +282,7 @@ impl<L: Library> Endpoint<L> {
 
     /// When `expire` and `flush` are to be called next.
     pub fn next_moment(&self) -> Option<Instant> {
-        [self.timers.next(), self.sack.next(), self.heartbeat.next()]
-            .iter()
-            .flatten()
-            .min()
-            .copied()
+        [self.timers.next(), self.sack.next(), self.heartbeat.next()].iter().flatten().min().copied()
     }
 
     fn first_tsn(&mut self) -> u32 {
@@ -366,15 +353,8 @@ impl<L: Library> Endpoint<L> {
         let cookie = packet.get(at..at + len).unwrap_or_default();
         match self.jar.judge(cookie, from, port, now) {
             Judgement::Bad => Prepared::nothing(),
-            Judgement::Good(made) => Prepared {
-                echoed: Echoed::Good(made),
-                ..Prepared::nothing()
-            },
-            Judgement::Stale(made, late) => Prepared {
-                echoed: Echoed::Stale(made),
-                stale: Some((port, made.peer_tag, late)),
-                ..Prepared::nothing()
-            },
+            Judgement::Good(made) => Prepared { echoed: Echoed::Good(made), ..Prepared::nothing() },
+            Judgement::Stale(made, late) => Prepared { echoed: Echoed::Stale(made), stale: Some((port, made.peer_tag, late)), ..Prepared::nothing() },
         }
     }
 
@@ -428,11 +408,7 @@ impl<L: Library> Endpoint<L> {
     fn note_data(&mut self, packet: &[u8], verdicts: &[Verdict], now: Instant) {
         let of_data = |verdict: &&Verdict| packet.get(verdict.at) == Some(&DATA);
         let has_come = |fate: Fate| fate == Fate::Accepted || fate == Fate::Refused(Refusal::STRAY);
-        let asks_at_once = |fate: Fate| {
-            [Refusal::DUPLICATE, Refusal::WEDGED, Refusal::FAR]
-                .iter()
-                .any(|refusal| fate == Fate::Refused(*refusal))
-        };
+        let asks_at_once = |fate: Fate| [Refusal::DUPLICATE, Refusal::WEDGED, Refusal::FAR].iter().any(|refusal| fate == Fate::Refused(*refusal));
         let new = verdicts.iter().filter(of_data).any(|verdict| has_come(verdict.fate));
         let again = verdicts.iter().filter(of_data).any(|verdict| asks_at_once(verdict.fate));
         if !new && !again {

@@ -18,12 +18,7 @@ pub struct Heartbeat {
 
 impl Heartbeat {
     pub fn every(interval: Duration) -> Heartbeat {
-        Heartbeat {
-            interval,
-            due: None,
-            awaited: None,
-            unanswered: 0,
-        }
+        Heartbeat { interval, due: None, awaited: None, unanswered: 0 }
     }
 
     /// Runs where heartbeats can be sent, and starts where it did not run.
@@ -82,16 +77,7 @@ mod tests {
     use crate::calls::State;
 
     fn standing(state: State) -> Standing {
-        Standing {
-            state,
-            rto: Duration::from_secs(1),
-            my_tag: 1,
-            streams_out: 8,
-            acked: 0,
-            next_tsn: 1,
-            has_gap: false,
-            window: 65_536,
-        }
+        Standing { state, rto: Duration::from_secs(1), my_tag: 1, streams_out: 8, acked: 0, next_tsn: 1, has_gap: false, window: 65_536 }
     }
 
     #[test]

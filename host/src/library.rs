@@ -69,18 +69,7 @@ mod proved {
         }
 
         fn hand_in(record: Record, area: &mut [u8], message: &[u8], stream: u16, unordered: bool, ppid: u32) -> HandedIn {
-            unsafe {
-                ffi::ow_hand_in(
-                    record,
-                    area.as_mut_ptr(),
-                    area.len(),
-                    message.as_ptr(),
-                    message.len(),
-                    stream,
-                    unordered,
-                    ppid,
-                )
-            }
+            unsafe { ffi::ow_hand_in(record, area.as_mut_ptr(), area.len(), message.as_ptr(), message.len(), stream, unordered, ppid) }
         }
 
         fn transmit(record: Record, area: &[u8], out: &mut [u8]) -> Transmitted {

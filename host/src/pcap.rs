@@ -117,9 +117,7 @@ fn ipv6_header(from: Ipv6Addr, to: Ipv6Addr, datagram: u16) -> Vec<u8> {
 /// RFC 1071, over parts of which all but the last have an even length.
 fn internet_checksum(parts: &[&[u8]]) -> u16 {
     let words = parts.iter().flat_map(|part| part.chunks(2));
-    let mut sum: u32 = words
-        .map(|pair| u32::from(pair[0]) << 8 | pair.get(1).map_or(0, |low| u32::from(*low)))
-        .sum();
+    let mut sum: u32 = words.map(|pair| u32::from(pair[0]) << 8 | pair.get(1).map_or(0, |low| u32::from(*low))).sum();
     while sum > 0xffff {
         sum = (sum & 0xffff) + (sum >> 16);
     }
@@ -140,28 +138,17 @@ pub struct Tap {
 impl Tap {
     /// Writes down what this end sends.
     pub fn new(capture: Capture, here: SocketAddr) -> Tap {
-        Tap {
-            capture,
-            here,
-            shown_peer: None,
-            writes_received: false,
-        }
+        Tap { capture, here, shown_peer: None, writes_received: false }
     }
 
     /// Shows this address as the peer's, where a relay stands between.
     pub fn shows_peer_at(self, peer: SocketAddr) -> Tap {
-        Tap {
-            shown_peer: Some(peer),
-            ..self
-        }
+        Tap { shown_peer: Some(peer), ..self }
     }
 
     /// Writes down what comes too, where no other end's tap does.
     pub fn writes_received(self) -> Tap {
-        Tap {
-            writes_received: true,
-            ..self
-        }
+        Tap { writes_received: true, ..self }
     }
 
     pub fn sent(&self, to: SocketAddr, packet: &[u8]) {
@@ -188,12 +175,7 @@ mod tests {
 
     fn written(from: &str, to: &str, sctp: &[u8]) -> Vec<u8> {
         let mut pcap = Pcap::new(Vec::new()).unwrap();
-        pcap.packet(
-            Duration::new(1_600_000_000, 123_456_789),
-            from.parse().unwrap(),
-            to.parse().unwrap(),
-            sctp,
-        );
+        pcap.packet(Duration::new(1_600_000_000, 123_456_789), from.parse().unwrap(), to.parse().unwrap(), sctp);
         pcap.close().unwrap();
         pcap.file
     }

@@ -19,13 +19,7 @@ pub struct Weather {
 }
 
 impl Weather {
-    pub const FAIR: Weather = Weather {
-        delay: Duration::ZERO,
-        loss: 0.0,
-        repeat: 0.0,
-        reorder: 0.0,
-        damage: 0.0,
-    };
+    pub const FAIR: Weather = Weather { delay: Duration::ZERO, loss: 0.0, repeat: 0.0, reorder: 0.0, damage: 0.0 };
 }
 
 #[derive(Clone, Copy, Debug, Default, PartialEq, Eq)]
@@ -89,13 +83,7 @@ pub struct Channel {
 
 impl Channel {
     pub fn new(weather: Weather, seed: u64) -> Channel {
-        Channel {
-            weather,
-            chance: Seeded::new(seed),
-            waiting: BinaryHeap::new(),
-            turn: 0,
-            mishaps: Mishaps::default(),
-        }
+        Channel { weather, chance: Seeded::new(seed), waiting: BinaryHeap::new(), turn: 0, mishaps: Mishaps::default() }
     }
 
     pub fn mishaps(&self) -> Mishaps {
@@ -142,11 +130,7 @@ impl Channel {
             self.mishaps.reordered += 1;
         }
         self.turn += 1;
-        self.waiting.push(Reverse(Delayed {
-            due,
-            turn: self.turn,
-            packet,
-        }));
+        self.waiting.push(Reverse(Delayed { due, turn: self.turn, packet }));
     }
 }
 
@@ -158,10 +142,7 @@ pub struct Relay {
 
 impl Relay {
     pub fn between(first: SocketAddr, second: SocketAddr, at: IpAddr) -> io::Result<Relay> {
-        Ok(Relay {
-            ends: [first, second],
-            sides: [UdpSocket::bind((at, 0))?, UdpSocket::bind((at, 0))?],
-        })
+        Ok(Relay { ends: [first, second], sides: [UdpSocket::bind((at, 0))?, UdpSocket::bind((at, 0))?] })
     }
 
     /// Where the first end sends to.
@@ -213,13 +194,7 @@ fn carry(from: &UdpSocket, by: &UdpSocket, to: SocketAddr, mut channel: Channel,
 mod tests {
     use super::*;
 
-    const STORM: Weather = Weather {
-        delay: Duration::ZERO,
-        loss: 0.1,
-        repeat: 0.1,
-        reorder: 0.2,
-        damage: 0.05,
-    };
+    const STORM: Weather = Weather { delay: Duration::ZERO, loss: 0.1, repeat: 0.1, reorder: 0.2, damage: 0.05 };
 
     /// What comes out of a channel when numbered packets enter, a millisecond apart.
     fn pass(weather: Weather, seed: u64, packets: u32) -> (Vec<Vec<u8>>, Mishaps) {
@@ -242,13 +217,7 @@ mod tests {
         let (out, mishaps) = pass(Weather::FAIR, 1, 1000);
         let sent: Vec<_> = (0u32..1000).map(|n| n.to_be_bytes().to_vec()).collect();
         assert_eq!(out, sent);
-        assert_eq!(
-            mishaps,
-            Mishaps {
-                passed: 1000,
-                ..Mishaps::default()
-            }
-        );
+        assert_eq!(mishaps, Mishaps { passed: 1000, ..Mishaps::default() });
     }
 
     #[test]
@@ -270,10 +239,7 @@ mod tests {
 
     #[test]
     fn reordering_alone_loses_nothing() {
-        let weather = Weather {
-            reorder: 0.3,
-            ..Weather::FAIR
-        };
+        let weather = Weather { reorder: 0.3, ..Weather::FAIR };
         let (mut out, _) = pass(weather, 3, 2000);
         let sent: Vec<_> = (0u32..2000).map(|n| n.to_be_bytes().to_vec()).collect();
         assert_ne!(out, sent);
@@ -283,10 +249,7 @@ mod tests {
 
     #[test]
     fn every_packet_takes_its_time() {
-        let weather = Weather {
-            delay: Duration::from_millis(30),
-            ..Weather::FAIR
-        };
+        let weather = Weather { delay: Duration::from_millis(30), ..Weather::FAIR };
         let now = Instant::now();
         let mut channel = Channel::new(weather, 1);
         channel.enter(b"late", now);

@@ -47,12 +47,7 @@ mod tests {
     use super::*;
 
     fn packet(first: u32, last: u32, resent: bool) -> Transmitted {
-        Transmitted {
-            length: 100,
-            resent,
-            first,
-            last,
-        }
+        Transmitted { length: 100, resent, first, last }
     }
 
     #[test]

@@ -23,14 +23,7 @@ pub struct Line<L> {
 
 impl<L: Library> Line<L> {
     pub fn new(endpoint: Endpoint<L>, socket: UdpSocket, tap: Option<Tap>) -> Line<L> {
-        Line {
-            endpoint,
-            socket,
-            tap,
-            trouble: None,
-            patience: None,
-            buffer: [0; BUFFER],
-        }
+        Line { endpoint, socket, tap, trouble: None, patience: None, buffer: [0; BUFFER] }
     }
 
     pub fn address(&self) -> io::Result<SocketAddr> {
@@ -96,10 +89,7 @@ fn rounded_up(wait: Duration) -> Duration {
 
 /// What the protocol treats as no packet that came.
 fn is_like_silence(e: &io::Error) -> bool {
-    matches!(
-        e.kind(),
-        ErrorKind::WouldBlock | ErrorKind::TimedOut | ErrorKind::Interrupted | ErrorKind::ConnectionRefused
-    )
+    matches!(e.kind(), ErrorKind::WouldBlock | ErrorKind::TimedOut | ErrorKind::Interrupted | ErrorKind::ConnectionRefused)
 }
 
 #[cfg(test)]

@@ -138,15 +138,8 @@ fn complaints(compiler: &str, language: &str, assertion: &str, claims: &str) -> 
         .stderr(Stdio::piped())
         .spawn()
         .unwrap_or_else(|e| panic!("cannot run {}: {}", compiler, e));
-    let source = format!(
-        "#include <oilwhisper.h>\n#define CLAIM(c) {}((c), #c)\n{}int main(void) {{ return 0; }}\n",
-        assertion, claims
-    );
-    run.stdin
-        .take()
-        .expect("it was piped")
-        .write_all(source.as_bytes())
-        .expect("the compiler reads its source");
+    let source = format!("#include <oilwhisper.h>\n#define CLAIM(c) {}((c), #c)\n{}int main(void) {{ return 0; }}\n", assertion, claims);
+    run.stdin.take().expect("it was piped").write_all(source.as_bytes()).expect("the compiler reads its source");
     let ended = run.wait_with_output().expect("the compiler ends");
     let said = String::from_utf8_lossy(&ended.stderr).into_owned();
     assert_eq!(ended.status.success(), said.is_empty(), "{}", said);

@@ -79,13 +79,7 @@ fn a_port_in_use_is_named() {
     let taken = UdpSocket::bind("127.0.0.1:0").expect("there is a free port");
     let address = taken.local_addr().expect("it has an address");
     let head = complaint(&format!("head {}", address));
-    assert_eq!(
-        head,
-        format!(
-            "cannot use {}: the port is in use; stop the program that has it, or choose another port",
-            address
-        )
-    );
+    assert_eq!(head, format!("cannot use {}: the port is in use; stop the program that has it, or choose another port", address));
     let field = complaint(&format!("field 127.0.0.1:9 --bind {}", address));
     assert_eq!(field, head);
 }

@@ -103,11 +103,7 @@ fn demo(mut options: Options) -> Result<Demo, Failure> {
 }
 
 fn head(mut options: Options) -> Result<Head, Failure> {
-    let head = Head {
-        address: listening_address(&options.address()?)?,
-        port: options.port("--port", HEAD_PORT)?,
-        pcap: options.path("--pcap"),
-    };
+    let head = Head { address: listening_address(&options.address()?)?, port: options.port("--port", HEAD_PORT)?, pcap: options.path("--pcap") };
     options.end().map(|()| head)
 }
 
@@ -125,12 +121,7 @@ fn field(mut options: Options) -> Result<Field, Failure> {
 }
 
 fn address(text: &str) -> Result<SocketAddr, Failure> {
-    let wrong = |why: String| {
-        Failure(format!(
-            "'{}' is no address ({}): write HOST:PORT, as in 192.0.2.7:{}",
-            text, why, ENCAPSULATION
-        ))
-    };
+    let wrong = |why: String| Failure(format!("'{}' is no address ({}): write HOST:PORT, as in 192.0.2.7:{}", text, why, ENCAPSULATION));
     let mut found = text.to_socket_addrs().map_err(|e| wrong(e.to_string()))?;
     match found.next() {
         Some(address) if address.port() == 0 => Err(wrong("port 0 is none to send to".to_string())),
@@ -154,10 +145,7 @@ struct Options {
 
 impl Options {
     fn of(words: &[String], plain_most: usize) -> Result<Options, Failure> {
-        let mut options = Options {
-            plain: Vec::new(),
-            pairs: Vec::new(),
-        };
+        let mut options = Options { plain: Vec::new(), pairs: Vec::new() };
         let mut words = words.iter();
         while let Some(word) = words.next() {
             if !word.starts_with("--") {
@@ -177,9 +165,7 @@ impl Options {
     }
 
     fn address(&mut self) -> Result<String, Failure> {
-        self.plain
-            .pop()
-            .ok_or_else(|| Failure(format!("an ADDRESS is missing, as in 192.0.2.7:{}", ENCAPSULATION)))
+        self.plain.pop().ok_or_else(|| Failure(format!("an ADDRESS is missing, as in 192.0.2.7:{}", ENCAPSULATION)))
     }
 
     fn text(&mut self, name: &str) -> Option<String> {

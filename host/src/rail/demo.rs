@@ -143,11 +143,7 @@ fn line<L: Library>(socket: UdpSocket, config: Config, tap: Option<Tap>) -> Resu
 }
 
 fn run_field<L: Library>(demo: &Demo, socket: UdpSocket, to_head: SocketAddr, tap: Option<Tap>, shared: &Shared) -> Result<FieldOutcome, Failure> {
-    let config = Config {
-        streams: BANDS,
-        first_tsn: Some(FIRST_TSN),
-        ..Config::at_port(FIELD_PORT)
-    };
+    let config = Config { streams: BANDS, first_tsn: Some(FIRST_TSN), ..Config::at_port(FIELD_PORT) };
     let mut field = Field::start(line::<L>(socket, config, tap)?, to_head, HEAD_PORT, Plan::of(demo.messages), demo.seed)?;
     let mut result = Ok(());
     // It stays until the head is through, which may need its last word again.
@@ -156,9 +152,7 @@ fn run_field<L: Library>(demo: &Demo, socket: UdpSocket, to_head: SocketAddr, ta
         let counts = field.line.endpoint.counts();
         shared.handed_in.store(counts.messages_in, Ordering::Relaxed);
         shared.resent.store(counts.resent, Ordering::Relaxed);
-        shared
-            .field_ended
-            .store(field.stage() == Stage::Closed || result.is_err(), Ordering::Relaxed);
+        shared.field_ended.store(field.stage() == Stage::Closed || result.is_err(), Ordering::Relaxed);
     }
     if result.is_ok() && field.stage() != Stage::Closed {
         result = Err(Failure("the field computer was stopped before it had shut down".to_string()));
@@ -172,10 +166,7 @@ fn run_field<L: Library>(demo: &Demo, socket: UdpSocket, to_head: SocketAddr, ta
 }
 
 fn run_head<L: Library>(socket: UdpSocket, tap: Option<Tap>, shared: &Shared) -> Result<HeadOutcome, Failure> {
-    let config = Config {
-        streams: BANDS,
-        ..Config::at_port(HEAD_PORT)
-    };
+    let config = Config { streams: BANDS, ..Config::at_port(HEAD_PORT) };
     let mut head = Head::new(line::<L>(socket, config, tap)?);
     let mut result = Ok(());
     while result.is_ok() && head.stage() != Stage::Closed && !shared.stop.load(Ordering::Relaxed) {
@@ -186,12 +177,7 @@ fn run_head<L: Library>(socket: UdpSocket, tap: Option<Tap>, shared: &Shared) ->
     if result.is_ok() && head.stage() != Stage::Closed {
         result = Err(Failure("the head was stopped before it had shut down".to_string()));
     }
-    Ok(HeadOutcome {
-        result,
-        counts: *head.line.endpoint.counts(),
-        album: head.album().clone(),
-        differences: head.differences().to_vec(),
-    })
+    Ok(HeadOutcome { result, counts: *head.line.endpoint.counts(), album: head.album().clone(), differences: head.differences().to_vec() })
 }
 
 /// Prints progress until both ends are through, or stops them where nothing moves.
@@ -213,14 +199,7 @@ fn watch(demo: &Demo, shared: &Shared, progress: &mut dyn Write) {
             told = Instant::now();
             let handed_in = grouped(shared.handed_in.load(Ordering::Relaxed));
             let resent = grouped(shared.resent.load(Ordering::Relaxed));
-            let _ = writeln!(
-                progress,
-                "  {} of {} tiles handed in, {} compared, {} packets resent",
-                handed_in,
-                total,
-                grouped(compared),
-                resent
-            );
+            let _ = writeln!(progress, "  {} of {} tiles handed in, {} compared, {} packets resent", handed_in, total, grouped(compared), resent);
         }
     }
 }
@@ -229,18 +208,10 @@ fn judge(demo: &Demo, field: FieldOutcome, head: HeadOutcome, mishaps: Mishaps, 
     let total = Plan::total(demo.messages);
     let tiles = head.album.tiles();
     let ssn_circle_closed = head.album.sequence_wraps() > 0;
-    let mut faults: Vec<String> = [&field.result, &head.result]
-        .iter()
-        .filter_map(|result| result.as_ref().err())
-        .map(Failure::to_string)
-        .collect();
+    let mut faults: Vec<String> = [&field.result, &head.result].iter().filter_map(|result| result.as_ref().err()).map(Failure::to_string).collect();
     faults.extend(head.differences.iter().map(Difference::to_string));
     if field.counts.messages_in != total {
-        faults.push(format!(
-            "{} of {} tiles were handed in",
-            grouped(field.counts.messages_in),
-            grouped(total)
-        ));
+        faults.push(format!("{} of {} tiles were handed in", grouped(field.counts.messages_in), grouped(total)));
     }
     if tiles != total {
         faults.push(format!("{} of {} tiles came as they were handed in", grouped(tiles), grouped(total)));
@@ -256,15 +227,9 @@ fn judge(demo: &Demo, field: FieldOutcome, head: HeadOutcome, mishaps: Mishaps, 
     table.count("tiles taken", head.counts.messages_out);
     table.count("tiles compared byte by byte, equal and in order", tiles);
     table.count("bytes compared", head.album.bytes());
-    table.row(
-        "tiles of each band",
-        head.album.tiles_by_band().map(|count| grouped(u64::from(count))).join("  "),
-    );
+    table.row("tiles of each band", head.album.tiles_by_band().map(|count| grouped(u64::from(count))).join("  "));
     let tsns = format!("{} to {}", grouped(u64::from(FIRST_TSN)), grouped(u64::from(field.last_tsn)));
-    table.row(
-        "TSN circle of 2^32 closed",
-        format!("{} ({})", yes_or_no(field.has_closed_tsn_circle), tsns),
-    );
+    table.row("TSN circle of 2^32 closed", format!("{} ({})", yes_or_no(field.has_closed_tsn_circle), tsns));
     let ssns = format!("{} tiles on band 0", grouped(u64::from(head.album.tiles_by_band()[0])));
     table.row("SSN circle of 2^16 closed", format!("{} ({})", yes_or_no(ssn_circle_closed), ssns));
     table.count("packets that passed the bad stretch", mishaps.passed);
@@ -275,14 +240,7 @@ fn judge(demo: &Demo, field: FieldOutcome, head: HeadOutcome, mishaps: Mishaps, 
     table.end("field", &field.counts);
     table.end("head", &head.counts);
     table.row("time", format!("{:.1} s", took.as_secs_f64()));
-    table.row(
-        "throughput",
-        format!(
-            "{} tiles/s, {} bytes/s",
-            grouped(per_second(tiles, took)),
-            grouped(per_second(head.album.bytes(), took))
-        ),
-    );
+    table.row("throughput", format!("{} tiles/s, {} bytes/s", grouped(per_second(tiles, took)), grouped(per_second(head.album.bytes(), took))));
     Outcome { table: table.text(), faults }
 }
 
@@ -291,5 +249,56 @@ fn yes_or_no(flag: bool) -> &'static str {
         "yes"
     } else {
         "no"
+    }
+}
+
+#[cfg(test)]
+mod tests {
+    use super::*;
+    use crate::relay::Weather;
+    use crate::tiles::tile;
+
+    const MESSAGES: u64 = 65_600;
+
+    fn demo() -> Demo {
+        Demo { messages: MESSAGES, seed: 3, weather: Weather::FAIR, pcap: None }
+    }
+
+    fn field() -> FieldOutcome {
+        let mut counts = Counts::default();
+        counts.messages_in += Plan::total(MESSAGES);
+        FieldOutcome { result: Ok(()), counts, last_tsn: 80_000, has_closed_tsn_circle: true }
+    }
+
+    fn album(tiles: u64) -> Album {
+        let mut album = Album::default();
+        for (band, index) in Plan::of(MESSAGES).take(tiles as usize) {
+            assert_eq!(album.add(band, index as u16, &tile(3, band, index)), Ok(()));
+        }
+        album
+    }
+
+    fn head(album: &Album) -> HeadOutcome {
+        HeadOutcome { result: Ok(()), counts: Counts::default(), album: album.clone(), differences: Vec::new() }
+    }
+
+    fn faults(field: FieldOutcome, head: HeadOutcome) -> Vec<String> {
+        judge(&demo(), field, head, Mishaps::default(), Duration::from_secs(1)).faults
+    }
+
+    #[test]
+    fn a_run_is_good_only_where_nothing_differs() {
+        let all = album(Plan::total(MESSAGES));
+        assert_eq!(faults(field(), head(&all)), [] as [String; 0]);
+        let one_less = album(Plan::total(MESSAGES) - 1);
+        assert_eq!(faults(field(), head(&one_less)), ["73,799 of 73,800 tiles came as they were handed in"]);
+        let differs = HeadOutcome { differences: vec![Difference::Band(9)], ..head(&all) };
+        assert_eq!(faults(field(), differs), ["stream 9 is no band"]);
+        let broken = FieldOutcome { result: Err(Failure("gone".to_string())), ..field() };
+        assert_eq!(faults(broken, head(&all)), ["gone"]);
+        let stuck = FieldOutcome { has_closed_tsn_circle: false, ..field() };
+        assert_eq!(faults(stuck, head(&all)), ["the TSNs did not go round their circle"]);
+        let few = album(1000);
+        assert!(faults(field(), head(&few)).contains(&"the first band's SSNs did not go round their circle".to_string()));
     }
 }

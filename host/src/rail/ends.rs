@@ -36,14 +36,7 @@ impl<L: Library> Field<L> {
             .associate(head, port, Instant::now())
             .map_err(|refusal| Failure(format!("cannot ask {} for an association: {}", head, refusal)))?;
         let first_tsn = line.endpoint.standing().next_tsn;
-        Ok(Field {
-            line,
-            seed,
-            plan,
-            waiting: None,
-            stage: Stage::Opening,
-            first_tsn,
-        })
+        Ok(Field { line, seed, plan, waiting: None, stage: Stage::Opening, first_tsn })
     }
 
     pub fn stage(&self) -> Stage {
@@ -80,10 +73,7 @@ impl<L: Library> Field<L> {
         let seed = self.seed;
         loop {
             let plan = &mut self.plan;
-            let next = self
-                .waiting
-                .take()
-                .or_else(|| plan.next().map(|(band, index)| (band, tile(seed, band, index))));
+            let next = self.waiting.take().or_else(|| plan.next().map(|(band, index)| (band, tile(seed, band, index))));
             let (band, message) = match next {
                 Some(next) => next,
                 None => break,
@@ -98,10 +88,7 @@ impl<L: Library> Field<L> {
             }
         }
         let now = Instant::now();
-        self.line
-            .endpoint
-            .shutdown(now)
-            .map_err(|refusal| Failure(format!("cannot shut down: {}", refusal)))?;
+        self.line.endpoint.shutdown(now).map_err(|refusal| Failure(format!("cannot shut down: {}", refusal)))?;
         self.stage = Stage::Closing;
         Ok(())
     }
@@ -117,12 +104,7 @@ pub struct Head<L> {
 
 impl<L: Library> Head<L> {
     pub fn new(line: Line<L>) -> Head<L> {
-        Head {
-            line,
-            album: Album::default(),
-            differences: Vec::new(),
-            stage: Stage::Opening,
-        }
+        Head { line, album: Album::default(), differences: Vec::new(), stage: Stage::Opening }
     }
 
     pub fn stage(&self) -> Stage {

@@ -65,10 +65,7 @@ impl Pace {
 fn line<L: Library>(socket: UdpSocket, port: u16, recording: &Recording) -> Result<Line<L>, Failure> {
     let here = socket.local_addr().map_err(Failure::of_network)?;
     let random = Random::from_system().map_err(|e| Failure(format!("the system gives no random numbers: {}", e)))?;
-    let config = Config {
-        streams: BANDS,
-        ..Config::at_port(port)
-    };
+    let config = Config { streams: BANDS, ..Config::at_port(port) };
     let endpoint = Endpoint::new(config, random, Instant::now());
     Ok(Line::new(endpoint, socket, recording.tap(here)))
 }
@@ -129,12 +126,7 @@ pub fn field<L: Library>(arguments: &arguments::Field, out: &mut dyn Write) -> R
             let _ = match (field.stage(), field.line.trouble()) {
                 (Stage::Opening, Some(trouble)) => writeln!(out, "  no answer yet: {}", trouble),
                 (Stage::Opening, None) => writeln!(out, "  no answer yet"),
-                _ => writeln!(
-                    out,
-                    "  {} tiles handed in, {} packets resent",
-                    grouped(counts.messages_in),
-                    grouped(counts.resent)
-                ),
+                _ => writeln!(out, "  {} tiles handed in, {} packets resent", grouped(counts.messages_in), grouped(counts.resent)),
             };
         }
     }

@@ -1,7 +1,9 @@
 //! The model as a library, so that whatever runs on the proved one runs on it too.
 
 use model::{record, Core, Model};
-use oilwhisper::ffi::{Acknowledged, Answer, Arrived, Delivered, Echoed, HandedIn, Lent, Message, Peeked, Record, Sacked, Transmitted, Verdict};
+use oilwhisper::ffi::{
+    Acknowledged, Answer, Arrived, Delivered, Echoed, HandedIn, Lent, Message, Peeked, Record, Sacked, Transmitted, Verdict, VERDICTS,
+};
 use oilwhisper::library::Library;
 use std::mem::transmute;
 
@@ -16,25 +18,8 @@ fn kept(record: record::Association) -> Record {
     unsafe { transmute(record) }
 }
 
-#[allow(clippy::useless_conversion)]
-fn verdict(told: record::Verdict) -> Verdict {
-    Verdict {
-        at: usize::from(told.at),
-        value: told.value,
-        fate: told.fate,
-        number: told.number,
-        cause: told.cause,
-        event: told.event,
-    }
-}
-
 fn answer(told: record::Answer, record: record::Association) -> Answer {
-    Answer {
-        number: told.number,
-        length: told.length,
-        over: told.over,
-        association: kept(record),
-    }
+    Answer { number: told.number, length: told.length, over: told.over, association: kept(record) }
 }
 
 impl Library for Modelled {
@@ -53,7 +38,7 @@ impl Library for Modelled {
         Arrived {
             number: told.number,
             count: told.count,
-            verdicts: told.verdicts.map(verdict),
+            verdicts: unsafe { transmute::<[record::Verdict; VERDICTS], [Verdict; VERDICTS]>(told.verdicts) },
             length: told.length,
             association: kept(record),
         }
@@ -68,34 +53,19 @@ impl Library for Modelled {
     fn hand_in(record: Record, area: &mut [u8], message: &[u8], stream: u16, unordered: bool, ppid: u32) -> HandedIn {
         let mut record = lent(record);
         let told = Model.hand_in(&mut record, area, message, stream, unordered, ppid);
-        HandedIn {
-            number: told.number,
-            chunks: told.chunks,
-            association: kept(record),
-        }
+        HandedIn { number: told.number, chunks: told.chunks, association: kept(record) }
     }
 
     fn transmit(record: Record, area: &[u8], out: &mut [u8]) -> Transmitted {
         let mut record = lent(record);
         let told = Model.transmit(&mut record, area, out);
-        Transmitted {
-            number: told.number,
-            length: told.length,
-            resent: told.resent,
-            first: told.first,
-            last: told.last,
-            association: kept(record),
-        }
+        Transmitted { number: told.number, length: told.length, resent: told.resent, first: told.first, last: told.last, association: kept(record) }
     }
 
     fn take(record: Record, area: &[u8], out: &mut [u8]) -> Delivered {
         let mut record = lent(record);
         let told = Model.take(&mut record, area, out);
-        Delivered {
-            number: told.number,
-            message: unsafe { transmute::<record::Message, Message>(told.message) },
-            association: kept(record),
-        }
+        Delivered { number: told.number, message: unsafe { transmute::<record::Message, Message>(told.message) }, association: kept(record) }
     }
 
     fn sack(record: Record, out: &mut [u8]) -> Acknowledged {

@@ -32,10 +32,7 @@ pub struct Pair<L> {
 }
 
 pub fn config(end: usize) -> Config {
-    Config {
-        first_tsn: Some(u32::MAX - 99),
-        ..Config::at_port(PORTS[end])
-    }
+    Config { first_tsn: Some(u32::MAX - 99), ..Config::at_port(PORTS[end]) }
 }
 
 impl<L: Library> Pair<L> {
