@@ -21,10 +21,11 @@ use Rattle.steps.specs.declared.lent.Echoed.the-variants.{Bad, Stale, Good}
 use Rattle.arriving.specs.declared.tags.Rule.{Rule}
 use Rattle.arriving.specs.declared.tags.Rule.the-variants.{Tag, Any, Never}
 
--- our port, and the peer's; in CLOSED any source but 0 (RFC 9260 section 3.1)
+-- our port, which is not 0, and the peer's; in CLOSED any source but 0 (RFC 9260 section 3.1)
 unfoldable pub arePorts : State → Ends → Header → Bool
 arePorts s e h =
-    pick (eqb (h .destination) (e .«local_port»)) (pick (isClosed s) (not (eqb (h .source) 0)) (eqb (h .source) (e .«peer_port»))) false
+    pick (eqb (h .destination) 0) false
+    (pick (eqb (h .destination) (e .«local_port»)) (pick (isClosed s) (not (eqb (h .source) 0)) (eqb (h .source) (e .«peer_port»))) false)
 
 -- "ABORT and SHUTDOWN COMPLETE with the T bit"
 abbrev pub isReflecting : Kind → Bool → Bool

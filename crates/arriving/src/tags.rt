@@ -18,6 +18,9 @@ pub enum Rule {
 fn are_ports(state: State, ends: Ends, h: Header) -> bool
     ensures { λ r. ⌜ r ≡ arePorts state ends h ⌝ }
 {
+    if h.destination == 0 {
+        return false;
+    }
     if h.destination != ends.local_port {
         return false;
     }
