@@ -101,7 +101,7 @@ turned-small : (at : ℕ) (b : Beside) (cookie s : List ℕ) (t : Turn) → leng
 unfolding turned
 turned-small at b cookie s t h = pick-keeps (λ (x : Turn). length (x .reply) ≤ 1460) (t .walked .unread) _ _ h (more-small (t .reply) (stepAt at b cookie s t .reply) h)
 
-passed-small : (a : Association) (area packet : List ℕ) (lent : Lent) (cookie : List ℕ) (e : Echoed) → length (passed a area packet lent cookie e .reply) ≤ 1460
+pub passed-small : (a : Association) (area packet : List ℕ) (lent : Lent) (cookie : List ℕ) (e : Echoed) → length (passed a area packet lent cookie e .reply) ≤ 1460
 unfolding passed walkedOver begun
 passed-small a area packet lent cookie e = over-keeps (λ (t : Turn). length (t .reply) ≤ 1460) _ packet (λ t at p. turned-small _ _ cookie (drop at packet) t p) _ 12 (omega arith)
 
@@ -109,7 +109,7 @@ ended-small : (w : Walked) (reply : List ℕ) → length reply ≤ 1460 → leng
 unfolding endedBy
 ended-small w reply h = pick-keeps (λ (x : List ℕ). length x ≤ 1460) (isShutdownDue w) _ reply (more-small reply (framed 7 0 (be32 (w .association .receiving .keeping .point .0))) h) h
 
-whole-small : (w : Walked) (reply : List ℕ) → length reply ≤ 1460 → length (wholeReply w reply) ≤ 1460
+pub whole-small : (w : Walked) (reply : List ℕ) → length reply ≤ 1460 → length (wholeReply w reply) ≤ 1460
 unfolding wholeReply
 whole-small w reply h = go (w .complete)
   where

@@ -8,7 +8,7 @@ use Rattle.scans.specs.Scan.{pick}
 use Rattle.octets.specs.Bytes.{u8}
 use Rattle.chunks.specs.declared.kind.Kind.{Kind}
 use Rattle.chunks.specs.declared.kind.Kind.the-variants.{Data, Init, InitAck, Sack, Heartbeat, HeartbeatAck, Abort, Shutdown, ShutdownAck, Error, CookieEcho, CookieAck, ShutdownComplete, Unknown}
-use Rattle.chunks.specs.Kind.{kindOf}
+use Rattle.chunks.specs.Kind.{kindOf, isInit}
 use Rattle.chunks.specs.Frame.{flagged}
 use Rattle.packets.specs.declared.header.Header.{Header}
 use Rattle.states.specs.declared.state.State.{State}
@@ -67,24 +67,7 @@ ruleClosed CookieAck e = Never
 ruleClosed ShutdownComplete e = Never
 ruleClosed (Unknown h) e = Never
 
--- "INIT has tag 0", in every state
-abbrev pub isInit : Kind → Bool
-isInit Init = true
-isInit Data = false
-isInit InitAck = false
-isInit Sack = false
-isInit Heartbeat = false
-isInit HeartbeatAck = false
-isInit Abort = false
-isInit Shutdown = false
-isInit ShutdownAck = false
-isInit Error = false
-isInit CookieEcho = false
-isInit CookieAck = false
-isInit ShutdownComplete = false
-isInit (Unknown h) = false
-
--- a reflected tag proves nothing where the peer's is not known yet
+-- "INIT has tag 0", in every state; a reflected tag proves nothing where the peer's is not known yet
 unfoldable pub ruleOpen : Kind → Bool → Bool → Ends → Rule
 ruleOpen k t known e =
     pick (isReflecting k t) (pick known (Tag (e .«peer_tag»)) Never) (pick (isInit k) (Tag 0) (Tag (e .«my_tag»)))

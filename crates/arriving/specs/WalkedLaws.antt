@@ -28,17 +28,18 @@ so a b h = ap (λ (s : Bool). pick s a b) (sym h)
 not-so : {A : Type 0} {t : Bool} (a b : A) → t ≡ false → b ≡ pick t a b
 not-so a b h = ap (λ (s : Bool). pick s a b) (sym h)
 
-noted-used : (w : Walked) (v : Verdict) → noted w v .used ≡ w .used
+-- a verdict more changes neither how much is used nor whether a SHUTDOWN is due
+pub noted-same : (w : Walked) (v : Verdict) → (noted w v .used ≡ w .used) × (noted w v .due ≡ w .due)
 unfolding noted
-noted-used w v = go (ltb (w .count) 365)
+noted-same w v = go (ltb (w .count) 365) (record { association = w .association; count = w .count + 1; verdicts = set (w .verdicts) (w .count) v; used = w .used; unread = w .unread; due = w .due; complete = w .complete }) refl refl
   where
-    go : (t : Bool) → pick t (record { association = w .association; count = w .count + 1; verdicts = set (w .verdicts) (w .count) v; used = w .used; unread = w .unread; due = w .due; complete = w .complete }) w .used ≡ w .used
-    go true = refl
-    go false = refl
+    go : (t : Bool) (u : Walked) → u .used ≡ w .used → u .due ≡ w .due → (pick t u w .used ≡ w .used) × (pick t u w .due ≡ w .due)
+    go true u p q = (p, q)
+    go false u p q = (refl, refl)
 
 taken-used : (w : Walked) (at : ℕ) (d : Done) → takenIn w at d .used ≡ w .used + d .written
 unfolding takenIn
-taken-used w at d = noted-used _ _
+taken-used w at d = noted-same _ _ .0
 
 -- the replies so far at the head of xs, and the room behind them
 module _ (xs : List ℕ) (n : ℕ) (long : length xs ≡ 1460) (fit : n ≤ 1460) where
@@ -66,7 +67,7 @@ module _ (at : ℕ) (b : Beside) (cookie s : List ℕ) (w : Walked) (area xs : L
       → (turnOf r area xs ≡ turned at b cookie s (turnOf w area xs)) × (r .used ≤ 1460)
   unfolding turned
   turn-unread h {r} e =
-      let u : r .used ≡ w .used = ap (λ (v : Walked). v .used) e ∙ noted-used w (unreadAt at) in
+      let u : r .used ≡ w .used = ap (λ (v : Walked). v .used) e ∙ noted-same w (unreadAt at) .0 in
       ((λ i. record { walked = e i; area = area; reply = take (u i) xs }) ∙ so _ _ h, omega arith)
 
   module _ {d : Done} (e : d ≡ doneIn part (stepIn (length part))) {ys : List ℕ} (y : ys ≡ wroteBytes part (stepIn (length part) .reply)) where

@@ -6,7 +6,8 @@ use packets::Header;
 use states::State;
 use steps::Echoed;
 ghost use mathlib.Core.Path.{_≡_};
-ghost use Rattle.arriving.specs.Tags.{arePorts, isReflecting, isInit, ruleClosed, ruleOpen, ruleFor, isTag, headNumber};
+ghost use Rattle.chunks.specs.Kind.{isInit};
+ghost use Rattle.arriving.specs.Tags.{arePorts, isReflecting, ruleClosed, ruleOpen, ruleFor, isTag, headNumber};
 
 // Which tag a packet must carry.
 pub enum Rule {

@@ -4,7 +4,7 @@ use mathlib.Core.Path.{_≡_, refl, ap, _∙_}
 use mathlib.Core.Bool.{Bool, true, false}
 use mathlib.Core.List.{List, [], _++_}
 use native.Mathlib.Omega.{arith}
-use borrow.Author.Tests.{lt-ltb, le-ltb, ltb-false, eq-eqb, ne-eqb}
+use borrow.Author.Tests.{lt-ltb, le-ltb, ltb-false, eq-eqb, ne-eqb, eqb-false}
 use lib.Dec.{ltb, eqb}
 use lib.ListN.{length, getD, take, drop, length-append}
 use lib.Seq.{take-at}
@@ -84,6 +84,20 @@ module _ (most : ℕ) (c bs : List ℕ) where
       go true t e = omega arith
       go false true e = omega arith
       go false false e = h (ltb-false most (length c) e)
+
+-- what is carried: nothing, or bs
+pub data Carried (most : ℕ) (c bs x : List ℕ) : Type 0 where
+  none : x ≡ [] → Carried most c bs x
+  whole : length c ≤ most → (length c ≡ 0 → ⊥) → x ≡ bs → Carried most c bs x
+
+pub carried : (most : ℕ) (c bs : List ℕ) → Carried most c bs (carrying most c bs)
+unfolding carrying
+carried most c bs = go (ltb most (length c)) refl (eqb (length c) 0) refl
+  where
+    go : (s : Bool) → ltb most (length c) ≡ s → (t : Bool) → eqb (length c) 0 ≡ t → Carried most c bs (pick s [] (pick t [] bs))
+    go true p t q = none refl
+    go false p true q = none refl
+    go false p false q = whole (ltb-false most (length c) p) (eqb-false (length c) 0 q) refl
 
 -- ---- what was gathered in an array
 

@@ -3,6 +3,7 @@ pub mod Frame
 pub mod FrameLaws
 pub mod Back
 pub mod Kind
+pub mod KindLaws
 pub mod DataChunk
 pub mod DataLaws
 pub mod InitChunk

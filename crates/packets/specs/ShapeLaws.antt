@@ -145,6 +145,16 @@ pub alone-append : (c rest : List ℕ) → 4 ≤ length c → alone (c ++ rest) 
 unfolding alone
 alone-append c rest h = rw (List·getD-append c rest 0 0 (omega arith))
 
+-- which chunks need not stand alone
+module _ (s : List ℕ) where
+  pub not-alone : (u8 s 0 ≡ 1 → ⊥) → (u8 s 0 ≡ 2 → ⊥) → (u8 s 0 ≡ 14 → ⊥) → alone s ≡ false
+  unfolding alone
+  not-alone a b c = rw (ne-eqb (u8 s 0) 1 a, ne-eqb (u8 s 0) 2 b, ne-eqb (u8 s 0) 14 c)
+
+  pub init-alone : alone s ≡ false → u8 s 0 ≡ 1 → ⊥
+  unfolding alone
+  init-alone h e = clash (sym (rw (eq-eqb (u8 s 0) 1 e) at h))
+
 -- ---- parameters that tile
 
 pub tiled-none : tiled [] ≡ true

@@ -12,7 +12,7 @@ use Rattle.octets.specs.BytesLaws.{laid-more, laid-is, zeros-long, length-laid}
 use Rattle.octets.specs.Walk.{overItems}
 use Rattle.octets.specs.Writing.{Wrote}
 use Rattle.chunks.specs.Frame.{framed}
-use Rattle.chunks.specs.FrameLaws.{from-start, gathered, framed-long, carry-over, carry-none, carry-is, carry-within, wrote-as}
+use Rattle.chunks.specs.FrameLaws.{from-start, gathered, framed-long, carry-over, carry-none, carry-is, carry-within, wrote-as, Carried, carried}
 use Rattle.chunks.specs.InitChunk.{initFields}
 use Rattle.chunks.specs.Cause.{caused}
 use Rattle.chunks.specs.declared.init.Init.{Init}
@@ -148,3 +148,14 @@ module _ (v : Init) (c s : List ℕ) where
       let a : take (4 + length c) x3 ≡ parameter 7 c = ap (λ (j : ℕ). take j x3) (sym (from-start (4 + length c))) ∙ ap (λ (j : List ℕ). take (4 + length c - 0) (drop 0 j)) p ∙ gathered x (parameter 7 c) (4 + length c) (omega arith) (omega arith) in
       let i : take (r - 0) (drop 0 y) ≡ gatherAll ROOM true (parameter 7 c) (paramsOf s) = collected-is m k ∙ (λ j. gatherAll ROOM true (a j) (e j)) in
       rw (init-ack-is h n) (wrote-as (ap (λ (j : List ℕ). framed 2 0 (initFields v ++ j)) i) w)
+
+-- ---- which of them are written at all
+
+pub init-ack-carried : (v : Init) (c s : List ℕ) → Carried 256 c (framed 2 0 (initFields v ++ gatherAll ROOM true (parameter 7 c) (paramsOf s))) (initAckBytes v c s)
+unfolding initAckBytes
+init-ack-carried v c s = carried 256 c (framed 2 0 (initFields v ++ gatherAll ROOM true (parameter 7 c) (paramsOf s)))
+
+pub error-carried : (s : List ℕ)
+    → Carried ROOM (gatherAll ROOM false [] (paramsOf s)) (framed 9 0 (caused 8 (gatherAll ROOM false [] (paramsOf s)))) (errorParametersBytes s)
+unfolding errorParametersBytes
+error-carried s = carried ROOM (gatherAll ROOM false [] (paramsOf s)) (framed 9 0 (caused 8 (gatherAll ROOM false [] (paramsOf s))))

@@ -4,3 +4,4 @@ pub mod Rows
 pub mod Calls
 pub mod TriesLaws
 pub mod RowsLaws
+pub mod InitLaws

@@ -10,3 +10,5 @@ pub mod VerdictLaws
 pub mod SoundLaws
 pub mod StepsLaws
 pub mod HeldLaws
+pub mod Replying
+pub mod ReplyingLaws

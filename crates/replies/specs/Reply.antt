@@ -1,0 +1,47 @@
+-- What a reply is made of: chunks that may share one packet, or one that stands alone.
+use Prim.Native.Nat.{ℕ, _≤_}
+use mathlib.Core.Path.{_≡_}
+use mathlib.Core.Bool.{Bool, false}
+use mathlib.Core.List.{List}
+use lib.ListN.{take}
+use Rattle.scans.specs.Each.{All}
+use Rattle.octets.specs.Bytes.{u8}
+use Rattle.octets.specs.Walk.{joined}
+use Rattle.packets.specs.Shape.{alone}
+use Rattle.packets.specs.Body.{Sound, Together}
+use Rattle.packets.specs.Checks.{packetNumber}
+use Rattle.steps.specs.declared.verdict.Owed.{Owed}
+use Rattle.steps.specs.declared.verdict.Owed.the-variants.{Nothing}
+
+-- a sound chunk that need not stand alone
+pub record Shareable (c : List ℕ) : Type 0 where
+  pub sound : Sound c
+  pub beside : alone c ≡ false
+
+-- such chunks one behind the other, or none
+pub record Shared (bs : List ℕ) : Type 0 where
+  pub chunks : List (List ℕ)
+  pub each : All Shareable chunks
+  pub is : bs ≡ joined chunks
+
+-- the reply to the chunk s: only an INIT has one that stands alone, and it owes nothing beside it
+pub data Fits (s : List ℕ) (o : Owed) (bs : List ℕ) : Type 0 where
+  several : Shared bs → Fits s o bs
+  single : u8 s 0 ≡ 1 → o ≡ Nothing → Sound bs → Fits s o bs
+
+-- the replies to a packet: a chunk that stands alone is the only one, and no SHUTDOWN is due behind it
+pub data Held (bs : List ℕ) (due : Bool) : Type 0 where
+  together : Shared bs → Held bs due
+  apart : Sound bs → due ≡ false → Held bs due
+
+-- bytes of sound chunks that may stand in one packet
+pub record Packed (bs : List ℕ) : Type 0 where
+  pub chunks : List (List ℕ)
+  pub sound : All Sound chunks
+  pub together : Together chunks
+  pub is : bs ≡ joined chunks
+
+-- what is sent from an output: nothing, and it is as it was; or a packet of at most 1,472 bytes that passes our own checks 2, 3, 5 and 6
+pub data Passing (out : List ℕ) (n : ℕ) (exit : List ℕ) : Type 0 where
+  untouched : n ≡ 0 → exit ≡ out → Passing out n exit
+  passes : n ≤ 1472 → packetNumber (take n exit) ≡ 0 → Passing out n exit

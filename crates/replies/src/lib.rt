@@ -1,0 +1,1 @@
+// What `arrive` writes passes the checks of a reader: the laws are in specs/.
