@@ -22,6 +22,9 @@ import (
 const (
 	stream   = 3
 	numbered = 0x52000000
+	// Oilwhisper holds 128 chunks and refuses what is further ahead, while its window counts each as 512 bytes: of shorter ones
+	// fewer bytes may be on the way than it says.
+	onTheWay = 24000
 	ours     = 0
 	theirs   = 1
 )
@@ -55,11 +58,15 @@ func message(direction, i uint32) []byte {
 	return made
 }
 
+func drain(s *sctp.Stream, most uint64) {
+	for s.BufferedAmount() > most {
+		time.Sleep(200 * time.Microsecond)
+	}
+}
+
 func sendAll(s *sctp.Stream) {
 	for i := 0; i < number("send"); i++ {
-		for s.BufferedAmount() > 200000 {
-			time.Sleep(time.Millisecond)
-		}
+		drain(s, onTheWay)
 		_, err := s.WriteSCTP(message(theirs, uint32(i)), sctp.PayloadProtocolIdentifier(numbered+i))
 		must(err, "write")
 	}
@@ -80,6 +87,8 @@ func takeAll(s *sctp.Stream) {
 func end(a *sctp.Association, s *sctp.Stream) {
 	switch words["end"] {
 	case "shutdown":
+		// pion shuts down without what it has not sent yet.
+		drain(s, 0)
 		limit, cancel := context.WithTimeout(context.Background(), 20*time.Second)
 		defer cancel()
 		must(a.Shutdown(limit), "shutdown")
