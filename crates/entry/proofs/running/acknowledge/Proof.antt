@@ -1,0 +1,24 @@
+use borrow.Author.Needs.{needs}
+use Rattle.entry.proofs.running.acknowledge.Statement.{statement}
+use Rattle.entry.proofs.running.acknowledge.Tie as tie
+
+sack-requires : tie.Need-sack-requires
+sack-requires c κs = search needs
+
+of-acknowledged-requires : tie.Need-of-acknowledged-requires
+of-acknowledged-requires c κs = search needs
+
+same-length : tie.Need-same-length
+same-length c = search needs
+
+returns : tie.Need-returns
+returns c = (rw (← c .before .before .before .sack .ensures .0) (c .of-acknowledged .ensures), c .before .before .before .sack .ensures .1)
+
+pub acknowledge-spec : {M : Type 1} → statement M
+acknowledge-spec =
+    tie.close
+    (tie.spec
+    sack-requires
+    of-acknowledged-requires
+    same-length
+    returns)

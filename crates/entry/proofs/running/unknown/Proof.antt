@@ -1,0 +1,31 @@
+use Rattle.entry.specs.Happening.{unknownNumber}
+use borrow.Author.Needs.{needs}
+use Rattle.entry.proofs.running.unknown.Statement.{statement}
+use Rattle.entry.proofs.running.unknown.Tie as tie
+
+is-sound-requires : tie.Need-is-sound-requires
+is-sound-requires c κs = search needs
+
+plain-requires : tie.Need-plain-requires
+plain-requires c κs = search needs
+
+returns : tie.Need-returns
+unfolding unknownNumber
+returns c = rw (← c .before .before .is-sound .ensures, c .before .if1 .taken) (c .plain .ensures)
+
+plain-requires-2 : tie.Need-plain-requires-2
+plain-requires-2 c κs = search needs
+
+returns-2 : tie.Need-returns-2
+unfolding unknownNumber
+returns-2 c = rw (← c .before .before .is-sound .ensures, c .before .if1 .left) (c .plain2 .ensures)
+
+pub unknown-spec : {M : Type 1} → statement M
+unknown-spec =
+    tie.close
+    (tie.spec
+    is-sound-requires
+    plain-requires
+    returns
+    plain-requires-2
+    returns-2)

@@ -1,0 +1,98 @@
+-- Any event of the host, and what its call leaves.
+use Prim.Native.Nat.{ℕ}
+use mathlib.Core.Bool.{Bool, false}
+use mathlib.Core.List.{List, [], _++_}
+use lib.ListN.{length}
+use Rattle.scans.specs.Scan.{pick}
+use Rattle.octets.specs.Bytes.{be32}
+use Rattle.numbers.specs.declared.circle.StreamId.{StreamId}
+use Rattle.states.specs.declared.calls.Call.the-variants.{FirstTimer, SecondTimer}
+use Rattle.association.specs.declared.ends.Association.{Association}
+use Rattle.association.specs.Bounds.{isSound}
+use Rattle.steps.specs.declared.lent.Lent.{Lent}
+use Rattle.steps.specs.declared.lent.Echoed.{Echoed}
+use Rattle.arriving.specs.Arrival.{arrivedOf, areaOf}
+use Rattle.arriving.specs.Arrival as arrival
+use Rattle.calls.specs.Answer.{Plan, answerOf, outOf}
+use Rattle.calls.specs.Opening.{associating}
+use Rattle.calls.specs.Messages.{handedIn, handedArea, delivered, deliveredOut}
+use Rattle.calls.specs.Transmit.{transmitted, transmittedOut}
+use Rattle.calls.specs.Acknowledging.{acknowledged, acknowledgedOut}
+use Rattle.calls.specs.Timers.{expiring, expiringThird, sampling}
+use Rattle.calls.specs.Closing.{shutting, aborting}
+use Rattle.calls.specs.Telling.{tellingStream, tellingStale, beating}
+use Rattle.entry.specs.declared.event.Event.{Event}
+use Rattle.entry.specs.declared.event.Event.the-variants.{Packet, Associate, HandIn, Transmit, Take, Acknowledge, T1, T2, T3, Shutdown, Abort, ErrorStream, ErrorStale, Heartbeat, Sample, Unknown}
+use Rattle.entry.specs.declared.told.Ran.{Ran}
+use Rattle.entry.specs.Told.{plainly, ofAnswer, ofHandedIn, ofTransmitted, ofAcknowledged, ofDelivered, ofArrived}
+
+-- what the host lends: its two areas, the packet or the message, a cookie, an output
+pub record Buffers : Type 0 where
+  pub received : List ℕ
+  pub sent : List ℕ
+  pub input : List ℕ
+  pub cookie : List ℕ
+  pub out : List ℕ
+
+abbrev pub lent : List ℕ → List ℕ → List ℕ → List ℕ → List ℕ → Buffers
+lent received sent input cookie out = record { received = received; sent = sent; input = input; cookie = cookie; out = out }
+
+-- what an event leaves: what is told, the record, and what stands in the areas and in the output
+pub record Left : Type 0 where
+  pub ran : Ran
+  pub received : List ℕ
+  pub sent : List ℕ
+  pub out : List ℕ
+
+-- the areas stay
+abbrev pub leaving : Ran → List ℕ → Buffers → Left
+leaving r out b = record { ran = r; received = b .received; sent = b .sent; out = out }
+
+abbrev pub planned : Plan → Buffers → Left
+planned p b = leaving (ofAnswer (answerOf p (b .out))) (outOf p (b .out)) b
+
+-- the same of a call with no output
+abbrev pub kept : Plan → Buffers → Left
+kept p b = leaving (ofAnswer (answerOf p [])) (b .out) b
+
+abbrev pub arriving : Association → Lent → Echoed → Buffers → Left
+arriving a l e b = record {
+  ran = ofArrived (arrivedOf a (b .received) (b .input) l (b .cookie) e (b .out));
+  received = areaOf a (b .received) (b .input) l (b .cookie) e (b .out);
+  sent = b .sent;
+  out = arrival.outOf a (b .received) (b .input) l (b .cookie) e (b .out);
+}
+
+abbrev pub handing : Association → StreamId → Bool → ℕ → Buffers → Left
+handing a stream unordered ppid b = record {
+  ran = ofHandedIn (handedIn a (b .sent) (length (b .input)) stream unordered ppid);
+  received = b .received;
+  sent = handedArea a (b .sent) (b .input) stream;
+  out = b .out;
+}
+
+-- 7 for a number that names no event, behind 1 as for every call
+unfoldable pub unknownNumber : Association → ℕ
+unknownNumber a = pick (isSound a) 7 1
+
+-- the eight bytes of a HEARTBEAT's value
+unfoldable pub halves : ℕ → ℕ → List ℕ
+halves x y = be32 x ++ be32 y
+
+unfoldable pub happened : Association → Event → Buffers → Left
+happened a (Packet l e) b = arriving a l e b
+happened a (Associate tag tsn port streams) b = planned (associating a tag tsn port streams (b .out)) b
+happened a (HandIn stream unordered ppid) b = handing a stream unordered ppid b
+happened a Transmit b = leaving (ofTransmitted (transmitted a (b .sent) (b .out))) (transmittedOut a (b .sent) (b .out)) b
+happened a Take b = leaving (ofDelivered (delivered a (b .received) (length (b .out)))) (deliveredOut a (b .received) (b .out)) b
+happened a Acknowledge b = leaving (ofAcknowledged (acknowledged a (b .out))) (acknowledgedOut a (b .out)) b
+happened a T1 b = planned (expiring a FirstTimer (b .out)) b
+happened a T2 b = planned (expiring a SecondTimer (b .out)) b
+happened a T3 b = kept (expiringThird a) b
+happened a Shutdown b = planned (shutting a (b .out)) b
+happened a (Abort why) b = planned (aborting a why (b .out)) b
+happened a (ErrorStream stream) b = planned (tellingStream a stream (b .out)) b
+happened a (ErrorStale port tag late) b = planned (tellingStale a port tag late (b .out)) b
+happened a (Heartbeat x y) b = planned (beating a (halves x y) (b .out)) b
+happened a (Sample ms) b = kept (sampling a ms) b
+happened a Unknown b = leaving (plainly (unknownNumber a) 0 false a) (b .out) b
