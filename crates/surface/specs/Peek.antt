@@ -8,7 +8,11 @@ use Rattle.surface.specs.declared.peeking.Peeked.{Peeked}
 abbrev pub unseen : ℕ → Peeked
 unseen n = record { number = n; kind = 0; source = 0; tag = 0; window = 0; outs = 0; ins = 0; tsn = record { 0 = 0 }; at = 0; len = 0 }
 
--- 1 an INIT with its fields, 2 a COOKIE ECHO with the place of its cookie, 0 anything else
+-- a COOKIE ECHO, and where its cookie stands
+abbrev pub seenEcho : ℕ → ℕ → Peeked
+seenEcho at len = record { number = 0; kind = 2; source = 0; tag = 0; window = 0; outs = 0; ins = 0; tsn = record { 0 = 0 }; at = at; len = len }
+
+-- kind 1 is an INIT with its fields, 2 a COOKIE ECHO, 0 anything else
 abbrev pub packedPeek : call.Peeked → Peeked
 packedPeek (Refused n) = unseen n
 packedPeek Nothing = unseen 0
@@ -24,15 +28,4 @@ packedPeek (Init v source) = record {
   at = 0;
   len = 0;
 }
-packedPeek (Echo at len) = record {
-  number = 0;
-  kind = 2;
-  source = 0;
-  tag = 0;
-  window = 0;
-  outs = 0;
-  ins = 0;
-  tsn = record { 0 = 0 };
-  at = at;
-  len = len;
-}
+packedPeek (Echo at len) = seenEcho at len
