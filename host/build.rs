@@ -30,6 +30,22 @@ fn main() {
         println!("cargo:rustc-link-search=native={}", folder.display());
     }
     println!("cargo:rustc-link-lib=static=surface");
+    if env::var_os("CARGO_FEATURE_BENCH").is_some() {
+        compile_sliced();
+    }
+}
+
+/// The checksum in C that the benchmark compares with.
+fn compile_sliced() {
+    let source = "src/bin/bench/sliced.c";
+    let object = PathBuf::from(env::var_os("OUT_DIR").unwrap_or_default()).join("sliced.o");
+    let compiler = if env::var_os("TARGET") == env::var_os("HOST") { "cc" } else { "x86_64-linux-gnu-gcc" };
+    println!("cargo:rerun-if-changed={}", source);
+    match Command::new(compiler).args(["-std=c99", "-O2", "-c", source, "-o"]).arg(&object).status() {
+        Ok(status) if status.success() => println!("cargo:rustc-link-arg-bin=bench={}", object.display()),
+        Ok(_) => give_up(&format!("{} does not compile {}", compiler, source)),
+        Err(e) => give_up(&format!("cannot run {} to compile {}: {}", compiler, source, e)),
+    }
 }
 
 fn repository() -> PathBuf {

@@ -1,0 +1,100 @@
+//! The speed of the proved library beside others, in ratios of one run. `docs/PERFORMANCE.md` says what they are worth.
+
+mod checksum;
+mod clock;
+mod ends;
+mod filling;
+mod paths;
+mod stack;
+#[cfg(feature = "usrsctp")]
+mod usrsctp;
+
+use oilwhisper::ffi::{Arrived, Record};
+use paths::{Ours, Pair, Times, MESSAGE};
+use std::arch::x86_64::__cpuid;
+use std::mem::size_of;
+
+const HELD: [usize; 4] = [0, 16, 64, 127];
+
+fn main() {
+    checksum::ready();
+    println!("{}", processor());
+    print_paths();
+    print_checksums();
+    print_filling();
+    print_stack();
+}
+
+/// An emulator of instructions gives its name where a hypervisor would.
+fn processor() -> &'static str {
+    let told = unsafe { __cpuid(0x4000_0000) };
+    match [told.ebx, told.ecx, told.edx].map(u32::to_le_bytes) {
+        [a, b, c] if [a, b, c].concat() == b"TCGTCGTCGTCG" => {
+            "This processor is emulated: no time below is one of real hardware, and ratios compare emulated instructions at best."
+        }
+        _ => "Times of this processor.",
+    }
+}
+
+fn print_paths() {
+    println!("\nPaths: messages of {} bytes, one in a packet, a SACK for every second packet", MESSAGE);
+    println!("{:<12} {:>24} {:>36}", "", "receive: arrive, take, sack", "send: hand_in, transmit, SACK arrives");
+    println!("{:<12} {:>13} {:>13} {:>22} {:>13}", "", "packets/s", "MB/s", "packets/s", "MB/s");
+    let mut ours = Ours::new();
+    let mut pairs: Vec<(&str, &mut dyn Pair)> = vec![("Oilwhisper", &mut ours)];
+    #[cfg(feature = "usrsctp")]
+    let mut theirs = usrsctp::Theirs::new();
+    #[cfg(feature = "usrsctp")]
+    pairs.push(("libusrsctp", &mut theirs));
+    let (names, mut pairs): (Vec<&str>, Vec<&mut dyn Pair>) = pairs.into_iter().unzip();
+    let times = paths::times(&mut pairs);
+    for (name, times) in names.iter().zip(&times) {
+        let (receiving, sending) = (1.0 / times.receiving, 1.0 / times.sending);
+        let payload = MESSAGE as f64 * 1e-6;
+        println!("{:<12} {:>13.0} {:>13.2} {:>22.0} {:>13.2}", name, receiving, receiving * payload, sending, sending * payload);
+    }
+    match times[..] {
+        [ours, Times { receiving, sending }] => {
+            println!("{:<12} {:>27.3} {:>36.3}   (the aim: 1 or more)", "ratio", receiving / ours.receiving, sending / ours.sending)
+        }
+        _ => println!("(built without feature usrsctp: nothing to compare with)"),
+    }
+}
+
+fn print_checksums() {
+    println!("\nChecksum, MB/s (ours is the whole of an ow_peek that refuses the packet for its checksum)");
+    println!("{:<8} {:>12} {:>16} {:>14} {:>22} {:>20}", "bytes", "Oilwhisper", "C sliced by 8", "SSE4.2", "ratio to C (aim 0.9)", "ratio to SSE4.2");
+    for length in [540, 1472] {
+        let speeds = checksum::speeds(length);
+        let (sse, ratio) = match speeds.instruction {
+            Some(speed) => (format!("{:.1}", speed * 1e-6), format!("{:.3}", speeds.proved / speed)),
+            None => ("none".into(), "none".into()),
+        };
+        let (ours, c) = (speeds.proved * 1e-6, speeds.sliced * 1e-6);
+        println!("{:<8} {:>12.1} {:>16.1} {:>14} {:>22.3} {:>20}", length, ours, c, sse, ours / c, ratio);
+    }
+}
+
+fn print_filling() {
+    println!("\nMicroseconds of a call when so many messages are held (arrive, take, sack) or in flight (the others)");
+    print!("{:<8}", "");
+    filling::CALLS.iter().for_each(|name| print!(" {:>13}", name));
+    println!();
+    let costs: Vec<Vec<f64>> = HELD.iter().map(|held| filling::costs(*held)).collect();
+    for (held, costs) in HELD.iter().zip(&costs) {
+        print!("{:<8}", held);
+        costs.iter().for_each(|cost| print!(" {:>13.2}", cost * 1e6));
+        println!();
+    }
+    print!("{:<8}", "127 / 0");
+    costs[3].iter().zip(&costs[0]).for_each(|(most, least)| print!(" {:>13.2}", most / least));
+    println!();
+}
+
+fn print_stack() {
+    println!("\nBytes of stack that a call needs, the record lent to it and the answer among them (emulated or not, these are the real ones)");
+    println!("{:<22} {:>8}    of which the record {}, the answer of ow_arrive {}", "", "bytes", size_of::<Record>(), size_of::<Arrived>());
+    for (name, depth) in stack::depths() {
+        println!("{:<22} {:>8}", name, depth);
+    }
+}
