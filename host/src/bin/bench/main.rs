@@ -4,8 +4,8 @@ mod checksum;
 mod clock;
 mod ends;
 mod filling;
+mod needs;
 mod paths;
-mod stack;
 #[cfg(feature = "usrsctp")]
 mod usrsctp;
 
@@ -16,13 +16,22 @@ use std::mem::size_of;
 
 const HELD: [usize; 4] = [0, 16, 64, 127];
 
+/// Parts that are named as arguments, or all of them.
+const PARTS: [(&str, fn()); 4] = [("paths", print_paths), ("checksum", print_checksums), ("filling", print_filling), ("needs", print_needs)];
+
 fn main() {
+    let asked: Vec<String> = std::env::args().skip(1).collect();
+    if let Some(word) = asked.iter().find(|word| PARTS.iter().all(|(name, _)| name != word)) {
+        eprintln!("bench: '{}' is no part; the parts are {}", word, PARTS.map(|(name, _)| name).join(", "));
+        std::process::exit(2);
+    }
     checksum::ready();
     println!("{}", processor());
-    print_paths();
-    print_checksums();
-    print_filling();
-    print_stack();
+    for (name, print) in PARTS {
+        if asked.is_empty() || asked.iter().any(|word| word == name) {
+            print();
+        }
+    }
 }
 
 /// An emulator of instructions gives its name where a hypervisor would.
@@ -91,10 +100,11 @@ fn print_filling() {
     println!();
 }
 
-fn print_stack() {
-    println!("\nBytes of stack that a call needs, the record lent to it and the answer among them (emulated or not, these are the real ones)");
-    println!("{:<22} {:>8}    of which the record {}, the answer of ow_arrive {}", "", "bytes", size_of::<Record>(), size_of::<Arrived>());
-    for (name, depth) in stack::depths() {
-        println!("{:<22} {:>8}", name, depth);
+fn print_needs() {
+    println!("\nBytes that a call needs on the stack and bytes that it copies or clears, of which the record is {}", size_of::<Record>());
+    println!("and the answer of ow_arrive {}. Emulation does not change these.", size_of::<Arrived>());
+    println!("{:<22} {:>10} {:>10}", "", "stack", "copied");
+    for needs in needs::all() {
+        println!("{:<22} {:>10} {:>10}", needs.name, needs.stack, needs.copied);
     }
 }

@@ -1,4 +1,5 @@
-//! How much stack a call takes: it is made on a thread whose stack was filled with one byte before, and what is overwritten afterwards was in use.
+//! How much stack a call takes, and how many bytes it copies. The call is made on a thread whose stack was filled with one byte before: what is overwritten
+//! afterwards was in use.
 
 use crate::checksum;
 use crate::ends::{open, Opened};
@@ -21,6 +22,7 @@ extern "C" {
     fn pthread_attr_setstack(attributes: *mut Attributes, lowest: *mut u8, size: usize) -> i32;
     fn pthread_create(thread: *mut usize, attributes: *const Attributes, start: Start, argument: *mut c_void) -> i32;
     fn pthread_join(thread: usize, answer: *mut *mut c_void) -> i32;
+    fn counted_bytes() -> u64;
 }
 
 type Call<'a> = &'a mut dyn FnMut();
@@ -29,6 +31,21 @@ extern "C" fn run(argument: *mut c_void) -> *mut c_void {
     let call = unsafe { &mut *argument.cast::<Call>() };
     call();
     argument
+}
+
+/// What a call needs, with the record that is handed over and the answer.
+pub struct Needs {
+    pub name: &'static str,
+    pub stack: usize,
+    /// Bytes given to memcpy and memset.
+    pub copied: u64,
+}
+
+fn needs(name: &'static str, empty: &Needs, call: Call) -> Needs {
+    let before = unsafe { counted_bytes() };
+    let stack = overwritten(call);
+    let copied = unsafe { counted_bytes() } - before;
+    Needs { name, stack: stack - empty.stack, copied: copied - empty.copied }
 }
 
 /// Bytes of a painted stack that were written on while a thread made the call.
@@ -50,16 +67,16 @@ fn overwritten(mut call: Call) -> usize {
     }
 }
 
-/// Bytes of stack for each call, the record that is handed over and the answer among them, without what an empty thread uses; the deepest first.
-pub fn depths() -> Vec<(&'static str, usize)> {
+/// What each call needs beyond what a thread with no call does; the deepest first.
+pub fn all() -> Vec<Needs> {
     let Filled { mut arriving, mut holding, mut handing_in, mut transmitting, mut sent, data, sack } = fill(127);
     let mut closed = Lone::new(Proved::closed(5001));
     let Opened { init, .. } = open();
     let unknown = checksum::packet(1472);
     let lent = Lent { tag: 2, tsn: 3, streams: 8 };
-    let empty = overwritten(&mut || ());
-    let mut depths = Vec::new();
-    let mut measure = |name, call: Call| depths.push((name, overwritten(call) - empty));
+    let empty = needs("", &Needs { name: "", stack: 0, copied: 0 }, &mut || ());
+    let mut all = Vec::new();
+    let mut measure = |name, call: Call| all.push(needs(name, &empty, call));
     measure("ow_arrive, a DATA", &mut || _ = arriving.arrive(&data));
     measure("ow_arrive, a SACK", &mut || _ = sent.arrive(&sack));
     measure("ow_arrive, an INIT", &mut || {
@@ -76,6 +93,6 @@ pub fn depths() -> Vec<(&'static str, usize)> {
     measure("ow_abort", &mut || _ = Proved::abort(sent.record, 12, 0, &mut sent.out));
     measure("ow_associate", &mut || _ = Proved::associate(closed.record, 1, 1, 5000, 8, &mut closed.out));
     measure("ow_peek", &mut || _ = Proved::peek(&unknown));
-    depths.sort_by_key(|(_, depth)| std::cmp::Reverse(*depth));
-    depths
+    all.sort_by_key(|needs| std::cmp::Reverse(needs.stack));
+    all
 }
