@@ -32,8 +32,11 @@ fn main() {
     println!("cargo:rustc-link-lib=static=surface");
     if env::var_os("CARGO_FEATURE_BENCH").is_some() {
         compile("sliced.c");
-        compile("counted.c");
+        compile("wrapped.c");
         println!("cargo:rustc-link-arg-bin=bench=-Wl,--wrap=memcpy,--wrap=memset");
+    }
+    if env::var_os("CARGO_FEATURE_USRSCTP").is_some() {
+        println!("cargo:rustc-link-arg-bin=bench=-l:libusrsctp.a");
     }
 }
 

@@ -50,14 +50,15 @@ fn print_paths() {
     println!("{:<12} {:>24} {:>36}", "", "receive: arrive, take, sack", "send: hand_in, transmit, SACK arrives");
     println!("{:<12} {:>13} {:>13} {:>22} {:>13}", "", "packets/s", "MB/s", "packets/s", "MB/s");
     let mut ours = Ours::new();
-    let mut pairs: Vec<(&str, &mut dyn Pair)> = vec![("Oilwhisper", &mut ours)];
     #[cfg(feature = "usrsctp")]
     let mut theirs = usrsctp::Theirs::new();
-    #[cfg(feature = "usrsctp")]
-    pairs.push(("libusrsctp", &mut theirs));
-    let (names, mut pairs): (Vec<&str>, Vec<&mut dyn Pair>) = pairs.into_iter().unzip();
+    let mut pairs: Vec<&mut dyn Pair> = vec![
+        &mut ours,
+        #[cfg(feature = "usrsctp")]
+        &mut theirs,
+    ];
     let times = paths::times(&mut pairs);
-    for (name, times) in names.iter().zip(&times) {
+    for (name, times) in ["Oilwhisper", "libusrsctp"].iter().zip(&times) {
         let (receiving, sending) = (1.0 / times.receiving, 1.0 / times.sending);
         let payload = MESSAGE as f64 * 1e-6;
         println!("{:<12} {:>13.0} {:>13.2} {:>22.0} {:>13.2}", name, receiving, receiving * payload, sending, sending * payload);

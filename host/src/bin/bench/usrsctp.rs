@@ -40,8 +40,8 @@ struct PathParameters {
     dscp: u8,
 }
 
-#[link(name = "usrsctp")]
 extern "C" {
+    fn refuse_threads(refuse: bool);
     fn usrsctp_init_nothreads(port: u16, output: Output, debug: *const c_void);
     fn usrsctp_register_address(address: *mut c_void);
     fn usrsctp_socket(
@@ -163,7 +163,9 @@ impl Theirs {
     /// The library keeps its own state in the process, so there is to be one pair only.
     pub fn new() -> Theirs {
         unsafe {
+            refuse_threads(true);
             usrsctp_init_nothreads(0, output, null());
+            refuse_threads(false);
             let (sender, listener) = (socket(0), socket(1));
             assert_eq!(usrsctp_listen(listener, 1), 0);
             // Not 0: it is under way, and the socket does not block.
