@@ -1,4 +1,4 @@
-//! Processor time, and the least of several rounds.
+//! Processor time, bytes copied, and the least of several rounds.
 
 const ROUNDS: usize = 9;
 const ROUND: f64 = 0.02;
@@ -17,6 +17,14 @@ pub fn used() -> f64 {
     let mut time = Timespec { seconds: 0, nanoseconds: 0 };
     assert_eq!(unsafe { clock_gettime(THREAD_CPUTIME, &mut time) }, 0);
     time.seconds as f64 + time.nanoseconds as f64 * 1e-9
+}
+
+/// Bytes that memcpy and memset were asked for by what is linked into this program.
+pub fn copied() -> u64 {
+    extern "C" {
+        fn counted_bytes() -> u64;
+    }
+    unsafe { counted_bytes() }
 }
 
 /// Seconds of one call of each work: the least of rounds in which they take turns, so that a busy machine harms them alike.

@@ -10,7 +10,7 @@ mod paths;
 mod usrsctp;
 
 use oilwhisper::ffi::{Arrived, Record};
-use paths::{Ours, Pair, Times, MESSAGE};
+use paths::{Cost, Ours, Pair, MESSAGE};
 use std::arch::x86_64::__cpuid;
 use std::mem::size_of;
 
@@ -46,9 +46,6 @@ fn processor() -> &'static str {
 }
 
 fn print_paths() {
-    println!("\nPaths: messages of {} bytes, one in a packet, a SACK for every second packet", MESSAGE);
-    println!("{:<12} {:>24} {:>36}", "", "receive: arrive, take, sack", "send: hand_in, transmit, SACK arrives");
-    println!("{:<12} {:>13} {:>13} {:>22} {:>13}", "", "packets/s", "MB/s", "packets/s", "MB/s");
     let mut ours = Ours::new();
     #[cfg(feature = "usrsctp")]
     let mut theirs = usrsctp::Theirs::new();
@@ -57,17 +54,22 @@ fn print_paths() {
         #[cfg(feature = "usrsctp")]
         &mut theirs,
     ];
-    let times = paths::times(&mut pairs);
-    for (name, times) in ["Oilwhisper", "libusrsctp"].iter().zip(&times) {
-        let (receiving, sending) = (1.0 / times.receiving, 1.0 / times.sending);
-        let payload = MESSAGE as f64 * 1e-6;
-        println!("{:<12} {:>13.0} {:>13.2} {:>22.0} {:>13.2}", name, receiving, receiving * payload, sending, sending * payload);
+    let costs = paths::costs(&mut pairs);
+    println!("\nPaths: messages of {} bytes, one in a packet, a SACK for every second packet", MESSAGE);
+    print_path("receive: arrive, take, sack", costs.iter().map(|costs| costs.receiving));
+    print_path("send: hand_in, transmit, SACK arrives", costs.iter().map(|costs| costs.sending));
+}
+
+fn print_path(name: &str, costs: impl Iterator<Item = Cost>) {
+    println!("{:<38} {:>12} {:>10} {:>20}", name, "packets/s", "MB/s", "copied for a packet");
+    let costs: Vec<Cost> = costs.collect();
+    for (library, cost) in ["Oilwhisper", "libusrsctp"].iter().zip(&costs) {
+        let packets = 1.0 / cost.seconds;
+        println!("  {:<36} {:>12.0} {:>10.2} {:>20.0}", library, packets, packets * MESSAGE as f64 * 1e-6, cost.copied);
     }
-    match times[..] {
-        [ours, Times { receiving, sending }] => {
-            println!("{:<12} {:>27.3} {:>36.3}   (the aim: 1 or more)", "ratio", receiving / ours.receiving, sending / ours.sending)
-        }
-        _ => println!("(built without feature usrsctp: nothing to compare with)"),
+    match costs[..] {
+        [ours, theirs] => println!("  {:<36} {:>12.3} {:>31.1}", "ratio (aim 1)", theirs.seconds / ours.seconds, ours.copied / theirs.copied),
+        _ => println!("  (built without feature usrsctp: nothing to compare with)"),
     }
 }
 

@@ -2,6 +2,7 @@
 //! afterwards was in use.
 
 use crate::checksum;
+use crate::clock::copied;
 use crate::ends::{open, Opened};
 use crate::filling::{fill, Filled, Lone};
 use oilwhisper::ffi::{Echoed, Lent};
@@ -22,7 +23,6 @@ extern "C" {
     fn pthread_attr_setstack(attributes: *mut Attributes, lowest: *mut u8, size: usize) -> i32;
     fn pthread_create(thread: *mut usize, attributes: *const Attributes, start: Start, argument: *mut c_void) -> i32;
     fn pthread_join(thread: usize, answer: *mut *mut c_void) -> i32;
-    fn counted_bytes() -> u64;
 }
 
 type Call<'a> = &'a mut dyn FnMut();
@@ -42,10 +42,9 @@ pub struct Needs {
 }
 
 fn needs(name: &'static str, empty: &Needs, call: Call) -> Needs {
-    let before = unsafe { counted_bytes() };
+    let before = copied();
     let stack = overwritten(call);
-    let copied = unsafe { counted_bytes() } - before;
-    Needs { name, stack: stack - empty.stack, copied: copied - empty.copied }
+    Needs { name, stack: stack - empty.stack, copied: copied() - before - empty.copied }
 }
 
 /// Bytes of a painted stack that were written on while a thread made the call.

@@ -1,6 +1,6 @@
 //! The receive path and the send path: batches of messages from one end to the other, with the time of each end told apart.
 
-use crate::clock::used;
+use crate::clock::{copied, used};
 use crate::ends::{open, End, Opened};
 use oilwhisper::calls::{Echoed, Lent, OUTPUT};
 
@@ -24,61 +24,77 @@ pub trait Pair {
     fn expire(&mut self);
 }
 
-/// Seconds for a packet.
-#[derive(Clone, Copy)]
-pub struct Times {
-    pub receiving: f64,
-    pub sending: f64,
+/// What a packet costs on one path.
+#[derive(Clone, Copy, Default)]
+pub struct Cost {
+    pub seconds: f64,
+    pub copied: f64,
+}
+
+impl Cost {
+    fn add<T>(&mut self, work: impl FnOnce() -> T) -> T {
+        let (seconds, bytes) = (used(), copied());
+        let answer = work();
+        self.seconds += used() - seconds;
+        self.copied += (copied() - bytes) as f64;
+        answer
+    }
+
+    fn of_each(self, packets: usize) -> Cost {
+        Cost { seconds: self.seconds / packets as f64, copied: self.copied / packets as f64 }
+    }
+
+    fn lesser(self, other: Cost) -> Cost {
+        if other.seconds < self.seconds {
+            other
+        } else {
+            self
+        }
+    }
+}
+
+#[derive(Clone, Copy, Default)]
+pub struct Costs {
+    pub receiving: Cost,
+    pub sending: Cost,
 }
 
 /// The least of rounds in which the pairs take turns.
-pub fn times(pairs: &mut [&mut dyn Pair]) -> Vec<Times> {
+pub fn costs(pairs: &mut [&mut dyn Pair]) -> Vec<Costs> {
     for pair in pairs.iter_mut() {
         batches(*pair, WARMING);
     }
-    let mut least = vec![Times { receiving: f64::INFINITY, sending: f64::INFINITY }; pairs.len()];
-    for _ in 0..ROUNDS {
+    let mut least: Vec<Costs> = pairs.iter_mut().map(|pair| batches(*pair, BATCHES)).collect();
+    for _ in 1..ROUNDS {
         for (pair, least) in pairs.iter_mut().zip(&mut least) {
             let round = batches(*pair, BATCHES);
-            least.receiving = least.receiving.min(round.receiving);
-            least.sending = least.sending.min(round.sending);
+            *least = Costs { receiving: least.receiving.lesser(round.receiving), sending: least.sending.lesser(round.sending) };
         }
     }
     least
 }
 
-fn batches(pair: &mut dyn Pair, count: usize) -> Times {
-    let mut sum = Times { receiving: 0.0, sending: 0.0 };
+fn batches(pair: &mut dyn Pair, count: usize) -> Costs {
+    let mut costs = Costs::default();
     for _ in 0..count {
-        let times = batch(pair);
-        sum.receiving += times.receiving;
-        sum.sending += times.sending;
+        batch(pair, &mut costs);
     }
-    let packets = (count * BATCH) as f64;
-    Times { receiving: sum.receiving / packets, sending: sum.sending / packets }
+    Costs { receiving: costs.receiving.of_each(count * BATCH), sending: costs.sending.of_each(count * BATCH) }
 }
 
 /// A batch from beginning to end. It takes several turns only while the congestion window is smaller than it.
-fn batch(pair: &mut dyn Pair) -> Times {
-    let mut times = Times { receiving: 0.0, sending: 0.0 };
+fn batch(pair: &mut dyn Pair, costs: &mut Costs) {
     let mut taken = 0;
-    let begin = used();
-    pair.send(BATCH);
-    times.sending += used() - begin;
+    costs.sending.add(|| pair.send(BATCH));
     while taken < BATCH {
-        let begin = used();
-        let new = pair.receive();
-        let between = used();
-        pair.acknowledge();
-        times.receiving += between - begin;
-        times.sending += used() - between;
+        let new = costs.receiving.add(|| pair.receive());
+        costs.sending.add(|| pair.acknowledge());
         taken += new;
         if new == 0 {
             pair.expire();
         }
     }
     assert_eq!(taken, BATCH);
-    times
 }
 
 /// Packets on their way, in buffers that are used again and again.
