@@ -30,6 +30,27 @@ fn main() {
         println!("cargo:rustc-link-search=native={}", folder.display());
     }
     println!("cargo:rustc-link-lib=static=surface");
+    if env::var_os("CARGO_FEATURE_BENCH").is_some() {
+        compile("sliced.c");
+        compile("wrapped.c");
+        println!("cargo:rustc-link-arg-bin=bench=-Wl,--wrap=memcpy,--wrap=memset");
+    }
+    if env::var_os("CARGO_FEATURE_USRSCTP").is_some() {
+        println!("cargo:rustc-link-arg-bin=bench=-l:libusrsctp.a");
+    }
+}
+
+/// C of the benchmark, for its program alone.
+fn compile(name: &str) {
+    let source = Path::new("src/bin/bench").join(name);
+    let object = PathBuf::from(env::var_os("OUT_DIR").unwrap_or_default()).join(name).with_extension("o");
+    let compiler = if env::var_os("TARGET") == env::var_os("HOST") { "cc" } else { "x86_64-linux-gnu-gcc" };
+    println!("cargo:rerun-if-changed={}", source.display());
+    match Command::new(compiler).args(["-std=c99", "-O2", "-c", "-o"]).arg(&object).arg(&source).status() {
+        Ok(status) if status.success() => println!("cargo:rustc-link-arg-bin=bench={}", object.display()),
+        Ok(_) => give_up(&format!("{} does not compile {}", compiler, source.display())),
+        Err(e) => give_up(&format!("cannot run {} to compile {}: {}", compiler, source.display(), e)),
+    }
 }
 
 fn repository() -> PathBuf {
