@@ -10,7 +10,7 @@
  *   - a slice is two parameters, a pointer and a count of bytes. The pointer is not null, not even for a count of 0, and so many bytes are there;
  *   - what a call may write (`uint8_t *`) overlaps nothing else that it was lent;
  *   - a `bool` is 0 or 1, in a record too.
- * Addresses and counts have 64 bits. A call needs some stack, since it works on copies of a record of 7 KB.
+ * Addresses and counts have 64 bits. A call works on copies of a record of 7 KB: give it 256 KB of stack.
  *
  * Every answer begins with `number`: 0, or one of the numbers below. A refused call gives the record back as it came and writes no byte; a packet that is
  * let in may have refused chunks, each of which leaves all but what is said at OW_DUPLICATE and OW_STRAY. A call that is not refused writes the bytes of its
