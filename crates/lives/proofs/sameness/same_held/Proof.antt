@@ -1,0 +1,62 @@
+use borrow.Author.Needs.{needs}
+use Prim.Native.Nat.{_-_}
+use Rattle.scans.specs.Scan.{long-mapped}
+use Rattle.lives.proofs.sameness.same_held.Statement.{statement}
+use Rattle.lives.proofs.sameness.same_held.Tie as tie
+
+abbrev Inv-loop : tie.InvT-loop
+Inv-loop a b i₀ i = Unit
+
+abbrev μ-loop : tie.MeasureT-loop
+μ-loop a b i₀ i = 128 - i
+
+loop-holds : tie.Need-loop-holds Inv-loop μ-loop
+loop-holds c = search needs
+
+mul-x : tie.Need-mul-x Inv-loop μ-loop
+mul-x c = search (needs, long-mapped)
+
+array-copy-out-x : tie.Need-array-copy-out-x Inv-loop μ-loop
+array-copy-out-x c = search (needs, long-mapped)
+
+mul-y : tie.Need-mul-y Inv-loop μ-loop
+mul-y c = search (needs, long-mapped)
+
+array-copy-out-y : tie.Need-array-copy-out-y Inv-loop μ-loop
+array-copy-out-y c = search (needs, long-mapped)
+
+is-held-alike-requires : tie.Need-is-held-alike-requires Inv-loop μ-loop
+is-held-alike-requires c κs = search needs
+
+returns : tie.Need-returns Inv-loop μ-loop
+returns c = search needs
+
+add-i : tie.Need-add-i Inv-loop μ-loop
+add-i c = search (needs, long-mapped)
+
+loop-less : tie.Need-loop-less Inv-loop μ-loop
+loop-less c = search (needs, long-mapped)
+
+loop-again : tie.Need-loop-again Inv-loop μ-loop
+loop-again c = search needs
+
+returns-2 : tie.Need-returns-2 Inv-loop μ-loop
+returns-2 c = search needs
+
+pub same-held-spec : {M : Type 1} → statement M
+same-held-spec =
+    tie.close
+    (tie.spec
+    Inv-loop
+    μ-loop
+    loop-holds
+    mul-x
+    array-copy-out-x
+    mul-y
+    array-copy-out-y
+    is-held-alike-requires
+    returns
+    add-i
+    loop-less
+    loop-again
+    returns-2)
