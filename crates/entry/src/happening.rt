@@ -1,0 +1,25 @@
+// The thin entry. Its proof is a walk over its MIR, which `tools/gen_entry` writes from `tools/entry.json`.
+use crate::running;
+use crate::told::Told;
+use association::Association;
+ghost use Rattle.entry.specs.Event.{eventOf};
+ghost use Rattle.entry.specs.Happening.{lent, happened};
+ghost use Rattle.entry.specs.HappeningLaws.{Served};
+
+// One event of a record that the host lends.
+pub fn happen(
+    a: &mut Association,
+    code: u8,
+    values: &[u32],
+    received: &mut [u8],
+    sent: &mut [u8],
+    input: &[u8],
+    cookie: &[u8],
+    out: &mut [u8],
+) -> Told
+    ensures { λ r. ⌜ Served (happened (now (a .entry)) (eventOf code (now (values .entry))) (lent (now (received .entry)) (now (sent .entry)) (now (input .entry)) (now (cookie .entry)) (now (out .entry)))) r (now (a .exit)) (now (received .exit)) (now (sent .exit)) (now (out .exit)) ⌝ }
+{
+    let o = running::run_coded(*a, code, values, received, sent, input, cookie, out);
+    *a = o.association;
+    o.told
+}
