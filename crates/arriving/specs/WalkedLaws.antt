@@ -4,22 +4,26 @@ use mathlib.Core.Path.{_≡_, refl, sym, ap, _∙_}
 use mathlib.Core.Bool.{Bool, true, false}
 use mathlib.Core.List.{List, [], _++_}
 use native.Mathlib.Omega.{arith}
+use borrow.Author.Tests.{lt-ltb, le-ltb}
 use lib.Dec.{ltb}
 use lib.ListN.{length, take, drop, set, replicate, length-drop}
-use Rattle.scans.specs.Scan.{pick}
+use Rattle.scans.specs.Scan.{pick, either}
 use Rattle.octets.specs.BytesLaws.{part-is}
+use Rattle.octets.specs.Walk.{size as sizeOf}
+use Rattle.octets.specs.WalkLaws.{Folding, folding-one}
 use Rattle.octets.specs.Writing.{fitting, wroteCount, wroteBytes, Wrote}
 use Rattle.octets.specs.WritingLaws.{wrote-within, Gathered, gathered-long, gathered-more}
 use Rattle.steps.specs.declared.chunk.Beside.{Beside}
 use Rattle.association.specs.declared.ends.Association.{Association}
 use Rattle.steps.specs.declared.verdict.Done.{Done}
+use Rattle.steps.specs.declared.verdict.Owed.{Owed}
 use Rattle.steps.specs.declared.verdict.Owed.the-variants.{Nothing}
 use Rattle.steps.specs.Verdict.{Step, doneWith, doneIn}
 use Rattle.steps.specs.Steps.{stepOf, areaOf}
 use Rattle.arriving.specs.declared.verdict.Verdict.{Verdict}
 use Rattle.arriving.specs.declared.walk.Walked.{Walked}
-use Rattle.arriving.specs.Verdict.{unreadAt}
-use Rattle.arriving.specs.Walked.{Turn, turnOf, noted, takenIn, besideAt, turned}
+use Rattle.arriving.specs.Verdict.{unreadAt, verdictOf}
+use Rattle.arriving.specs.Walked.{Turn, turnOf, noted, owes, isDue, takenIn, besideAt, turned}
 
 -- which way a test goes
 so : {A : Type 0} {t : Bool} (a b : A) → t ≡ true → a ≡ pick t a b
@@ -126,3 +130,55 @@ started a area v = record {
   area = area;
   reply = [];
 }
+
+-- the walk in its parts
+abbrev pub walkedAs : Association → ℕ → List Verdict → ℕ → Bool → Bool → Owed → Walked
+walkedAs a n vs used unread due complete =
+    record { association = a; count = n; verdicts = vs; used = used; unread = unread; due = due; complete = complete }
+
+-- one verdict more, where there is room for it and where there is none
+module _ (w : Walked) (v : Verdict) where
+  pub noted-room : {u : Verdict} → u ≡ v → w .count < 365
+      → walkedAs (w .association) (w .count + 1) (set (w .verdicts) (w .count) u) (w .used) (w .unread) (w .due) (w .complete) ≡ noted w v
+  unfolding noted
+  noted-room {u} e h =
+      ap (λ (x : Verdict). walkedAs (w .association) (w .count + 1) (set (w .verdicts) (w .count) x) (w .used) (w .unread) (w .due) (w .complete)) e
+      ∙ so _ _ (lt-ltb (w .count) 365 h)
+
+  pub noted-full : 365 ≤ w .count → w ≡ noted w v
+  unfolding noted
+  noted-full h = not-so _ _ (le-ltb (w .count) 365 h)
+
+-- a chunk taken in, likewise
+module _ (w : Walked) (at : ℕ) (d : Done) {v : Verdict} (e : v ≡ verdictOf at d)
+    {due : Bool} (k : due ≡ either (w .due) (isDue (d .owed))) {complete : Owed} (m : complete ≡ owes (w .complete) (d .owed)) where
+  pub taken-room : w .count < 365
+      → walkedAs (d .association) (w .count + 1) (set (w .verdicts) (w .count) v) (w .used + d .written) (d .unread) due complete ≡ takenIn w at d
+  unfolding takenIn
+  taken-room h =
+      (λ i. walkedAs (d .association) (w .count + 1) (set (w .verdicts) (w .count) v) (w .used + d .written) (d .unread) (k i) (m i)) ∙ noted-room _ _ e h
+
+  pub taken-full : 365 ≤ w .count → walkedAs (d .association) (w .count) (w .verdicts) (w .used + d .written) (d .unread) due complete ≡ takenIn w at d
+  unfolding takenIn
+  taken-full h = (λ i. walkedAs (d .association) (w .count) (w .verdicts) (w .used + d .written) (d .unread) (k i) (m i)) ∙ noted-full _ _ h
+
+-- the walk goes on over the chunk at `at`, which is s, of n bytes
+module _ (b : Beside) (cookie packet : List ℕ) (w : Walked) (area xs : List ℕ) (at : ℕ) {t : Turn}
+    (f : Folding (λ (u : Turn) (s : List ℕ). turned (length packet - length s) b cookie s u) packet t 12 (turnOf w area xs) at)
+    (here : at < length packet) (long : length xs ≡ 1460) (fit : w .used ≤ 1460)
+    {s : List ℕ} (there : s ≡ take (length packet - at) (drop at packet)) {n : ℕ} (wide : n ≡ sizeOf s) where
+  abbrev pub Onward : Turn → Type 0
+  Onward q = Folding (λ (u : Turn) (s : List ℕ). turned (length packet - length s) b cookie s u) packet t 12 q (at + n)
+
+  onward : {q : Turn} → q ≡ turned at b cookie s (turnOf w area xs) → Onward q
+  onward e = folding-one f here there (turned-there packet at b cookie (turnOf w area xs) here s there e) wide
+
+  pub over-unread : w .unread ≡ true → {r : Walked} → r ≡ noted w (unreadAt at) → (r .used ≤ 1460) × Onward (turnOf r area xs)
+  over-unread h e = (turn-unread at b cookie s w area xs long fit h e .1, onward (turn-unread at b cookie s w area xs long fit h e .0))
+
+  pub over-read : {d : Done} → d ≡ doneIn (part at b cookie s w area xs long fit) (stepIn at b cookie s w area xs long fit (length (part at b cookie s w area xs long fit)))
+      → {ys : List ℕ} → ys ≡ wroteBytes (part at b cookie s w area xs long fit) (stepIn at b cookie s w area xs long fit (length (part at b cookie s w area xs long fit)) .reply)
+      → w .unread ≡ false → {r : Walked} {area' : List ℕ} → area' ≡ areaOf (w .association) (besideAt at b) area s → r ≡ takenIn w at d
+      → (r .used ≤ 1460) × Onward (turnOf r area' (take (w .used) xs ++ (ys ++ drop (length xs - w .used) (drop (w .used) xs))))
+  over-read {d} e {ys} y h {r} {area'} k m =
+      (turn-read at b cookie s w area xs long fit e y h k m .1, onward (turn-read at b cookie s w area xs long fit e y h k m .0))

@@ -3,13 +3,12 @@ use crate::verdict::Verdict;
 use association::Association;
 use octets::size;
 use steps::Beside;
-use steps::Done;
 use steps::Owed;
 ghost use mathlib.Core.Path.{_≡_};
 ghost use Prim.Native.Nat.{_≤_, _+_};
 ghost use lib.ListN.{length};
 ghost use Rattle.scans.specs.Scan.{either};
-ghost use Rattle.arriving.specs.Walked.{noted, owes, isDue, takenIn, turnOf, turned, begun, walkedOver};
+ghost use Rattle.arriving.specs.Walked.{owes, isDue, turnOf, begun, walkedOver};
 
 // The most chunks that a packet holds: (1,472 - 12) / 4.
 pub const CHUNKS: usize = 365;
@@ -27,19 +26,6 @@ pub struct Walked {
     pub unread: bool,
     pub due: bool,
     pub complete: Owed,
-}
-
-// One verdict more.
-fn note(mut w: Walked, v: Verdict) -> Walked
-    ensures { λ r. ⌜ r ≡ noted w v ⌝ }
-{
-    let n = w.count;
-    if n < CHUNKS {
-        w.verdicts[n] = v;
-        w.count = n + 1;
-        return w;
-    }
-    w
 }
 
 // The first SHUTDOWN COMPLETE that is owed stands.
@@ -74,55 +60,6 @@ fn is_due_after(before: bool, o: Owed) -> bool
     is_due(o)
 }
 
-// What a chunk leaves.
-fn taken_in(w: Walked, at: usize, d: Done) -> Walked
-    requires { ⌜ w .used + d .written ≤ 1460 ⌝ }
-    ensures { λ r. ⌜ r ≡ takenIn w at d ⌝ }
-{
-    let v = Verdict::of(at, d);
-    let association = d.association;
-    let verdicts = w.verdicts;
-    let owed = d.owed;
-    let before = w.complete;
-    let due = is_due_after(w.due, owed);
-    let complete = owe(before, owed);
-    note(
-        Walked {
-            association,
-            count: w.count,
-            verdicts,
-            used: w.used + d.written,
-            unread: d.unread,
-            due,
-            complete,
-        },
-        v,
-    )
-}
-
-// The chunk at the head of `s`, which begins at `at`.
-fn turn(
-    w: Walked,
-    area: &mut [u8],
-    mut b: Beside,
-    cookie: &[u8],
-    s: &[u8],
-    at: usize,
-    scratch: &mut [u8],
-) -> Walked
-    requires { ⌜ (w .used ≤ 1460) × (length (now scratch) ≡ 1460) ⌝ }
-    ensures { λ r. ⌜ (turnOf r (now (area .exit)) (now (scratch .exit)) ≡ turned at b (now (cookie .entry)) (now (s .entry)) (turnOf w (now (area .entry)) (now (scratch .entry)))) × (r .used ≤ 1460) ⌝ }
-{
-    if w.unread {
-        return note(w, Verdict::unread(at));
-    }
-    b.first = at == 12;
-    let used = w.used;
-    let a = w.association;
-    let d = steps::step(a, area, b, cookie, s, &mut scratch[used..]);
-    taken_in(w, at, d)
-}
-
 // All chunks of a packet. The replies stand at the head of `scratch`.
 pub(crate) fn walk_over(
     a: Association,
@@ -136,20 +73,53 @@ pub(crate) fn walk_over(
     ensures { λ r. ⌜ (turnOf r (now (area .exit)) (now (scratch .exit)) ≡ walkedOver b (now (cookie .entry)) (now (packet .entry)) (begun a (now (area .entry)))) × (r .used ≤ 1460) ⌝ }
 {
     let none = Verdict::unread(0);
-    let mut w = Walked {
-        association: a,
-        count: 0,
-        verdicts: [none; CHUNKS],
-        used: 0,
-        unread: false,
-        due: false,
-        complete: Owed::Nothing,
-    };
+    let mut association = a;
+    let mut verdicts = [none; CHUNKS];
+    let mut count: usize = 0;
+    let mut used: usize = 0;
+    let mut unread = false;
+    let mut due = false;
+    let mut complete = Owed::Nothing;
     let mut at = 12;
     while at < packet.len() {
         let s = &packet[at..];
-        w = turn(w, area, b, cookie, s, at, scratch);
-        at += size(s);
+        if unread {
+            if count < CHUNKS {
+                let v = Verdict::unread(at);
+                verdicts[count] = v;
+                count += 1;
+                at += size(s);
+            } else {
+                at += size(s);
+            }
+        } else {
+            let mut beside = b;
+            beside.first = at == 12;
+            let d = steps::step(association, area, beside, cookie, s, &mut scratch[used..]);
+            let v = Verdict::of(at, d);
+            let owed = d.owed;
+            let after = d.association;
+            association = after;
+            used += d.written;
+            unread = d.unread;
+            due = is_due_after(due, owed);
+            complete = owe(complete, owed);
+            if count < CHUNKS {
+                verdicts[count] = v;
+                count += 1;
+                at += size(s);
+            } else {
+                at += size(s);
+            }
+        }
     }
-    w
+    Walked {
+        association,
+        count,
+        verdicts,
+        used,
+        unread,
+        due,
+        complete,
+    }
 }
