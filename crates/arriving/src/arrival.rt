@@ -15,7 +15,7 @@ ghost use mathlib.Core.Path.{_≡_};
 ghost use Prim.Native.Nat.{_≤_};
 ghost use lib.ListN.{length, take};
 ghost use Rattle.arriving.specs.Walked.{turnOf};
-ghost use Rattle.arriving.specs.Arrival.{lentNumber, packetNumber, refusedWith, passed, answeredLength, answeredOut, acceptedAs, LetIn, arrivedOf, areaOf, outOf};
+ghost use Rattle.arriving.specs.Arrival.{lentNumber, packetNumber, refusedWith, passed, answeredLength, answeredOut, LetIn, arrivedOf, areaOf, outOf};
 
 // The number of the packet, 0 if it was let in; then the verdicts of its chunks, the length of the reply, and the record.
 pub struct Arrived {
@@ -94,20 +94,6 @@ fn answer(w: Walked, packet: &[u8], mut scratch: [u8; ROOM], out: &mut [u8]) -> 
     reply::send(h, &scratch[0..n], out)
 }
 
-fn accepted(w: Walked, length: usize) -> Arrived
-    ensures { λ r. ⌜ r ≡ acceptedAs w length ⌝ }
-{
-    let association = w.association;
-    let verdicts = w.verdicts;
-    Arrived {
-        number: 0,
-        count: w.count,
-        verdicts,
-        length,
-        association,
-    }
-}
-
 fn let_in(
     a: Association,
     area: &mut [u8],
@@ -129,7 +115,15 @@ fn let_in(
     let mut scratch = [0u8; ROOM];
     let w = walk::walk_over(a, area, b, cookie, packet, &mut scratch);
     let length = answer(w, packet, scratch, out);
-    accepted(w, length)
+    let association = w.association;
+    let verdicts = w.verdicts;
+    Arrived {
+        number: 0,
+        count: w.count,
+        verdicts,
+        length,
+        association,
+    }
 }
 
 // A packet: 1, 18, 2, 3, 4, 5, 6 for the whole; then each chunk with its own verdict. On success the first `length` bytes of `out` are the reply.

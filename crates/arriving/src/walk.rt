@@ -62,7 +62,7 @@ fn is_due_after(before: bool, o: Owed) -> bool
 
 // All chunks of a packet. The replies stand at the head of `scratch`.
 pub(crate) fn walk_over(
-    a: Association,
+    mut a: Association,
     area: &mut [u8],
     b: Beside,
     cookie: &[u8],
@@ -73,7 +73,6 @@ pub(crate) fn walk_over(
     ensures { λ r. ⌜ (turnOf r (now (area .exit)) (now (scratch .exit)) ≡ walkedOver b (now (cookie .entry)) (now (packet .entry)) (begun a (now (area .entry)))) × (r .used ≤ 1460) ⌝ }
 {
     let none = Verdict::unread(0);
-    let mut association = a;
     let mut verdicts = [none; CHUNKS];
     let mut count: usize = 0;
     let mut used: usize = 0;
@@ -95,11 +94,11 @@ pub(crate) fn walk_over(
         } else {
             let mut beside = b;
             beside.first = at == 12;
-            let d = steps::step(association, area, beside, cookie, s, &mut scratch[used..]);
+            let d = steps::step(a, area, beside, cookie, s, &mut scratch[used..]);
             let v = Verdict::of(at, d);
             let owed = d.owed;
             let after = d.association;
-            association = after;
+            a = after;
             used += d.written;
             unread = d.unread;
             due = is_due_after(due, owed);
@@ -114,7 +113,7 @@ pub(crate) fn walk_over(
         }
     }
     Walked {
-        association,
+        association: a,
         count,
         verdicts,
         used,

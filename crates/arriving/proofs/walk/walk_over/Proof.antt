@@ -22,11 +22,11 @@ use Rattle.octets.proofs.size.Reads as size-reads
 use Rattle.steps.proofs.step.Reads as step-reads
 
 abbrev Inv-loop : tie.InvT-loop
-Inv-loop area₀ b cookie packet scratch₀ association₀ verdicts₀ count₀ used₀ unread₀ due₀ complete₀ at₀ area scratch association verdicts count used unread due complete at =
-    (used ≤ 1460) × (length area ≡ length area₀) × (length scratch ≡ length scratch₀) × Folding (λ (u : Turn) (s : List ℕ). turned (length packet - length s) b cookie s u) packet (turnOf (walkedAs association₀ count₀ verdicts₀ used₀ unread₀ due₀ complete₀) area₀ scratch₀) 12 (turnOf (walkedAs association count verdicts used unread due complete) area scratch) at
+Inv-loop a₀ area₀ b cookie packet scratch₀ verdicts₀ count₀ used₀ unread₀ due₀ complete₀ at₀ a area scratch verdicts count used unread due complete at =
+    (used ≤ 1460) × (length area ≡ length area₀) × (length scratch ≡ length scratch₀) × Folding (λ (u : Turn) (s : List ℕ). turned (length packet - length s) b cookie s u) packet (turnOf (walkedAs a₀ count₀ verdicts₀ used₀ unread₀ due₀ complete₀) area₀ scratch₀) 12 (turnOf (walkedAs a count verdicts used unread due complete) area scratch) at
 
 abbrev μ-loop : tie.MeasureT-loop
-μ-loop area₀ b cookie packet scratch₀ association₀ verdicts₀ count₀ used₀ unread₀ due₀ complete₀ at₀ area scratch association verdicts count used unread due complete at =
+μ-loop a₀ area₀ b cookie packet scratch₀ verdicts₀ count₀ used₀ unread₀ due₀ complete₀ at₀ a area scratch verdicts count used unread due complete at =
     length packet - at
 
 -- src/walk.rt:83:9
@@ -80,7 +80,7 @@ loop-less c = search needs
 -- src/walk.rt:92:5
 loop-again : tie.Need-loop-again Inv-loop μ-loop
 loop-again c =
-    let z = over-unread (c .before .before .before .before .before .before .before .before .before .before .before .before .args .b) (c .before .before .before .before .before .before .before .before .before .before .before .before .args .cookie .now) (c .before .before .before .before .before .before .before .before .before .before .before .before .args .packet .now) (walkedAs (c .before .before .before .before .before .before .loop .association) (c .before .before .before .before .before .before .loop .count) (c .before .before .before .before .before .before .loop .verdicts) (c .before .before .before .before .before .before .loop .used) (c .before .before .before .before .before .before .loop .unread) (c .before .before .before .before .before .before .loop .due) (c .before .before .before .before .before .before .loop .complete)) (c .before .before .before .before .before .before .loop .area) (c .before .before .before .before .before .before .loop .scratch) (c .before .before .before .before .before .before .loop .at) (c .before .before .before .before .before .before .loop .inv .3) (c .before .before .before .before .before .loop-test .taken) (c .before .before .before .before .before .before .loop .inv .2 ∙ c .before .before .before .before .before .before .before .before .before .before .before .before .pre) (c .before .before .before .before .before .before .loop .inv .0) refl (c .size .ensures .0) (c .before .before .before .if1 .taken) (noted-room (walkedAs (c .before .before .before .before .before .before .loop .association) (c .before .before .before .before .before .before .loop .count) (c .before .before .before .before .before .before .loop .verdicts) (c .before .before .before .before .before .before .loop .used) (c .before .before .before .before .before .before .loop .unread) (c .before .before .before .before .before .before .loop .due) (c .before .before .before .before .before .before .loop .complete)) (unreadAt (c .before .before .before .before .before .before .loop .at)) (c .before .unread2 .ensures) (c .before .before .if2 .taken)) in
+    let z = over-unread (c .before .before .before .before .before .before .before .before .before .before .before .before .args .b) (c .before .before .before .before .before .before .before .before .before .before .before .before .args .cookie .now) (c .before .before .before .before .before .before .before .before .before .before .before .before .args .packet .now) (walkedAs (c .before .before .before .before .before .before .loop .a) (c .before .before .before .before .before .before .loop .count) (c .before .before .before .before .before .before .loop .verdicts) (c .before .before .before .before .before .before .loop .used) (c .before .before .before .before .before .before .loop .unread) (c .before .before .before .before .before .before .loop .due) (c .before .before .before .before .before .before .loop .complete)) (c .before .before .before .before .before .before .loop .area) (c .before .before .before .before .before .before .loop .scratch) (c .before .before .before .before .before .before .loop .at) (c .before .before .before .before .before .before .loop .inv .3) (c .before .before .before .before .before .loop-test .taken) (c .before .before .before .before .before .before .loop .inv .2 ∙ c .before .before .before .before .before .before .before .before .before .before .before .before .pre) (c .before .before .before .before .before .before .loop .inv .0) refl (c .size .ensures .0) (c .before .before .before .if1 .taken) (noted-room (walkedAs (c .before .before .before .before .before .before .loop .a) (c .before .before .before .before .before .before .loop .count) (c .before .before .before .before .before .before .loop .verdicts) (c .before .before .before .before .before .before .loop .used) (c .before .before .before .before .before .before .loop .unread) (c .before .before .before .before .before .before .loop .due) (c .before .before .before .before .before .before .loop .complete)) (unreadAt (c .before .before .before .before .before .before .loop .at)) (c .before .unread2 .ensures) (c .before .before .if2 .taken)) in
     (z .0, c .before .before .before .before .before .before .loop .inv .1, c .before .before .before .before .before .before .loop .inv .2, z .1)
 
 -- src/walk.rt:101:23
@@ -98,7 +98,7 @@ loop-less-2 c = search needs
 -- src/walk.rt:92:5
 loop-again-2 : tie.Need-loop-again-2 Inv-loop μ-loop
 loop-again-2 c =
-    let z = over-unread (c .before .before .before .before .before .before .before .before .before .before .before .args .b) (c .before .before .before .before .before .before .before .before .before .before .before .args .cookie .now) (c .before .before .before .before .before .before .before .before .before .before .before .args .packet .now) (walkedAs (c .before .before .before .before .before .loop .association) (c .before .before .before .before .before .loop .count) (c .before .before .before .before .before .loop .verdicts) (c .before .before .before .before .before .loop .used) (c .before .before .before .before .before .loop .unread) (c .before .before .before .before .before .loop .due) (c .before .before .before .before .before .loop .complete)) (c .before .before .before .before .before .loop .area) (c .before .before .before .before .before .loop .scratch) (c .before .before .before .before .before .loop .at) (c .before .before .before .before .before .loop .inv .3) (c .before .before .before .before .loop-test .taken) (c .before .before .before .before .before .loop .inv .2 ∙ c .before .before .before .before .before .before .before .before .before .before .before .pre) (c .before .before .before .before .before .loop .inv .0) refl (c .size2 .ensures .0) (c .before .before .if1 .taken) (noted-full (walkedAs (c .before .before .before .before .before .loop .association) (c .before .before .before .before .before .loop .count) (c .before .before .before .before .before .loop .verdicts) (c .before .before .before .before .before .loop .used) (c .before .before .before .before .before .loop .unread) (c .before .before .before .before .before .loop .due) (c .before .before .before .before .before .loop .complete)) (unreadAt (c .before .before .before .before .before .loop .at)) (c .before .if2 .left)) in
+    let z = over-unread (c .before .before .before .before .before .before .before .before .before .before .before .args .b) (c .before .before .before .before .before .before .before .before .before .before .before .args .cookie .now) (c .before .before .before .before .before .before .before .before .before .before .before .args .packet .now) (walkedAs (c .before .before .before .before .before .loop .a) (c .before .before .before .before .before .loop .count) (c .before .before .before .before .before .loop .verdicts) (c .before .before .before .before .before .loop .used) (c .before .before .before .before .before .loop .unread) (c .before .before .before .before .before .loop .due) (c .before .before .before .before .before .loop .complete)) (c .before .before .before .before .before .loop .area) (c .before .before .before .before .before .loop .scratch) (c .before .before .before .before .before .loop .at) (c .before .before .before .before .before .loop .inv .3) (c .before .before .before .before .loop-test .taken) (c .before .before .before .before .before .loop .inv .2 ∙ c .before .before .before .before .before .before .before .before .before .before .before .pre) (c .before .before .before .before .before .loop .inv .0) refl (c .size2 .ensures .0) (c .before .before .if1 .taken) (noted-full (walkedAs (c .before .before .before .before .before .loop .a) (c .before .before .before .before .before .loop .count) (c .before .before .before .before .before .loop .verdicts) (c .before .before .before .before .before .loop .used) (c .before .before .before .before .before .loop .unread) (c .before .before .before .before .before .loop .due) (c .before .before .before .before .before .loop .complete)) (unreadAt (c .before .before .before .before .before .loop .at)) (c .before .if2 .left)) in
     (z .0, c .before .before .before .before .before .loop .inv .1, c .before .before .before .before .before .loop .inv .2, z .1)
 
 -- src/walk.rt:105:71
@@ -123,7 +123,7 @@ of-requires c κs = search needs
 
 -- src/walk.rt:110:13
 add-used : tie.Need-add-used Inv-loop μ-loop
-add-used c = omega (arith, written-within (c .before .before .before .before .before .before .before .before .before .before .before .before .before .loop .at) (c .before .before .before .before .before .before .before .before .before .before .before .before .before .before .before .before .before .before .before .args .b) (c .before .before .before .before .before .before .before .before .before .before .before .before .before .before .before .before .before .before .before .args .cookie .now) _ (walkedAs (c .before .before .before .before .before .before .before .before .before .before .before .before .before .loop .association) (c .before .before .before .before .before .before .before .before .before .before .before .before .before .loop .count) (c .before .before .before .before .before .before .before .before .before .before .before .before .before .loop .verdicts) (c .before .before .before .before .before .before .before .before .before .before .before .before .before .loop .used) (c .before .before .before .before .before .before .before .before .before .before .before .before .before .loop .unread) (c .before .before .before .before .before .before .before .before .before .before .before .before .before .loop .due) (c .before .before .before .before .before .before .before .before .before .before .before .before .before .loop .complete)) (c .before .before .before .before .before .before .before .before .before .before .before .before .before .loop .area) (c .before .before .before .before .before .before .before .before .before .before .before .before .before .loop .scratch) (c .before .before .before .before .before .before .before .before .before .before .before .before .before .loop .inv .2 ∙ c .before .before .before .before .before .before .before .before .before .before .before .before .before .before .before .before .before .before .before .pre) (c .before .before .before .before .before .before .before .before .before .before .before .before .before .loop .inv .0) (c .before .before .before .before .before .before .before .step .ensures .0) (c .before .before .before .before .before .before .before .step .ensures .2))
+add-used c = omega (arith, written-within (c .before .before .before .before .before .before .before .before .before .before .before .before .before .loop .at) (c .before .before .before .before .before .before .before .before .before .before .before .before .before .before .before .before .before .before .before .args .b) (c .before .before .before .before .before .before .before .before .before .before .before .before .before .before .before .before .before .before .before .args .cookie .now) _ (walkedAs (c .before .before .before .before .before .before .before .before .before .before .before .before .before .loop .a) (c .before .before .before .before .before .before .before .before .before .before .before .before .before .loop .count) (c .before .before .before .before .before .before .before .before .before .before .before .before .before .loop .verdicts) (c .before .before .before .before .before .before .before .before .before .before .before .before .before .loop .used) (c .before .before .before .before .before .before .before .before .before .before .before .before .before .loop .unread) (c .before .before .before .before .before .before .before .before .before .before .before .before .before .loop .due) (c .before .before .before .before .before .before .before .before .before .before .before .before .before .loop .complete)) (c .before .before .before .before .before .before .before .before .before .before .before .before .before .loop .area) (c .before .before .before .before .before .before .before .before .before .before .before .before .before .loop .scratch) (c .before .before .before .before .before .before .before .before .before .before .before .before .before .loop .inv .2 ∙ c .before .before .before .before .before .before .before .before .before .before .before .before .before .before .before .before .before .before .before .pre) (c .before .before .before .before .before .before .before .before .before .before .before .before .before .loop .inv .0) (c .before .before .before .before .before .before .before .step .ensures .0) (c .before .before .before .before .before .before .before .step .ensures .2))
 
 -- src/walk.rt:112:13
 is-due-after-requires : tie.Need-is-due-after-requires Inv-loop μ-loop
@@ -160,7 +160,7 @@ loop-less-3 c = search (needs, c .before .before .before .before .before .before
 -- src/walk.rt:92:5
 loop-again-3 : tie.Need-loop-again-3 Inv-loop μ-loop
 loop-again-3 c =
-    let z = over-read (c .before .before .before .before .before .before .before .before .before .before .before .before .before .before .before .before .before .before .before .before .before .before .before .args .b) (c .before .before .before .before .before .before .before .before .before .before .before .before .before .before .before .before .before .before .before .before .before .before .before .args .cookie .now) (c .before .before .before .before .before .before .before .before .before .before .before .before .before .before .before .before .before .before .before .before .before .before .before .args .packet .now) (walkedAs (c .before .before .before .before .before .before .before .before .before .before .before .before .before .before .before .before .before .loop .association) (c .before .before .before .before .before .before .before .before .before .before .before .before .before .before .before .before .before .loop .count) (c .before .before .before .before .before .before .before .before .before .before .before .before .before .before .before .before .before .loop .verdicts) (c .before .before .before .before .before .before .before .before .before .before .before .before .before .before .before .before .before .loop .used) (c .before .before .before .before .before .before .before .before .before .before .before .before .before .before .before .before .before .loop .unread) (c .before .before .before .before .before .before .before .before .before .before .before .before .before .before .before .before .before .loop .due) (c .before .before .before .before .before .before .before .before .before .before .before .before .before .before .before .before .before .loop .complete)) (c .before .before .before .before .before .before .before .before .before .before .before .before .before .before .before .before .before .loop .area) (c .before .before .before .before .before .before .before .before .before .before .before .before .before .before .before .before .before .loop .scratch) (c .before .before .before .before .before .before .before .before .before .before .before .before .before .before .before .before .before .loop .at) (c .before .before .before .before .before .before .before .before .before .before .before .before .before .before .before .before .before .loop .inv .3) (c .before .before .before .before .before .before .before .before .before .before .before .before .before .before .before .before .loop-test .taken) (c .before .before .before .before .before .before .before .before .before .before .before .before .before .before .before .before .before .loop .inv .2 ∙ c .before .before .before .before .before .before .before .before .before .before .before .before .before .before .before .before .before .before .before .before .before .before .before .pre) (c .before .before .before .before .before .before .before .before .before .before .before .before .before .before .before .before .before .loop .inv .0) refl (c .size3 .ensures .0) (c .before .before .before .before .before .before .before .before .before .before .before .step .ensures .0) (c .before .before .before .before .before .before .before .before .before .before .before .step .ensures .2) (c .before .before .before .before .before .before .before .before .before .before .before .before .before .before .if1 .left) (c .before .before .before .before .before .before .before .before .before .before .before .step .ensures .1) (taken-room (walkedAs (c .before .before .before .before .before .before .before .before .before .before .before .before .before .before .before .before .before .loop .association) (c .before .before .before .before .before .before .before .before .before .before .before .before .before .before .before .before .before .loop .count) (c .before .before .before .before .before .before .before .before .before .before .before .before .before .before .before .before .before .loop .verdicts) (c .before .before .before .before .before .before .before .before .before .before .before .before .before .before .before .before .before .loop .used) (c .before .before .before .before .before .before .before .before .before .before .before .before .before .before .before .before .before .loop .unread) (c .before .before .before .before .before .before .before .before .before .before .before .before .before .before .before .before .before .loop .due) (c .before .before .before .before .before .before .before .before .before .before .before .before .before .before .before .before .before .loop .complete)) (c .before .before .before .before .before .before .before .before .before .before .before .before .before .before .before .before .before .loop .at) _ (c .before .before .before .before .before .before .of .ensures) (c .before .before .before .is-due-after .ensures) (c .before .before .owe .ensures) (c .before .if3 .taken)) in
+    let z = over-read (c .before .before .before .before .before .before .before .before .before .before .before .before .before .before .before .before .before .before .before .before .before .before .before .args .b) (c .before .before .before .before .before .before .before .before .before .before .before .before .before .before .before .before .before .before .before .before .before .before .before .args .cookie .now) (c .before .before .before .before .before .before .before .before .before .before .before .before .before .before .before .before .before .before .before .before .before .before .before .args .packet .now) (walkedAs (c .before .before .before .before .before .before .before .before .before .before .before .before .before .before .before .before .before .loop .a) (c .before .before .before .before .before .before .before .before .before .before .before .before .before .before .before .before .before .loop .count) (c .before .before .before .before .before .before .before .before .before .before .before .before .before .before .before .before .before .loop .verdicts) (c .before .before .before .before .before .before .before .before .before .before .before .before .before .before .before .before .before .loop .used) (c .before .before .before .before .before .before .before .before .before .before .before .before .before .before .before .before .before .loop .unread) (c .before .before .before .before .before .before .before .before .before .before .before .before .before .before .before .before .before .loop .due) (c .before .before .before .before .before .before .before .before .before .before .before .before .before .before .before .before .before .loop .complete)) (c .before .before .before .before .before .before .before .before .before .before .before .before .before .before .before .before .before .loop .area) (c .before .before .before .before .before .before .before .before .before .before .before .before .before .before .before .before .before .loop .scratch) (c .before .before .before .before .before .before .before .before .before .before .before .before .before .before .before .before .before .loop .at) (c .before .before .before .before .before .before .before .before .before .before .before .before .before .before .before .before .before .loop .inv .3) (c .before .before .before .before .before .before .before .before .before .before .before .before .before .before .before .before .loop-test .taken) (c .before .before .before .before .before .before .before .before .before .before .before .before .before .before .before .before .before .loop .inv .2 ∙ c .before .before .before .before .before .before .before .before .before .before .before .before .before .before .before .before .before .before .before .before .before .before .before .pre) (c .before .before .before .before .before .before .before .before .before .before .before .before .before .before .before .before .before .loop .inv .0) refl (c .size3 .ensures .0) (c .before .before .before .before .before .before .before .before .before .before .before .step .ensures .0) (c .before .before .before .before .before .before .before .before .before .before .before .step .ensures .2) (c .before .before .before .before .before .before .before .before .before .before .before .before .before .before .if1 .left) (c .before .before .before .before .before .before .before .before .before .before .before .step .ensures .1) (taken-room (walkedAs (c .before .before .before .before .before .before .before .before .before .before .before .before .before .before .before .before .before .loop .a) (c .before .before .before .before .before .before .before .before .before .before .before .before .before .before .before .before .before .loop .count) (c .before .before .before .before .before .before .before .before .before .before .before .before .before .before .before .before .before .loop .verdicts) (c .before .before .before .before .before .before .before .before .before .before .before .before .before .before .before .before .before .loop .used) (c .before .before .before .before .before .before .before .before .before .before .before .before .before .before .before .before .before .loop .unread) (c .before .before .before .before .before .before .before .before .before .before .before .before .before .before .before .before .before .loop .due) (c .before .before .before .before .before .before .before .before .before .before .before .before .before .before .before .before .before .loop .complete)) (c .before .before .before .before .before .before .before .before .before .before .before .before .before .before .before .before .before .loop .at) _ (c .before .before .before .before .before .before .of .ensures) (c .before .before .before .is-due-after .ensures) (c .before .before .owe .ensures) (c .before .if3 .taken)) in
     (z .0, search (needs, c .before .before .before .before .before .before .before .before .before .before .before .before .before .before .before .before .before .loop .inv .1, c .before .before .before .before .before .before .before .before .before .before .area .given, c .before .before .before .before .before .before .before .before .before .slice-known3 .given), search (needs, c .before .before .before .before .before .before .before .before .before .before .before .before .before .before .before .before .before .loop .inv .2, c .before .before .before .before .before .before .before .before .scratch .given, c .before .before .before .before .before .before .before .slice-known4 .given), z .1)
 
 -- src/walk.rt:119:23
@@ -178,7 +178,7 @@ loop-less-4 c = search (needs, c .before .before .before .before .before .before
 -- src/walk.rt:92:5
 loop-again-4 : tie.Need-loop-again-4 Inv-loop μ-loop
 loop-again-4 c =
-    let z = over-read (c .before .before .before .before .before .before .before .before .before .before .before .before .before .before .before .before .before .before .before .before .before .before .before .args .b) (c .before .before .before .before .before .before .before .before .before .before .before .before .before .before .before .before .before .before .before .before .before .before .before .args .cookie .now) (c .before .before .before .before .before .before .before .before .before .before .before .before .before .before .before .before .before .before .before .before .before .before .before .args .packet .now) (walkedAs (c .before .before .before .before .before .before .before .before .before .before .before .before .before .before .before .before .before .loop .association) (c .before .before .before .before .before .before .before .before .before .before .before .before .before .before .before .before .before .loop .count) (c .before .before .before .before .before .before .before .before .before .before .before .before .before .before .before .before .before .loop .verdicts) (c .before .before .before .before .before .before .before .before .before .before .before .before .before .before .before .before .before .loop .used) (c .before .before .before .before .before .before .before .before .before .before .before .before .before .before .before .before .before .loop .unread) (c .before .before .before .before .before .before .before .before .before .before .before .before .before .before .before .before .before .loop .due) (c .before .before .before .before .before .before .before .before .before .before .before .before .before .before .before .before .before .loop .complete)) (c .before .before .before .before .before .before .before .before .before .before .before .before .before .before .before .before .before .loop .area) (c .before .before .before .before .before .before .before .before .before .before .before .before .before .before .before .before .before .loop .scratch) (c .before .before .before .before .before .before .before .before .before .before .before .before .before .before .before .before .before .loop .at) (c .before .before .before .before .before .before .before .before .before .before .before .before .before .before .before .before .before .loop .inv .3) (c .before .before .before .before .before .before .before .before .before .before .before .before .before .before .before .before .loop-test .taken) (c .before .before .before .before .before .before .before .before .before .before .before .before .before .before .before .before .before .loop .inv .2 ∙ c .before .before .before .before .before .before .before .before .before .before .before .before .before .before .before .before .before .before .before .before .before .before .before .pre) (c .before .before .before .before .before .before .before .before .before .before .before .before .before .before .before .before .before .loop .inv .0) refl (c .size4 .ensures .0) (c .before .before .before .before .before .before .before .before .before .before .before .step .ensures .0) (c .before .before .before .before .before .before .before .before .before .before .before .step .ensures .2) (c .before .before .before .before .before .before .before .before .before .before .before .before .before .before .if1 .left) (c .before .before .before .before .before .before .before .before .before .before .before .step .ensures .1) (taken-full (walkedAs (c .before .before .before .before .before .before .before .before .before .before .before .before .before .before .before .before .before .loop .association) (c .before .before .before .before .before .before .before .before .before .before .before .before .before .before .before .before .before .loop .count) (c .before .before .before .before .before .before .before .before .before .before .before .before .before .before .before .before .before .loop .verdicts) (c .before .before .before .before .before .before .before .before .before .before .before .before .before .before .before .before .before .loop .used) (c .before .before .before .before .before .before .before .before .before .before .before .before .before .before .before .before .before .loop .unread) (c .before .before .before .before .before .before .before .before .before .before .before .before .before .before .before .before .before .loop .due) (c .before .before .before .before .before .before .before .before .before .before .before .before .before .before .before .before .before .loop .complete)) (c .before .before .before .before .before .before .before .before .before .before .before .before .before .before .before .before .before .loop .at) _ (c .before .before .before .before .before .before .of .ensures) (c .before .before .before .is-due-after .ensures) (c .before .before .owe .ensures) (c .before .if3 .left)) in
+    let z = over-read (c .before .before .before .before .before .before .before .before .before .before .before .before .before .before .before .before .before .before .before .before .before .before .before .args .b) (c .before .before .before .before .before .before .before .before .before .before .before .before .before .before .before .before .before .before .before .before .before .before .before .args .cookie .now) (c .before .before .before .before .before .before .before .before .before .before .before .before .before .before .before .before .before .before .before .before .before .before .before .args .packet .now) (walkedAs (c .before .before .before .before .before .before .before .before .before .before .before .before .before .before .before .before .before .loop .a) (c .before .before .before .before .before .before .before .before .before .before .before .before .before .before .before .before .before .loop .count) (c .before .before .before .before .before .before .before .before .before .before .before .before .before .before .before .before .before .loop .verdicts) (c .before .before .before .before .before .before .before .before .before .before .before .before .before .before .before .before .before .loop .used) (c .before .before .before .before .before .before .before .before .before .before .before .before .before .before .before .before .before .loop .unread) (c .before .before .before .before .before .before .before .before .before .before .before .before .before .before .before .before .before .loop .due) (c .before .before .before .before .before .before .before .before .before .before .before .before .before .before .before .before .before .loop .complete)) (c .before .before .before .before .before .before .before .before .before .before .before .before .before .before .before .before .before .loop .area) (c .before .before .before .before .before .before .before .before .before .before .before .before .before .before .before .before .before .loop .scratch) (c .before .before .before .before .before .before .before .before .before .before .before .before .before .before .before .before .before .loop .at) (c .before .before .before .before .before .before .before .before .before .before .before .before .before .before .before .before .before .loop .inv .3) (c .before .before .before .before .before .before .before .before .before .before .before .before .before .before .before .before .loop-test .taken) (c .before .before .before .before .before .before .before .before .before .before .before .before .before .before .before .before .before .loop .inv .2 ∙ c .before .before .before .before .before .before .before .before .before .before .before .before .before .before .before .before .before .before .before .before .before .before .before .pre) (c .before .before .before .before .before .before .before .before .before .before .before .before .before .before .before .before .before .loop .inv .0) refl (c .size4 .ensures .0) (c .before .before .before .before .before .before .before .before .before .before .before .step .ensures .0) (c .before .before .before .before .before .before .before .before .before .before .before .step .ensures .2) (c .before .before .before .before .before .before .before .before .before .before .before .before .before .before .if1 .left) (c .before .before .before .before .before .before .before .before .before .before .before .step .ensures .1) (taken-full (walkedAs (c .before .before .before .before .before .before .before .before .before .before .before .before .before .before .before .before .before .loop .a) (c .before .before .before .before .before .before .before .before .before .before .before .before .before .before .before .before .before .loop .count) (c .before .before .before .before .before .before .before .before .before .before .before .before .before .before .before .before .before .loop .verdicts) (c .before .before .before .before .before .before .before .before .before .before .before .before .before .before .before .before .before .loop .used) (c .before .before .before .before .before .before .before .before .before .before .before .before .before .before .before .before .before .loop .unread) (c .before .before .before .before .before .before .before .before .before .before .before .before .before .before .before .before .before .loop .due) (c .before .before .before .before .before .before .before .before .before .before .before .before .before .before .before .before .before .loop .complete)) (c .before .before .before .before .before .before .before .before .before .before .before .before .before .before .before .before .before .loop .at) _ (c .before .before .before .before .before .before .of .ensures) (c .before .before .before .is-due-after .ensures) (c .before .before .owe .ensures) (c .before .if3 .left)) in
     (z .0, search (needs, c .before .before .before .before .before .before .before .before .before .before .before .before .before .before .before .before .before .loop .inv .1, c .before .before .before .before .before .before .before .before .before .before .area .given, c .before .before .before .before .before .before .before .before .before .slice-known3 .given), search (needs, c .before .before .before .before .before .before .before .before .before .before .before .before .before .before .before .before .before .loop .inv .2, c .before .before .before .before .before .before .before .before .scratch .given, c .before .before .before .before .before .before .before .slice-known4 .given), z .1)
 
 -- src/walk.rt:72:1
