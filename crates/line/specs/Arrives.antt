@@ -15,6 +15,7 @@ use mir.Val.{boolByte as bit}
 use Rattle.scans.specs.declared.Found.{Found}
 use Rattle.scans.specs.declared.Found.the-variants.{At, Nothing}
 use Rattle.scans.specs.Scan.{pick, any, findFrom, bit-le, find-within}
+use Rattle.scans.specs.Counts.{count-set}
 use Rattle.scans.specs.Each.{all-set, clash, found-at}
 use Rattle.numbers.specs.declared.circle.Tsn.{Tsn}
 use Rattle.numbers.specs.declared.circle.Ssn.{Ssn}
@@ -38,7 +39,7 @@ use Rattle.delivery.specs.Arrival as arrival
 use Rattle.delivery.specs.Arrival.{numberOf, isOld, isBeyond, isRepeat, isWedged, judgementOf, verdictOf, noted, keptIn, after, arrived}
 use Rattle.delivery.specs.ArrivalLaws.{kept-coming}
 use Rattle.line.specs.Runs.{copies}
-use Rattle.line.specs.Count.{below, isBelow, below-suc, below-span, below-le, full-below, count-set, copies-set}
+use Rattle.line.specs.Count.{below, isBelow, below-suc, below-span, below-le, full-below, copies-set}
 use Rattle.line.specs.Sender.{Sender}
 use Rattle.line.specs.Chosen.{Real, holds-eqb}
 use Rattle.line.specs.Sound.{Sound, came, came-before, came-past, came-ahead, came-room, low-below, offset-line, come-ahead}
@@ -153,7 +154,7 @@ module _ {P : Profile} {base streams : ℕ} {chunk : ℕ → Chunk} {size : ℕ 
         let a : bit (isBelow (suc p) (getD hs i noHeld)) ≡ 0 = rw empty in
         let c : suc p ≤ chunk n .tsn .0 = omega (arith, send .number n lb) in
         let b : bit (isBelow (suc p) (asHeld (chunk n) (size n))) ≡ 0 = rw (le-ltb (chunk n .tsn .0) (suc p) c) in
-        omega (arith, count-set (isBelow (suc p)) hs i (asHeld (chunk n) (size n)) here)
+        omega (arith, count-set (isBelow (suc p)) noHeld hs i (asHeld (chunk n) (size n)) here)
 
     room' : (d : ℕ) → getD (shift (run new) new) d false ≡ true → d + 1 + below hs' (suc (p + run new)) ≤ P .places
     room' d e =

@@ -11,6 +11,7 @@ use borrow.Author.Tests.{le-ltb, leb-false}
 use lib.ListN.{length, getD, replicate, length-replicate}
 use lib.Dec.{eqb, leb, ltb}
 use Rattle.scans.specs.Scan.{pick, count, any, findFrom}
+use Rattle.scans.specs.Counts.{tick-bit}
 use Rattle.scans.specs.Each.{All, if-not, clash}
 use Rattle.numbers.specs.declared.circle.Tsn.{Tsn}
 use Rattle.numbers.specs.declared.circle.Ssn.{Ssn}
@@ -42,7 +43,7 @@ use Rattle.line.specs.Reduce.{reduceHeld, reduceSsn, reduce, reduceTaken
 use Rattle.line.specs.Runs.{Event, arrive, take, sack, Answer, judges, gives, tells, Lent, Turn, turn, start, answers, finally, reduceEvent, reduceAnswer, reduceLent, Fair, copies, handed, handedOver, joinedAll, isOrderedIn, ssnOf, orderGiven, upFrom, acknowledges}
 use Rattle.line.specs.Sender.{Sender}
 use Rattle.line.specs.Agree.{Near, arrived-law, area-law, taken-law, written-law, sack-law}
-use Rattle.line.specs.Count.{tick-bit, holds-none, copies-nil, copies-cons}
+use Rattle.line.specs.Count.{holds-none, copies-nil, copies-cons}
 use Rattle.line.specs.Chosen.{Real}
 use Rattle.line.specs.Sound.{Sound, came, Wide, came-before, came-ahead, near}
 use Rattle.line.specs.Arrives.{SoundOf, arrived-sound}

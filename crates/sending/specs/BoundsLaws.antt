@@ -6,13 +6,14 @@ use mathlib.Core.List.{List, [], _∷_}
 use native.Mathlib.Omega.{arith}
 use native.Mathlib.Decide.{decLt, ℕ-discrete}
 use borrow.Author.Tests.{lt-ltb, le-ltb, lt-leb, eq-eqb, ne-eqb, ltb-false, leb-false, eqb-true, eqb-false, not-true}
-use lib.ListN.{length, set, getD, replicate, length-replicate, length-set}
+use lib.ListN.{length, set, getD, replicate, length-replicate, length-set, List·getD-eq-default}
 use lib.Seq.{getD-set-same, getD-set-other}
 use lib.Dec.{eqb, ltb, leb}
 use Rattle.numbers.specs.declared.circle.Tsn.{Tsn}
 use Rattle.numbers.specs.Profile.{Profile}
 use Rattle.numbers.specs.ComeLaws.{clear-at}
 use Rattle.scans.specs.Scan.{pick, tick, any, count, either, foldFrom}
+use Rattle.scans.specs.Counts.{count-most}
 use Rattle.scans.specs.Each.{all-map, clash, any-none, none-any, upto-none, none-upto}
 use Rattle.path.specs.Sizes.{Sizes}
 use Rattle.path.specs.Path as way
@@ -23,23 +24,6 @@ use Rattle.places.specs.Laws.{tallied-flight}
 use Rattle.sending.specs.declared.sending.Sending.{Sending}
 use Rattle.sending.specs.Sending.{roomOf}
 use Rattle.sending.specs.Bounds.{isOdd, keyOf, membersOf, spotOf, markedBy, seenOf, isGap, hasGap, isSuccessive, isWithin, Fit, hasKey, Successive, Sound}
-
--- ---- scans
-
-module _ {A : Type 0} (p : A → Bool) where
-  pub count-most : (xs : List A) → count p xs ≤ length xs
-  count-most [] = zero-le
-  count-most (x ∷ xs) = go (p x) (count-most xs)
-    where
-      go : (t : Bool) → count p xs ≤ length xs → tick t (count p xs) ≤ suc (length xs)
-      go true h = omega arith
-      go false h = omega arith
-
--- past the end there is nothing
-beyond : {A : Type 0} (xs : List A) (j : ℕ) (d : A) → length xs ≤ j → getD xs j d ≡ d
-beyond [] j d h = refl
-beyond (x ∷ xs) zero d h = absurd (omega arith)
-beyond (x ∷ xs) (suc j) d h = beyond xs j d (omega arith)
 
 -- ---- which numbers are there
 
@@ -122,7 +106,7 @@ module _ (P : Profile) where
     seen-past : (ps : List Place) (j : ℕ) → P .places ≤ j → getD (seenOf P sent acked oldest ps) j false ≡ false
     unfolding seenOf
     seen-past ps j h =
-        beyond (foldFrom noting (replicate (P .places) false) 0 ps) j false (omega (arith, seen-long (replicate (P .places) false) 0 ps, length-replicate (P .places) false))
+        List·getD-eq-default (foldFrom noting (replicate (P .places) false) 0 ps) false {n = j} (omega (arith, seen-long (replicate (P .places) false) 0 ps, length-replicate (P .places) false))
 
     no-gap : (ps : List Place) (n : ℕ) → hasGap (seenOf P sent acked oldest ps) n ≡ false → (k : ℕ) → 0 < k → k ≤ n → any (hasKey sent acked oldest k) ps ≡ true
     unfolding hasGap

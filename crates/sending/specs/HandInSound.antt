@@ -13,6 +13,7 @@ use Rattle.numbers.specs.declared.circle.StreamId.{StreamId}
 use Rattle.numbers.specs.Circle.{steps-are}
 use Rattle.numbers.specs.Profile.{Profile}
 use Rattle.scans.specs.Scan.{pick, tick, any, count}
+use Rattle.scans.specs.Counts.{count-most}
 use Rattle.scans.specs.Each.{All, clash}
 use Rattle.scans.specs.Upto.{pick-keeps}
 use Rattle.path.specs.Sizes.{Sizes}
@@ -26,7 +27,6 @@ use Rattle.sending.specs.Carry.{carried}
 use Rattle.sending.specs.HandIn.{chunksOf, isRefused, refusal, partLen, chunkAt, waitingAt, takes, after, laidOut, waited, handedIn}
 use Rattle.sending.specs.HandInLaws.{takes-so}
 use Rattle.sending.specs.Bounds.{keyOf, hasKey, Fit, Successive, Sound}
-use Rattle.sending.specs.BoundsLaws.{count-most}
 use Rattle.sending.specs.Laws.{waited-sums}
 use Rattle.sending.specs.AcknowledgeLaws.{key-unsent}
 use Rattle.sending.specs.ChooseSound.{Typed, key-waits, key-none}
