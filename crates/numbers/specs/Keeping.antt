@@ -8,8 +8,7 @@ use lib.Dec.{ltb, leb}
 use Rattle.scans.specs.Scan.{pick}
 use Rattle.numbers.specs.declared.circle.Tsn.{Tsn}
 use Rattle.numbers.specs.declared.keeping.Keeping.{Keeping}
-use Rattle.numbers.specs.Circle.{forward}
-use Rattle.numbers.specs.Numbering.{Numbering, on, before, far}
+use Rattle.numbers.specs.Numbering.{Numbering, on, before, aheadOn}
 use Rattle.numbers.specs.Profile.{Profile}
 use Rattle.numbers.specs.Come.{run, shift, highest}
 
@@ -22,9 +21,9 @@ fresh T P t = record {
   listed = 0;
 }
 
--- how far a number is ahead of the point, and 0 where it is not
+-- how far a number is ahead of the point
 unfoldable pub offsetOf : Numbering → Keeping → ℕ → ℕ
-offsetOf T k t = forward (far T (k .point .0) t)
+offsetOf T k t = aheadOn T (k .point .0) t
 
 -- "offset already come": the flag of offset d is the d-th, and no number at or behind the point has one
 unfoldable pub isCome : Numbering → Keeping → ℕ → Bool
