@@ -16,6 +16,7 @@ use Rattle.numbers.specs.declared.circle.Tsn.{Tsn}
 use Rattle.numbers.specs.declared.circle.Judgement.{Judgement}
 use Rattle.numbers.specs.declared.circle.Judgement.the-variants.{AtOrBehind, AheadWithin, AheadBeyond, AtOpposite}
 use Rattle.numbers.specs.declared.keeping.Keeping.{Keeping}
+use Rattle.numbers.specs.Circle.{ssn0}
 use Rattle.numbers.specs.Numbering.{Numbering}
 use Rattle.numbers.specs.Profile.{Profile}
 use Rattle.numbers.specs.Judgement.{judged}
@@ -29,7 +30,7 @@ use Rattle.scans.specs.Scan.{pick, tick, count, any, findFrom, find-within}
 use Rattle.scans.specs.Each.{All, all-set, clash, found-at}
 use Rattle.holding.specs.declared.held.Held.{Held}
 use Rattle.holding.specs.declared.taking.Took.{Took}
-use Rattle.holding.specs.Held.{noHeld, ssn0, isFree, holds, any-holds}
+use Rattle.holding.specs.Held.{noHeld, isFree, holds, any-holds}
 use Rattle.holding.specs.Taking.{emptied, advanced, took, written}
 use Rattle.holding.specs.Taking as taking
 use Rattle.holding.specs.TakingLaws.{Leaves, same, less, took-leaves, emptied-long, advanced-long, took-refused}

@@ -4,6 +4,7 @@ use mathlib.Core.List.{List, [], _∷_}
 use lib.ListN.{length, take, drop, set, getD}
 use lib.Dec.{ltb}
 use Rattle.numbers.specs.declared.circle.Ssn.{Ssn}
+use Rattle.numbers.specs.Circle.{ssn0}
 use Rattle.numbers.specs.Numbering.{Numbering, on}
 use Rattle.numbers.specs.Profile.{Profile}
 use Rattle.octets.specs.Bytes.{laid}
@@ -13,7 +14,7 @@ use Rattle.holding.specs.declared.taking.Message.{Message}
 use Rattle.holding.specs.declared.taking.Answer.{Answer}
 use Rattle.holding.specs.declared.taking.Answer.the-variants.{Taken, Nothing, Short}
 use Rattle.holding.specs.declared.taking.Took.{Took}
-use Rattle.holding.specs.Held.{noHeld, ssn0}
+use Rattle.holding.specs.Held.{noHeld}
 use Rattle.holding.specs.Message.{Choice, none, one, chunksAt, chosen}
 
 -- the number of 01 for an answer

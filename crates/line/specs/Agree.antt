@@ -17,6 +17,7 @@ use Rattle.scans.specs.Scan.{pick, findFrom, foldFrom}
 use Rattle.scans.specs.Each.{All, all-map, all-at, all-of, count-map, find-map, any-map, set-map, if-not, if-so, clash, found-at}
 use Rattle.numbers.specs.declared.circle.Tsn.{Tsn}
 use Rattle.numbers.specs.declared.circle.Ssn.{Ssn}
+use Rattle.numbers.specs.Circle.{ssn0}
 use Rattle.numbers.specs.Numbering.{ring, line, on, key, Within, far-law, on-law, same-law, key-law, key-line}
 use Rattle.numbers.specs.Profile.{Profile}
 use Rattle.numbers.specs.Judgement.{judged}
@@ -26,7 +27,7 @@ use Rattle.octets.specs.Bytes.{laid}
 use Rattle.holding.specs.declared.held.Held.{Held}
 use Rattle.holding.specs.declared.taking.Took.{Took}
 use Rattle.holding.specs.declared.taking.Answer.the-variants.{Taken, Short}
-use Rattle.holding.specs.Held.{noHeld, ssn0, isFree, holds, is-held}
+use Rattle.holding.specs.Held.{noHeld, isFree, holds, is-held}
 use Rattle.holding.specs.Message.{Run, broken, whole, Choice, none, one, isOfOne, continues, led, onward, follow, isLeftEnd, isExpected, opens, ranked, better, chosen, isOne, chunksAt}
 use Rattle.holding.specs.Taking.{firstOf, lenAt, lengthOf, payloadAt, copied, emptied, advanced, messageOf, tookBy, took, writtenBy, written}
 use Rattle.delivery.specs.declared.receiving.Receiving.{Receiving}

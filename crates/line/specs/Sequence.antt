@@ -15,6 +15,7 @@ use Rattle.scans.specs.Counts.{tick-bit}
 use Rattle.scans.specs.Each.{All, if-not, clash}
 use Rattle.numbers.specs.declared.circle.Tsn.{Tsn}
 use Rattle.numbers.specs.declared.circle.Ssn.{Ssn}
+use Rattle.numbers.specs.Circle.{ssn0}
 use Rattle.numbers.specs.Numbering.{ring, line, before, Within}
 use Rattle.numbers.specs.Profile.{Profile}
 use Rattle.numbers.specs.Keeping as keeping
@@ -25,7 +26,7 @@ use Rattle.holding.specs.declared.held.Chunk.{Chunk}
 use Rattle.holding.specs.declared.held.Held.{Held}
 use Rattle.holding.specs.declared.taking.Answer.{Answer as Taking}
 use Rattle.holding.specs.declared.taking.Answer.the-variants.{Taken, Nothing as None, Short}
-use Rattle.holding.specs.Held.{noHeld, ssn0, asHeld, holds, isFree}
+use Rattle.holding.specs.Held.{noHeld, asHeld, holds, isFree}
 use Rattle.holding.specs.Taking.{firstOf, written}
 use Rattle.delivery.specs.declared.receiving.Receiving.{Receiving}
 use Rattle.delivery.specs.declared.receiving.Taken.{Taken as Left}

@@ -17,11 +17,12 @@ use mir.Val.{boolByte as bit}
 use Rattle.scans.specs.Scan.{pick, count, bit-le}
 use Rattle.scans.specs.Each.{All, all-set, clash}
 use Rattle.numbers.specs.declared.circle.Ssn.{Ssn}
+use Rattle.numbers.specs.Circle.{ssn0}
 use Rattle.numbers.specs.Numbering.{line, on}
 use Rattle.numbers.specs.Profile.{Profile}
 use Rattle.holding.specs.declared.held.Chunk.{Chunk}
 use Rattle.holding.specs.declared.held.Held.{Held}
-use Rattle.holding.specs.Held.{noHeld, ssn0, asHeld, holds, holds-is, is-held}
+use Rattle.holding.specs.Held.{noHeld, asHeld, holds, holds-is, is-held}
 use Rattle.holding.specs.Message.{Run, broken, whole, Choice, none, one, isLeftEnd, isExpected, opens, follow, chosen, chunksAt}
 use Rattle.holding.specs.TakingLaws.{emptied-long}
 use Rattle.holding.specs.Taking.{emptied, advanced, firstOf, lengthOf, messageOf, tookBy, took}

@@ -8,8 +8,17 @@ use borrow.Author.Tests.{lt-ltb, le-ltb, le-leb, lt-leb, eq-eqb, ne-eqb}
 use mathlib.Core.Bool.{Bool, true, false}
 use lib.Dec.{leb, ltb, eqb}
 use Rattle.scans.specs.Scan.{pick}
+use Rattle.numbers.specs.declared.circle.Tsn.{Tsn}
+use Rattle.numbers.specs.declared.circle.Ssn.{Ssn}
 use Rattle.numbers.specs.declared.circle.Distance.{Distance}
 use Rattle.numbers.specs.declared.circle.Distance.the-variants.{Ahead, Behind, Opposite}
+
+-- the number 0 of each circle: a stream begins with it, and it stands where no number is given
+abbrev pub tsn0 : Tsn
+tsn0 = record { 0 = 0 }
+
+abbrev pub ssn0 : Ssn
+ssn0 = record { 0 = 0 }
 
 -- the point k steps on from a
 abbrev pub along : ℕ → ℕ → ℕ → ℕ

@@ -5,6 +5,7 @@ use mathlib.Core.List.{List}
 use lib.ListN.{length, take, drop}
 use lib.Dec.{eqb, ltb, leb}
 use Rattle.numbers.specs.declared.circle.StreamId.{StreamId}
+use Rattle.numbers.specs.Circle.{tsn0, ssn0}
 use Rattle.numbers.specs.Profile.{Profile}
 use Rattle.octets.specs.Bytes.{laid}
 use Rattle.scans.specs.Scan.{pick, count, foldFrom}
@@ -15,7 +16,6 @@ use Rattle.places.specs.Places.{hasStatus}
 use Rattle.sending.specs.declared.sending.Sending.{Sending}
 use Rattle.sending.specs.declared.cutting.Message.{Message}
 use Rattle.sending.specs.declared.cutting.Handed.{Handed}
-use Rattle.sending.specs.Sending.{noTsn, noSsn}
 use Rattle.sending.specs.Carry.{carried}
 
 -- as many as it takes to hold them all
@@ -49,10 +49,10 @@ partOf P message k = take (P .payload) (drop (P .payload * k) message)
 -- the chunk k of n: B on the first, E on the last; TSN and SSN are not given yet
 unfoldable pub chunkAt : Profile → Message → ℕ → ℕ → Chunk
 chunkAt P m n k = record {
-  tsn = noTsn;
+  tsn = tsn0;
   order = (m .first + k) % 2 ^ 32;
   stream = m .stream;
-  ssn = noSsn;
+  ssn = ssn0;
   ppid = m .ppid;
   len = partLen P (m .len) k;
   begin = eqb k 0;
