@@ -1,17 +1,17 @@
 -- Cutting a message keeps the bounds: its chunks wait behind those that wait already. Assumes nothing.
 use Prim.Native.Nat.{ℕ, suc, _+_, _-_, _*_, _%_, _^_, _<_, _≤_, zero-le}
 use mathlib.Core.Path.{_≡_, refl, sym, ap, _∙_}
-use mathlib.Core.Bool.{Bool, true, false}
+use mathlib.Core.Bool.{Bool, true, false, not}
 use mathlib.Core.List.{List, [], _∷_}
 use native.Mathlib.Nat.{mod-add-mod, mul-div-le, mul-suc, mul-le-mul-left}
 use native.Mathlib.Omega.{arith}
 use native.Mathlib.Decide.{decLe, ℕ-discrete}
-use borrow.Author.Tests.{lt-ltb, eq-eqb, ne-eqb, eqb-true, ltb-false, leb-false}
-use lib.Dec.{eqb, ltb, leb}
+use borrow.Author.Tests.{lt-ltb, eq-eqb, ne-eqb, eqb-true, ltb-false}
+use lib.Dec.{eqb, ltb}
 use Rattle.numbers.specs.declared.circle.Tsn.{Tsn}
 use Rattle.numbers.specs.declared.circle.StreamId.{StreamId}
 use Rattle.numbers.specs.Circle.{steps-are}
-use Rattle.numbers.specs.Profile.{Profile}
+use Rattle.numbers.specs.Profile.{Profile, isAgreed, agreed-below}
 use Rattle.scans.specs.Scan.{pick, tick, any, count}
 use Rattle.scans.specs.Counts.{count-most}
 use Rattle.scans.specs.Each.{All, clash}
@@ -190,13 +190,13 @@ waiting-fit P m n k h l s = record {
 
 not-refused : (P : Profile) (len : ℕ) (stream : StreamId) (streams : ℕ) → isRefused P len stream streams ≡ false → stream .0 < P .streams
 unfolding isRefused
-not-refused P len stream streams e = go (ltb len 1) (ltb (P .places * P .payload) len) (leb streams (stream .0)) e
+not-refused P len stream streams e = go (ltb len 1) (ltb (P .places * P .payload) len) (isAgreed P (stream .0) streams) refl e
   where
-    go : (a b c : Bool) → pick a true (pick b true (pick c true (leb (P .streams) (stream .0)))) ≡ false → stream .0 < P .streams
-    go true b c e = clash (sym e)
-    go false true c e = clash (sym e)
-    go false false true e = clash (sym e)
-    go false false false e = leb-false (P .streams) (stream .0) e
+    go : (a b c : Bool) → isAgreed P (stream .0) streams ≡ c → pick a true (pick b true (not c)) ≡ false → stream .0 < P .streams
+    go true b c q e = clash (sym e)
+    go false true c q e = clash (sym e)
+    go false false true q e = agreed-below P (stream .0) streams q
+    go false false false q e = clash (sym e)
 
 -- what is taken is on a stream that there is, and the free places suffice
 pub taken-whole : (P : Profile) (s : Sending) (len : ℕ) (stream : StreamId) (streams : ℕ) → refusal P s len stream streams ≡ 0
