@@ -8,7 +8,7 @@ ghost use Rattle.numbers.specs.Numbering.{ring, aheadOn};
 ghost use Rattle.numbers.specs.Profile.{rail};
 ghost use Rattle.numbers.specs.Come.{run, shift};
 ghost use Rattle.numbers.specs.Keeping.{fresh, offsetOf, isCome, marked, listed, told, highestOf, keepingSound};
-ghost use Rattle.numbers.specs.Blocks.{blocksOf, closed};
+ghost use Rattle.numbers.specs.Blocks.{blocksOf, noBlocks, closed};
 
 #[repr(C)]
 pub struct Keeping {
@@ -24,6 +24,18 @@ pub struct Blocks {
     pub count: usize,
     pub starts: [u16; Rail::BLOCKS],
     pub ends: [u16; Rail::BLOCKS],
+}
+
+impl Blocks {
+    pub fn none() -> Blocks
+        ensures { λ r. ⌜ r ≡ noBlocks ⌝ }
+    {
+        Blocks {
+            count: 0,
+            starts: [0; Rail::BLOCKS],
+            ends: [0; Rail::BLOCKS],
+        }
+    }
 }
 
 // How far t is ahead of the point, and 0 where it is not.
