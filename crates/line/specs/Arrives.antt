@@ -16,7 +16,7 @@ use Rattle.scans.specs.declared.Found.{Found}
 use Rattle.scans.specs.declared.Found.the-variants.{At, Nothing}
 use Rattle.scans.specs.Scan.{pick, any, findFrom, bit-le, find-within}
 use Rattle.scans.specs.Counts.{count-set}
-use Rattle.scans.specs.Each.{all-set, clash, found-at}
+use Rattle.scans.specs.Each.{all-set, clash, neither, found-at}
 use Rattle.numbers.specs.declared.circle.Tsn.{Tsn}
 use Rattle.numbers.specs.declared.circle.Ssn.{Ssn}
 use Rattle.numbers.specs.declared.circle.Judgement.{Judgement}
@@ -233,7 +233,7 @@ module _ {P : Profile} {base streams : ℕ} {chunk : ℕ → Chunk} {size : ℕ 
       let v = kept-coming line P r c streams e .0 in
       let low : ℕ = lowOf line r in
       let o = judged-within (judgementOf line P r t) (P .places - low) (offsetOf line (r .keeping) t) (judged-offset line (r .keeping) (P .places - low) t (judgementOf line P r t) refl) (v .new) (v .near) in
-      let b = clear (isCome line (r .keeping) t) (any (holds t) (r .held)) (v .first) in
+      let b = neither (isCome line (r .keeping) t) (any (holds t) (r .held)) (v .first) .0 in
       let lt : pt < t = omega (arith, offset-line (r .keeping) t, o) in
       let f : getD (r .keeping .come) (n - suc pt) false ≡ false
       = ap (λ (x : ℕ). getD (r .keeping .come) (x - suc pt) false) (sym (send .number n lb)) ∙ (sym (come-ahead (r .keeping) t lt) ∙ b) in
@@ -241,10 +241,6 @@ module _ {P : Profile} {base streams : ℕ} {chunk : ℕ → Chunk} {size : ℕ 
       = omega (arith, o, send .number n lb, offset-line (r .keeping) t, low-below send s (r .keeping) refl refl) in
       go (marked-is P (r .keeping) t (o .0) (omega (arith, o))) (omega (arith, send .number n lb)) f fits (findFrom isFree 0 (r .held)) refl
     where
-      clear : (x y : Bool) → pick x true y ≡ false → x ≡ false
-      clear true y q = clash (sym q)
-      clear false y q = refl
-
       q : offsetOf line (r .keeping) t - 1 ≡ n - suc pt
       q = omega (arith, send .number n lb, offset-line (r .keeping) t)
 

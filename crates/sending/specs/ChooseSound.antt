@@ -20,6 +20,7 @@ use Rattle.numbers.specs.Profile.{Profile}
 use Rattle.scans.specs.Scan.{pick, tick, any, count, foldFrom}
 use Rattle.scans.specs.Counts.{count-most, count-at, count-set, count-set-same, any-set-same}
 use Rattle.scans.specs.Each.{All, all-at, all-set, clash}
+use Rattle.scans.specs.Upto.{run-keeps}
 use Rattle.path.specs.Sizes.{Sizes}
 use Rattle.places.specs.declared.place.Place.{Place}
 use Rattle.places.specs.Places.{being, aheadOf, hasStatus, isSent}
@@ -30,7 +31,7 @@ use Rattle.sending.specs.declared.choosing.Chosen.{Chosen}
 use Rattle.sending.specs.Sending.{noPlace, roomOf}
 use Rattle.sending.specs.Choose.{rankOf, better, bestOf, put, again, first, numbered, sent, going, filling, begun, filled}
 use Rattle.sending.specs.Bounds.{keyOf, membersOf, hasKey, Fit, Successive, Sound}
-use Rattle.sending.specs.ChooseLaws.{run-kept, Ranked, best-or, goes-low, going-ready, put-sums, begun-sums, begun-path}
+use Rattle.sending.specs.ChooseLaws.{Ranked, best-or, goes-low, going-rank, going-ready, put-sums, begun-sums, begun-path}
 use Rattle.sending.specs.SoundLaws.{alike-key, alike-fit}
 use Rattle.sending.specs.AcknowledgeLaws.{OnCircle, key-sent, key-unsent}
 
@@ -150,22 +151,6 @@ oldest-rank a o (p ∷ ps) = (λ e. at (ℕ-discrete (p .status) 1) (eqb-true (k
     at : Dec (p .status ≡ 1) → keyOf false a o p ≡ 1 → eqb (rankOf a o p) 4294967296 ≡ true
     at (yes h) k = eq-eqb (rankOf a o p) 4294967296 (omega (arith, rank-waits a o p h, key-waits a o p h, k))
     at (no h) k = absurd (omega (arith, key-none a o p h, k))
-
-going-rank : (f : Chosen) → going f .go ≡ true
-    → bestOf (f .sending .acked) (f .sending .oldest) (f .sending .places) .rank ≡ rankOf (f .sending .acked) (f .sending .oldest) (getD (f .sending .places) (going f .place) noPlace)
-unfolding going bestOf
-going-rank f e =
-    let a = f .sending .acked in
-    let o = f .sending .oldest in
-    let ps = f .sending .places in
-    let r = foldFrom (better a o) (record { rank = 8589934592; place = 0 }) 0 ps in
-    let low : r .rank < 8589934592 = goes-low f r (getD ps (r .place) noPlace) e in
-    ⊎-elim
-    (λ (h : r ≡ record { rank = 8589934592; place = 0 }). absurd (omega (arith, low, ap (λ (x : Best). x .rank) h)))
-    (λ (w : Ranked a o ps 0 r).
-    let k : r .place ≡ w .0 = omega arith in
-    w .2 ∙ ap (λ (x : ℕ). rankOf a o (getD ps x noPlace)) (sym k))
-    (best-or a o ps (record { rank = 8589934592; place = 0 }) 0)
 
 best-rank : (a : Tsn) (o : ℕ) (ps : List Place) → any (λ p. eqb (rankOf a o p) 4294967296) ps ≡ true → bestOf a o ps .rank ≤ 4294967296
 unfolding bestOf
@@ -381,7 +366,7 @@ module _ (z : Sizes) (P : Profile) where
   filled-sure : (s : Sending) → Sure s → Sure (filled z P s .sending)
   unfolding filled
   filled-sure s h =
-      run-kept (λ (f : Chosen). Sure (f .sending)) (λ f. going f .go) (λ f. filling P f (going f .place)) step-sure (z .bundled) (begun z s) (begun-sure s h)
+      run-keeps (λ (f : Chosen). Sure (f .sending)) (λ f. going f .go) (λ f. filling P f (going f .place)) step-sure (z .bundled) (begun z s) (begun-sure s h)
 
   pub filled-sound : (s : Sending) → Sound z P s → Typed s → Sound z P (filled z P s .sending)
   filled-sound s w t = filled-sure s (w, t) .0

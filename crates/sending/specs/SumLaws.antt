@@ -16,7 +16,7 @@ use Rattle.numbers.specs.declared.circle.StreamId.{StreamId}
 use Rattle.numbers.specs.Profile.{Profile}
 use Rattle.scans.specs.Scan.{pick, count, total}
 use Rattle.scans.specs.Each.{All}
-use Rattle.scans.specs.Upto.{smaller, pick-keeps}
+use Rattle.scans.specs.Upto.{run-keeps, smaller, pick-keeps}
 use Rattle.path.specs.Sizes.{Sizes}
 use Rattle.path.specs.Path as way
 use Rattle.places.specs.declared.place.Place.{Place}
@@ -34,7 +34,7 @@ use Rattle.sending.specs.HandIn.{chunksOf, refusal, partLen, chunkAt, wa
 use Rattle.sending.specs.Choose.{put, again, first, numbered, sent, going, filling, begun, filled}
 use Rattle.sending.specs.Acknowledge.{judgedPoint, limitOf, accepted, acknowledged, shutOf, shutdownPoint}
 use Rattle.sending.specs.Expiry.{overdue, expired}
-use Rattle.sending.specs.ChooseLaws.{run-kept, going-ready}
+use Rattle.sending.specs.ChooseLaws.{going-ready}
 use Rattle.sending.specs.HandInSound.{takes-not, takes-yes, taken-whole}
 
 -- the payload of the chunk in a place; a free place has none
@@ -164,7 +164,7 @@ begun-len z s = refl
 pub filled-len : (z : Sizes) (P : Profile) (s : Sending) → total lenOf (filled z P s .sending .places) ≡ total lenOf (s .places)
 unfolding filled
 filled-len z P s =
-    run-kept (λ (f : Chosen). total lenOf (f .sending .places) ≡ total lenOf (s .places)) (λ f. going f .go) (λ f. filling P f (going f .place)) (step-len P (total lenOf (s .places))) (z .bundled) (begun z s) (begun-len z s)
+    run-keeps (λ (f : Chosen). total lenOf (f .sending .places) ≡ total lenOf (s .places)) (λ f. going f .go) (λ f. filling P f (going f .place)) (step-len P (total lenOf (s .places))) (z .bundled) (begun z s) (begun-len z s)
 
 -- ---- a message adds its length
 
