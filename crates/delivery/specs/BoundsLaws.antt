@@ -13,7 +13,7 @@ use lib.Dec.{ltb, leb, eqb}
 use Rattle.numbers.specs.declared.circle.Distance.{Distance}
 use Rattle.numbers.specs.declared.circle.Distance.the-variants.{Ahead, Behind, Opposite}
 use Rattle.numbers.specs.Numbering.{Numbering, ring, on, far, on-far}
-use Rattle.numbers.specs.Profile.{Profile}
+use Rattle.numbers.specs.Profile.{Profile, isMisfit, misfit-fits, fits-misfit}
 use Rattle.numbers.specs.ComeLaws.{clear-at}
 use Rattle.numbers.specs.Keeping.{highestOf, keepingSound}
 use Rattle.numbers.specs.KeepingLaws.{sound-bounded, bounded-sound}
@@ -230,27 +230,15 @@ module _ (hs : List Held) where
 
 unfit-fit : (P : Profile) (h : Held) → isUnfit P h ≡ false → h .used ≡ true → Fit P h
 unfolding isUnfit
-unfit-fit P h e u =
-    let f : pick (ltb (h .len) 1) true (pick (ltb (P .payload) (h .len)) true (leb (P .streams) (h .stream .0))) ≡ false
-    = sym (ap (λ (t : Bool). pick t (pick (ltb (h .len) 1) true (pick (ltb (P .payload) (h .len)) true (leb (P .streams) (h .stream .0)))) false) u) ∙ e in
-    go (ltb (h .len) 1) (ltb (P .payload) (h .len)) refl refl f
-  where
-    go : (a b : Bool) → ltb (h .len) 1 ≡ a → ltb (P .payload) (h .len) ≡ b → pick a true (pick b true (leb (P .streams) (h .stream .0))) ≡ false → Fit P h
-    go true b p q f = clash (sym f)
-    go false true p q f = clash (sym f)
-    go false false p q f =
-        record { some = ltb-false (h .len) 1 p; small = ltb-false (P .payload) (h .len) q; stream = leb-false (P .streams) (h .stream .0) f }
+unfit-fit P h e u = misfit-fits P (h .len) (h .stream .0) (sym (ap (λ (t : Bool). pick t (isMisfit P (h .len) (h .stream .0)) false) u) ∙ e)
 
 fit-unfit : (P : Profile) (h : Held) → (h .used ≡ true → Fit P h) → isUnfit P h ≡ false
 unfolding isUnfit
 fit-unfit P h f = go (h .used) f
   where
-    go : (u : Bool) → (u ≡ true → Fit P h)
-        → pick u (pick (ltb (h .len) 1) true (pick (ltb (P .payload) (h .len)) true (leb (P .streams) (h .stream .0)))) false ≡ false
+    go : (u : Bool) → (u ≡ true → Fit P h) → pick u (isMisfit P (h .len) (h .stream .0)) false ≡ false
     go false f = refl
-    go true f =
-        let w = f refl in
-        rw (le-ltb (h .len) 1 (w .some), le-ltb (P .payload) (h .len) (w .small), lt-leb (P .streams) (h .stream .0) (w .stream))
+    go true f = fits-misfit P (h .len) (h .stream .0) (f refl)
 
 module _ (T : Numbering) (P : Profile) (r : Receiving) where
   pub test-sound : isSound T P r ≡ true → Sound T P r
