@@ -4,6 +4,7 @@ use mathlib.Core.List.{List}
 use lib.Dec.{eqb}
 use lib.ListN.{replicate}
 use Rattle.scans.specs.Scan.{pick}
+use Rattle.numbers.specs.Blocks.{noBlocks}
 use Rattle.numbers.specs.Profile.{rail}
 use Rattle.chunks.specs.declared.sack.Sack.{Sack}
 use Rattle.chunks.specs.SackChunk.{sackBytes}
@@ -26,7 +27,7 @@ abbrev pub noSack : Sack
 noSack = record {
   point = record { 0 = 0 };
   window = 0;
-  blocks = record { count = 0; starts = replicate 64 0; ends = replicate 64 0 };
+  blocks = noBlocks;
   dups = replicate 16 (record { 0 = 0 });
   listed = 0;
 }

@@ -1,32 +1,19 @@
 -- What the sender of one chunk has to show. Assumes nothing.
 use Prim.Native.Nat.{ℕ, _+_, _-_, _≤_}
 use mathlib.Core.Path.{_≡_, refl, ap, _∙_}
-use mathlib.Core.Bool.{Bool, true, false}
 use mathlib.Core.List.{List, _++_}
-use native.Mathlib.Omega.{arith}
-use borrow.Author.Tests.{ltb-false}
-use lib.Dec.{ltb}
 use lib.ListN.{length, take, drop}
-use Rattle.scans.specs.Scan.{pick}
 use Rattle.octets.specs.BytesLaws.{part-is}
 use Rattle.octets.specs.Writing.{Wrote, wroteCount, wroteAt}
-use Rattle.octets.specs.WritingLaws.{wrote-part, part-count}
+use Rattle.octets.specs.WritingLaws.{wrote-part, wrote-few}
 use Rattle.packets.specs.declared.header.Header.{Header}
 use Rattle.packets.specs.Header.{sealCount, sealBytes}
 use Rattle.calls.specs.Packet.{sentLength, sentOne, Sent}
 
-pub count-small : (n room : ℕ) → pick (ltb 65532 n) 0 (pick (ltb room n) 0 n) ≤ 65532
-count-small n room = go (ltb 65532 n) refl (ltb room n)
-  where
-    go : (s : Bool) → ltb 65532 n ≡ s → (t : Bool) → pick s 0 (pick t 0 n) ≤ 65532
-    go true e t = omega arith
-    go false e true = omega arith
-    go false e false = omega (arith, ltb-false 65532 n e)
-
 -- a writer at work behind the header's 12 bytes
 module _ (xs : List ℕ) {bs ys : List ℕ} {r : ℕ} (h : 12 ≤ length xs) (w : Wrote (take (length xs - 12) (drop 12 xs)) bs r ys) where
   pub one-small : r ≤ 65532
-  one-small = rw (part-count 12 xs h w) (count-small (length bs) (length xs - 12))
+  one-small = wrote-few w
 
   one-count : r ≡ wroteCount (drop 12 xs) bs
   one-count = w .count ∙ ap (λ (l : List ℕ). wroteCount l bs) (part-is xs 12)

@@ -7,13 +7,13 @@ use native.Mathlib.Omega.{arith}
 use borrow.Author.Tests.{eqb-true, eqb-false}
 use lib.Dec.{eqb}
 use Rattle.scans.specs.Scan.{pick}
-use Rattle.scans.specs.Upto.{pick-keeps}
+use Rattle.scans.specs.Upto.{smaller-right, pick-keeps}
 use Rattle.numbers.specs.declared.circle.StreamId.{StreamId}
 use Rattle.numbers.specs.declared.circle.Tsn.{Tsn}
 use Rattle.numbers.specs.Numbering.{ring}
 use Rattle.numbers.specs.Profile.{rail}
 use Rattle.path.specs.Sizes.{railSizes}
-use Rattle.path.specs.Laws.{rail-fair, smaller-right}
+use Rattle.path.specs.Laws.{rail-fair}
 use Rattle.holding.specs.declared.taking.Answer as took
 use Rattle.holding.specs.declared.taking.Answer.the-variants.{Taken, Nothing, Short}
 use Rattle.delivery.specs.Laws.{taken-shaped, taken-sound, told-shaped, told-sound}

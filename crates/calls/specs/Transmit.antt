@@ -1,9 +1,9 @@
 -- One packet of DATA chunks: "One call fills one packet, or answers length 0".
-use Prim.Native.Nat.{ℕ, _+_, _*_}
+use Prim.Native.Nat.{ℕ, _+_}
 use mathlib.Core.Bool.{false}
 use mathlib.Core.List.{List}
 use lib.Dec.{ltb, eqb}
-use lib.ListN.{take, drop, getD}
+use lib.ListN.{drop, getD}
 use Rattle.scans.specs.Scan.{pick, foldFrom, either}
 use Rattle.numbers.specs.Profile.{rail}
 use Rattle.octets.specs.Writing.{wroteCount, wroteAt}
@@ -17,6 +17,7 @@ use Rattle.places.specs.declared.place.Place.{Place}
 use Rattle.sending.specs.declared.choosing.Chosen.{Chosen}
 use Rattle.sending.specs.Sending.{noPlace}
 use Rattle.sending.specs.Choose.{filled}
+use Rattle.holding.specs.Taking.{payloadAt}
 use Rattle.states.specs.declared.calls.Call.the-variants.{Transmit}
 use Rattle.association.specs.declared.ends.Association.{Association}
 use Rattle.association.specs.Fresh.{withSending}
@@ -30,7 +31,7 @@ dataOf c = record { tsn = c .tsn; stream = c .stream; ssn = c .ssn; ppid = c .pp
 
 -- the chunk of place i, its payload from the place's bytes in the area
 unfoldable pub chunkBytes : List ℕ → Place → ℕ → List ℕ
-chunkBytes area p i = dataBytes rail (dataOf (p .chunk)) (take (p .chunk .len) (drop (512 * i) area))
+chunkBytes area p i = dataBytes rail (dataOf (p .chunk)) (payloadAt rail area i (p .chunk .len))
 
 -- the packet so far: its chunks end at `at`
 pub record Bundle : Type 0 where

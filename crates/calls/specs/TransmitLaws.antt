@@ -11,7 +11,7 @@ use Rattle.scans.specs.Scan.{pick, either}
 use Rattle.numbers.specs.Profile.{rail}
 use Rattle.octets.specs.BytesLaws.{part-is}
 use Rattle.octets.specs.Writing.{Wrote, wroteCount, wroteAt}
-use Rattle.octets.specs.WritingLaws.{wrote-part, part-within, part-count}
+use Rattle.octets.specs.WritingLaws.{wrote-part, part-within, wrote-few}
 use Rattle.packets.specs.declared.header.Header.{Header}
 use Rattle.path.specs.Sizes.{railSizes}
 use Rattle.sending.specs.declared.choosing.Chosen.{Chosen}
@@ -22,7 +22,6 @@ use Rattle.association.specs.declared.ends.Association.{Association}
 use Rattle.association.specs.Fresh.{withSending}
 use Rattle.calls.specs.Answer.{isShortArea, isShortOut, barred}
 use Rattle.calls.specs.AnswerLaws.{let-in}
-use Rattle.calls.specs.PacketLaws.{count-small}
 use Rattle.calls.specs.declared.transmitting.Transmitted.{Transmitted}
 use Rattle.calls.specs.Packet.{toPeer}
 use Rattle.calls.specs.Transmit.{chunkBytes, Bundle, added, bundled, bundleLength, bundleOut, transmitBar, transmitted, transmittedOut}
@@ -38,7 +37,7 @@ module _ (at : ℕ) (xs : List ℕ) {bs ys : List ℕ} {r : ℕ} (h : at ≤ len
   part-small = part-within at xs h w
 
   pub part-few : r ≤ 65532
-  part-few = rw (part-count at xs h w) (count-small (length bs) (length xs - at))
+  part-few = wrote-few w
 
   pub added-one : {area : List ℕ} {p : Place} {i : ℕ} {exit : List ℕ} → bs ≡ chunkBytes area p i
       → exit ≡ take at xs ++ (ys ++ drop (length xs - at) (drop at xs)) → Added area p i at xs (at + r) exit

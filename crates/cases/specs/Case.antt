@@ -4,12 +4,13 @@ use mathlib.Core.Bool.{Bool, true}
 use mathlib.Core.List.{List, [], _∷_}
 use Rattle.scans.specs.Scan.{count}
 use Rattle.numbers.specs.declared.circle.Distance.{Distance}
+use Rattle.numbers.specs.Circle.{ssn0}
 use Rattle.numbers.specs.Numbering.{Numbering, ring, on, far}
 use Rattle.numbers.specs.Profile.{rail}
 use Rattle.numbers.specs.Blocks.{Block}
 use Rattle.numbers.specs.BlocksLaws.{listedIn}
 use Rattle.holding.specs.declared.held.Held.{Held}
-use Rattle.holding.specs.Held.{asHeld, ssn0}
+use Rattle.holding.specs.Held.{asHeld}
 use Rattle.delivery.specs.declared.receiving.Receiving.{Receiving}
 use Rattle.delivery.specs.Receiving as receiving
 use Rattle.delivery.specs.Arrival.{arrived, numberOf}

@@ -55,7 +55,7 @@ table =
 
 -- both sides computed
 pub cases-hold : map (λ (c : Case). answered (c .given)) table ≡ map (λ (c : Case). c .expected) table
-unfolding onCircle on before far judged keeping.fresh keeping.offsetOf keeping.isCome keeping.settled keeping.marked keeping.listed runs laidOut blocksOf listedIn holds fresh isLow lowOf arrival.isRepeat arrival.isWedged arrival.isAgreed arrival.judgementOf arrival.verdictOf arrival.noted arrival.passed arrival.kept arrival.arrived sackOf control.fresh control.halved control.collapsed clock.fresh clock.timed clock.sampled clock.doubled path.fresh path.sampledBy path.expired
+unfolding onCircle on before far judged keeping.fresh keeping.offsetOf keeping.isCome keeping.settled keeping.marked keeping.listed runs laidOut blocksOf listedIn holds fresh isLow lowOf arrival.isRepeat arrival.isWedged arrival.judgementOf arrival.verdictOf arrival.noted arrival.passed arrival.kept arrival.arrived sackOf control.fresh control.halved control.collapsed clock.fresh clock.timed clock.sampled clock.doubled path.fresh path.sampledBy path.expired
 cases-hold = refl
 
 module _ {A B : Type 0} (f g : A → B) where

@@ -7,7 +7,7 @@ use native.Mathlib.Omega.{arith}
 use borrow.Author.Tests.{lt-ltb, le-ltb}
 use lib.ListN.{length, drop, length-append}
 use lib.Seq.{take-at, drop-at}
-use Rattle.scans.specs.Upto.{smaller}
+use Rattle.scans.specs.Upto.{smaller, smaller-left, smaller-right, smaller-le}
 use Rattle.octets.specs.Bytes.{u16, up4, zeros}
 use Rattle.octets.specs.Walk.{size, Whole}
 use Rattle.octets.specs.Writing.{head, Wrote}
@@ -26,21 +26,10 @@ read-back {read = read} {v} {out} {bs} b w h k = rw (wrote-is w h k) (b .value (
 
 -- ---- where a chunk ends
 
-pub smaller-le : (a b : ℕ) → a ≤ b → smaller a b ≡ a
-smaller-le a b h = go (decLt a b)
-  where
-    go : Dec (a < b) → smaller a b ≡ a
-    go (yes x) = rw (lt-ltb a b x)
-    go (no x) = rw (le-ltb a b (omega arith)) (omega arith)
-
 -- it ends within s, and no later than its length
 pub ended-within : (s : List ℕ) → (ended s ≤ u16 s 2) × (ended s ≤ length s)
 unfolding ended
-ended-within s = go (decLt (u16 s 2) (length s))
-  where
-    go : Dec (u16 s 2 < length s) → (smaller (u16 s 2) (length s) ≤ u16 s 2) × (smaller (u16 s 2) (length s) ≤ length s)
-    go (yes x) = rw (lt-ltb (u16 s 2) (length s) x) (omega arith, omega arith)
-    go (no x) = rw (le-ltb (u16 s 2) (length s) (omega arith)) (omega arith, omega arith)
+ended-within s = (smaller-left (u16 s 2) (length s), smaller-right (u16 s 2) (length s))
 
 pub part-inside : (k : ℕ) (s : List ℕ) → partFrom k s .at + partFrom k s .len ≤ length s
 unfolding partFrom

@@ -1,14 +1,14 @@
 -- Error causes (RFC 9260 section 3.3.10)
-use Prim.Native.Nat.{ℕ, _+_}
+use Prim.Native.Nat.{ℕ}
 use mathlib.Core.List.{List, [], _++_}
-use lib.ListN.{length}
 use Rattle.octets.specs.Bytes.{be16, be32}
+use Rattle.chunks.specs.Frame.{parameter}
 use Rattle.chunks.specs.declared.cause.Cause.{Cause}
 use Rattle.chunks.specs.declared.cause.Cause.the-variants.{InvalidStream, StaleCookie, NoUserData, UserAbort, ProtocolViolation}
 
--- cause code, cause length, information
+-- cause code, cause length, information: the form of a parameter
 abbrev pub caused : ℕ → List ℕ → List ℕ
-caused c info = be16 c ++ be16 (4 + length info) ++ info
+caused c info = parameter c info
 
 -- the cause codes that we send: 1, 3, 9 and 13 as 01 calls for them, 12 for the host's own ABORT
 unfoldable pub code : Cause → ℕ

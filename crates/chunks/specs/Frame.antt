@@ -1,18 +1,22 @@
 -- A chunk by its type, flags and value (RFC 9260 section 3.2); the parts of a chunk that was received.
 use Prim.Native.Nat.{ℕ, _+_, _-_, _/_, _%_}
 use mathlib.Core.Bool.{Bool}
-use mathlib.Core.List.{List, []}
+use mathlib.Core.List.{List, [], _++_}
 use lib.Dec.{ltb, eqb}
 use lib.ListN.{length, take, drop, getD}
 use Rattle.scans.specs.Scan.{pick}
 use Rattle.scans.specs.Upto.{smaller}
-use Rattle.octets.specs.Bytes.{u8, u16, be32}
+use Rattle.octets.specs.Bytes.{u8, u16, be16, be32}
 use Rattle.octets.specs.Writing.{chunk, items}
 use Rattle.chunks.specs.declared.frame.Part.{Part}
 
 -- "type, flags, length (header counted, final padding not), value, zero to three bytes of padding"
 abbrev pub framed : ℕ → ℕ → List ℕ → List ℕ
 framed k f v = chunk k f (4 + length v) v
+
+-- type, length and value of a parameter (section 3.2.1)
+abbrev pub parameter : ℕ → List ℕ → List ℕ
+parameter k v = be16 k ++ be16 (4 + length v) ++ v
 
 -- the bytes bs of a chunk that carries c: none where c is empty, or has more bytes than `most`
 unfoldable pub carrying : ℕ → List ℕ → List ℕ → List ℕ

@@ -7,7 +7,7 @@ use native.Mathlib.Omega.{arith}
 use lib.Dec.{eqb}
 use lib.ListN.{length, drop, getD, replicate}
 use lib.Seq.{drop-at, drop-drop}
-use Rattle.scans.specs.Upto.{smaller}
+use Rattle.scans.specs.Upto.{smaller, smaller-le}
 use Rattle.numbers.specs.Profile.{rail}
 use Rattle.numbers.specs.Blocks.{padded}
 use Rattle.numbers.specs.declared.circle.Tsn.{Tsn}
@@ -16,7 +16,7 @@ use Rattle.octets.specs.BytesLaws.{u16-at, u32-at}
 use Rattle.octets.specs.Writing.{items}
 use Rattle.octets.specs.WritingLaws.{length-items, item-at}
 use Rattle.chunks.specs.Frame.{framed, partFrom, bytesIn, flagged, weight}
-use Rattle.chunks.specs.Back.{Back, framed-bytes, smaller-le}
+use Rattle.chunks.specs.Back.{Back, framed-bytes}
 use Rattle.chunks.specs.DataChunk.{dataOf, dataBytes, dataFields, flagsOf}
 use Rattle.chunks.specs.DataLaws.{data-is}
 use Rattle.chunks.specs.InitChunk.{initOf, initFields}

@@ -1,7 +1,7 @@
 -- A chunk arrives: "Checks, in order: … empty payload (9); payload over 512 (10); d at or below zero, or opposite, or offset already come, or TSN
 -- already held: duplicate (11); low is 128 and no message can be taken: wedged (12); d above 128 - low (13); stream not agreed (14). Otherwise it
 -- is held. Then the point moves past every consecutive offset."
-use Prim.Native.Nat.{ℕ, _-_, _*_}
+use Prim.Native.Nat.{ℕ, _-_}
 use mathlib.Core.Bool.{Bool, true, false, not}
 use mathlib.Core.List.{List}
 use lib.ListN.{set}
@@ -12,7 +12,7 @@ use Rattle.numbers.specs.declared.circle.Judgement.{Judgement}
 use Rattle.numbers.specs.declared.circle.Judgement.the-variants.{AtOrBehind, AheadWithin, AheadBeyond, AtOpposite}
 use Rattle.numbers.specs.declared.keeping.Keeping.{Keeping}
 use Rattle.numbers.specs.Numbering.{Numbering}
-use Rattle.numbers.specs.Profile.{Profile}
+use Rattle.numbers.specs.Profile.{Profile, placeAt, isAgreed}
 use Rattle.numbers.specs.Judgement.{judged}
 use Rattle.numbers.specs.Keeping.{isCome, marked, listed}
 use Rattle.octets.specs.Bytes.{laid}
@@ -62,10 +62,6 @@ isRepeat T k hs t = pick (isCome T k t) true (any (holds t) hs)
 unfoldable pub isWedged : Numbering → Profile → ℕ → List Held → List Ssn → ℕ → Bool
 isWedged T P low hs next point = pick (eqb low (P .places)) (not (isOne (chosen T P hs next point))) false
 
--- the stream is one of those agreed, of which there are never more than the profile has
-unfoldable pub isAgreed : Profile → ℕ → ℕ → Bool
-isAgreed P stream streams = pick (ltb stream (P .streams)) (ltb stream streams) false
-
 -- the number judged against the point and the room that the low chunks leave
 unfoldable pub judgementOf : Numbering → Profile → Receiving → ℕ → Judgement
 judgementOf T P r t = judged T (r .keeping .point .0) (P .places - lowOf T r) t
@@ -114,9 +110,9 @@ after T P r h Far = r
 unfoldable pub arrived : Numbering → Profile → Receiving → Held → ℕ → Arrival
 arrived T P r h streams = record { verdict = verdictOf T P r h streams; receiving = after T P r h (verdictOf T P r h streams) }
 
--- the payload in the place found: place i is the bytes from payload times i on
+-- the payload in the place found
 abbrev pub stored : Profile → List ℕ → List ℕ → Found → List ℕ
-stored P area bytes (At i) = laid area (P .payload * i) bytes
+stored P area bytes (At i) = laid area (placeAt P i) bytes
 stored P area bytes Nothing = area
 
 -- only a chunk that is held is written to the area

@@ -6,14 +6,14 @@ use native.Mathlib.Omega.{arith}
 use borrow.Author.Tests.{ltb-false}
 use lib.Dec.{ltb}
 use Rattle.numbers.specs.Numbering.{Numbering}
-use Rattle.numbers.specs.Profile.{Profile}
+use Rattle.numbers.specs.Profile.{Profile, isAgreed}
 use Rattle.scans.specs.Scan.{pick}
 use Rattle.holding.specs.declared.held.Held.{Held}
 use Rattle.delivery.specs.declared.receiving.Receiving.{Receiving}
 use Rattle.delivery.specs.declared.arrival.Verdict.{Verdict}
 use Rattle.delivery.specs.declared.arrival.Verdict.the-variants.{Kept, Stray}
 use Rattle.delivery.specs.Receiving.{lowOf}
-use Rattle.delivery.specs.Arrival.{numberOf, isOld, isBeyond, isRepeat, isWedged, isAgreed, judgementOf, verdictOf}
+use Rattle.delivery.specs.Arrival.{numberOf, isOld, isBeyond, isRepeat, isWedged, judgementOf, verdictOf}
 
 -- what stands behind a test that did not answer
 past : {A : Type 0} (t : Bool) {x y z : A} → pick t x y ≡ z → (x ≡ z → ⊥) → (t ≡ false) × (y ≡ z)

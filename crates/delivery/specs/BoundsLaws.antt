@@ -13,12 +13,13 @@ use lib.Dec.{ltb, leb, eqb}
 use Rattle.numbers.specs.declared.circle.Distance.{Distance}
 use Rattle.numbers.specs.declared.circle.Distance.the-variants.{Ahead, Behind, Opposite}
 use Rattle.numbers.specs.Numbering.{Numbering, ring, on, far, on-far}
-use Rattle.numbers.specs.Profile.{Profile}
+use Rattle.numbers.specs.Profile.{Profile, isMisfit, misfit-fits, fits-misfit}
 use Rattle.numbers.specs.ComeLaws.{clear-at}
 use Rattle.numbers.specs.Keeping.{highestOf, keepingSound}
 use Rattle.numbers.specs.KeepingLaws.{sound-bounded, bounded-sound}
 use Rattle.numbers.specs.KeepingRoom.{Distinct, count-numbers, distinct-once, once-distinct}
 use Rattle.scans.specs.Scan.{pick, tick, any, count, either}
+use Rattle.scans.specs.Counts.{none-count, some-count, count-append, any-append}
 use Rattle.scans.specs.Each.{all-map, clash, any-none, none-any, upto-none, none-upto}
 use Rattle.scans.specs.Upto.{anyUpto, Trying, try-start, try-yes, try-no, try-end}
 use Rattle.holding.specs.declared.held.Held.{Held}
@@ -42,14 +43,6 @@ slot-on n b t hb ht l = go (far (ring n) b t) refl l
     go (Ahead d) e l = on-far n b t d hb ht e
     go (Behind d) e l = absurd (omega arith)
     go Opposite e l = absurd (omega arith)
-
-any-append : {A : Type 0} (p : A → Bool) (xs ys : List A) → any p (xs ++ ys) ≡ either (any p xs) (any p ys)
-any-append p [] ys = refl
-any-append p (x ∷ xs) ys = go (p x) (any-append p xs ys)
-  where
-    go : (t : Bool) → any p (xs ++ ys) ≡ either (any p xs) (any p ys) → pick t true (any p (xs ++ ys)) ≡ either (pick t true (any p xs)) (any p ys)
-    go true e = refl
-    go false e = e
 
 -- one more place
 any-next : (p : Held → Bool) (hs : List Held) (i : ℕ) → i < length hs → any p (take (i + 1) hs) ≡ either (any p (take i hs)) (p (getD hs i noHeld))
@@ -184,31 +177,6 @@ module _ {n base : ℕ} {hs : List Held} {m : ℕ} {seen : List Bool} {i : ℕ} 
 
 -- ---- the test says what the bounds say
 
-module _ {A : Type 0} (p : A → Bool) where
-  none-count : (xs : List A) → any p xs ≡ false → count p xs ≡ 0
-  none-count [] e = refl
-  none-count (x ∷ xs) e = go (p x) refl (none-count xs)
-    where
-      go : (t : Bool) → p x ≡ t → (any p xs ≡ false → count p xs ≡ 0) → tick t (count p xs) ≡ 0
-      go true q ih = clash (sym (rw q at e))
-      go false q ih = ih (rw q at e)
-
-  some-count : (xs : List A) → any p xs ≡ true → 1 ≤ count p xs
-  some-count [] e = clash e
-  some-count (x ∷ xs) e = go (p x) refl (some-count xs)
-    where
-      go : (t : Bool) → p x ≡ t → (any p xs ≡ true → 1 ≤ count p xs) → 1 ≤ tick t (count p xs)
-      go true q ih = omega arith
-      go false q ih = ih (rw q at e)
-
-  count-append : (xs ys : List A) → count p (xs ++ ys) ≡ count p xs + count p ys
-  count-append [] ys = omega arith
-  count-append (x ∷ xs) ys = go (p x) (count-append xs ys)
-    where
-      go : (t : Bool) → count p (xs ++ ys) ≡ count p xs + count p ys → tick t (count p (xs ++ ys)) ≡ tick t (count p xs) + count p ys
-      go true e = omega arith
-      go false e = e
-
 module _ (hs : List Held) where
   next-count : (p : Held → Bool) (i : ℕ) → i < length hs → count p (take (i + 1) hs) ≡ count p (take i hs) + tick (p (getD hs i noHeld)) 0
   next-count p i h =
@@ -262,27 +230,15 @@ module _ (hs : List Held) where
 
 unfit-fit : (P : Profile) (h : Held) → isUnfit P h ≡ false → h .used ≡ true → Fit P h
 unfolding isUnfit
-unfit-fit P h e u =
-    let f : pick (ltb (h .len) 1) true (pick (ltb (P .payload) (h .len)) true (leb (P .streams) (h .stream .0))) ≡ false
-    = sym (ap (λ (t : Bool). pick t (pick (ltb (h .len) 1) true (pick (ltb (P .payload) (h .len)) true (leb (P .streams) (h .stream .0)))) false) u) ∙ e in
-    go (ltb (h .len) 1) (ltb (P .payload) (h .len)) refl refl f
-  where
-    go : (a b : Bool) → ltb (h .len) 1 ≡ a → ltb (P .payload) (h .len) ≡ b → pick a true (pick b true (leb (P .streams) (h .stream .0))) ≡ false → Fit P h
-    go true b p q f = clash (sym f)
-    go false true p q f = clash (sym f)
-    go false false p q f =
-        record { some = ltb-false (h .len) 1 p; small = ltb-false (P .payload) (h .len) q; stream = leb-false (P .streams) (h .stream .0) f }
+unfit-fit P h e u = misfit-fits P (h .len) (h .stream .0) (sym (ap (λ (t : Bool). pick t (isMisfit P (h .len) (h .stream .0)) false) u) ∙ e)
 
 fit-unfit : (P : Profile) (h : Held) → (h .used ≡ true → Fit P h) → isUnfit P h ≡ false
 unfolding isUnfit
 fit-unfit P h f = go (h .used) f
   where
-    go : (u : Bool) → (u ≡ true → Fit P h)
-        → pick u (pick (ltb (h .len) 1) true (pick (ltb (P .payload) (h .len)) true (leb (P .streams) (h .stream .0)))) false ≡ false
+    go : (u : Bool) → (u ≡ true → Fit P h) → pick u (isMisfit P (h .len) (h .stream .0)) false ≡ false
     go false f = refl
-    go true f =
-        let w = f refl in
-        rw (le-ltb (h .len) 1 (w .some), le-ltb (P .payload) (h .len) (w .small), lt-leb (P .streams) (h .stream .0) (w .stream))
+    go true f = fits-misfit P (h .len) (h .stream .0) (f refl)
 
 module _ (T : Numbering) (P : Profile) (r : Receiving) where
   pub test-sound : isSound T P r ≡ true → Sound T P r

@@ -9,15 +9,16 @@ use mathlib.Core.Logic.{_⊎_, inl, inr, ⊎-elim}
 use native.Mathlib.Omega.{arith}
 use native.Mathlib.Nat.{zero-add}
 use native.Mathlib.Decide.{decLt, decLe}
-use borrow.Author.Tests.{le-ltb, ltb-true, not-true}
+use borrow.Author.Tests.{le-ltb, not-true}
 use lib.ListN.{length, set, replicate, getD, length-set, length-replicate}
 use lib.Dec.{ltb, eqb}
 use Rattle.numbers.specs.declared.circle.Tsn.{Tsn}
 use Rattle.numbers.specs.declared.circle.Judgement.{Judgement}
 use Rattle.numbers.specs.declared.circle.Judgement.the-variants.{AtOrBehind, AheadWithin, AheadBeyond, AtOpposite}
 use Rattle.numbers.specs.declared.keeping.Keeping.{Keeping}
+use Rattle.numbers.specs.Circle.{ssn0}
 use Rattle.numbers.specs.Numbering.{Numbering}
-use Rattle.numbers.specs.Profile.{Profile}
+use Rattle.numbers.specs.Profile.{Profile, agreed-below}
 use Rattle.numbers.specs.Judgement.{judged}
 use Rattle.numbers.specs.Keeping as keeping
 use Rattle.numbers.specs.Reach.{On, Short}
@@ -29,7 +30,7 @@ use Rattle.scans.specs.Scan.{pick, tick, count, any, findFrom, find-within}
 use Rattle.scans.specs.Each.{All, all-set, clash, found-at}
 use Rattle.holding.specs.declared.held.Held.{Held}
 use Rattle.holding.specs.declared.taking.Took.{Took}
-use Rattle.holding.specs.Held.{noHeld, ssn0, isFree, holds, any-holds}
+use Rattle.holding.specs.Held.{noHeld, isFree, holds, any-holds}
 use Rattle.holding.specs.Taking.{emptied, advanced, took, written}
 use Rattle.holding.specs.Taking as taking
 use Rattle.holding.specs.TakingLaws.{Leaves, same, less, took-leaves, emptied-long, advanced-long, took-refused}
@@ -37,7 +38,7 @@ use Rattle.delivery.specs.declared.receiving.Receiving.{Receiving}
 use Rattle.delivery.specs.declared.arrival.Verdict.{Verdict}
 use Rattle.delivery.specs.declared.arrival.Verdict.the-variants.{Kept, Empty, Long, Duplicate, Wedged, Far, Stray}
 use Rattle.delivery.specs.Receiving.{fresh, isLow, lowOf, takenBy, taken}
-use Rattle.delivery.specs.Arrival.{numberOf, isOld, isBeyond, isRepeat, isAgreed, judgementOf, verdictOf, noted, passed, kept, keptIn, after, arrived, storedBy, areaAfter}
+use Rattle.delivery.specs.Arrival.{numberOf, isOld, isBeyond, isRepeat, judgementOf, verdictOf, noted, passed, kept, keptIn, after, arrived, storedBy, areaAfter}
 use Rattle.delivery.specs.ArrivalLaws.{Coming, kept-coming, stray-coming}
 use Rattle.delivery.specs.Acknowledging.{told, acknowledged}
 use Rattle.delivery.specs.Bounds.{isUsed, numberIn, heldNumbers, Fit, Sound}
@@ -193,14 +194,6 @@ module _ (T : Numbering) (P : Profile) (r : Receiving) (h : Held) (w : Shaped T 
           (arith, low-is T (kept T P r i h), count-filled isUsed numberIn (isLate T (keeping.marked T P (r .keeping) (h .tsn .0))) (r .held) i h noHeld hi u free, bound-kept comes ts (all-numbers isUsed numberIn (On T) (r .held) (w .each)) (s .apart) new-among (P .places) low-room low-here);
       apart = distinct-filled isUsed numberIn (r .held) i h noHeld hi u free new-among (s .apart);
     }
-
-agreed-below : (P : Profile) (s streams : ℕ) → isAgreed P s streams ≡ true → s < P .streams
-unfolding isAgreed
-agreed-below P s streams e = go (ltb s (P .streams)) refl
-  where
-    go : (t : Bool) → ltb s (P .streams) ≡ t → s < P .streams
-    go true q = ltb-true s (P .streams) q
-    go false q = clash (rw q at e)
 
 -- ---- every call keeps the bounds, and what a record has by its type
 

@@ -14,10 +14,10 @@ ghost use mathlib.Core.Path.{_≡_};
 ghost use Prim.Native.Nat.{_^_, _<_, _≤_};
 ghost use lib.ListN.{length};
 ghost use Rattle.numbers.specs.Numbering.{ring};
-ghost use Rattle.numbers.specs.Profile.{rail};
+ghost use Rattle.numbers.specs.Profile.{rail, isAgreed};
 ghost use Rattle.scans.specs.Scan.{findFrom};
 ghost use Rattle.holding.specs.Held.{asHeld, isFree};
-ghost use Rattle.delivery.specs.Arrival.{isOld, isBeyond, isRepeat, isWedged, isAgreed, verdictOf, noted, passed, kept, keptIn, stored, arrived, areaAfter};
+ghost use Rattle.delivery.specs.Arrival.{isOld, isBeyond, isRepeat, isWedged, verdictOf, noted, passed, kept, keptIn, stored, arrived, areaAfter};
 
 pub enum Verdict {
     Kept,

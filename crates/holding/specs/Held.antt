@@ -5,15 +5,11 @@ use mathlib.Core.Bool.{Bool, true, false, not}
 use mathlib.Core.List.{List}
 use borrow.Author.Tests.{eq-eqb, ne-eqb, eqb-true}
 use lib.Dec.{eqb}
-use Rattle.numbers.specs.declared.circle.Ssn.{Ssn}
+use Rattle.numbers.specs.Circle.{tsn0, ssn0}
 use Rattle.scans.specs.Scan.{pick, any, count}
 use Rattle.scans.specs.Each.{clash}
 use Rattle.holding.specs.declared.held.Chunk.{Chunk}
 use Rattle.holding.specs.declared.held.Held.{Held}
-
--- the SSN that a stream begins with
-abbrev pub ssn0 : Ssn
-ssn0 = record { 0 = 0 }
 
 -- a free place
 abbrev pub noHeld : Held
@@ -22,7 +18,7 @@ noHeld = record {
   begin = false;
   end = false;
   unordered = false;
-  tsn = record { 0 = 0 };
+  tsn = tsn0;
   stream = record { 0 = 0 };
   ssn = ssn0;
   ppid = 0;

@@ -1,7 +1,7 @@
 -- Laws of runs and of the choice of a message: what the loops that compute them keep, and what a choice is. Assumes nothing.
 use Prim.Native.Nat.{ℕ, zero, suc, _+_, _-_, _<_, _≤_}
 use mathlib.Core.Path.{_≡_, refl, sym, ap, _∙_}
-use mathlib.Core.Bool.{Bool, true, false}
+use mathlib.Core.Bool.{Bool, true, false, not}
 use mathlib.Core.List.{List, [], _∷_, _++_}
 use native.Mathlib.Omega.{arith}
 use native.Mathlib.Numerals.{add-one}
@@ -19,10 +19,19 @@ use Rattle.scans.specs.Each.{clash}
 use Rattle.holding.specs.declared.held.Held.{Held}
 use Rattle.holding.specs.declared.message.Best.{Best}
 use Rattle.holding.specs.declared.message.Places.{Places}
-use Rattle.holding.specs.Held.{noHeld}
+use Rattle.holding.specs.Held.{noHeld, holds}
 use Rattle.holding.specs.Message.{Run, broken, whole, led, onward, isWhole, continues, follow, opens, Choice, none, one, isOne, ranked, better, chosen}
 
 -- ---- following a run
+
+-- a chunk that goes on with a run has the number asked for
+pub continues-holds : (first : Held) (t : ℕ) (x : Held) → continues first t x ≡ true → holds t x ≡ true
+unfolding continues
+continues-holds first t x e = go (holds t x) _ e
+  where
+    go : (u r : Bool) → pick (not u) false r ≡ true → u ≡ true
+    go true r e = refl
+    go false r e = clash e
 
 -- the run that the first places stand for; none: it is broken
 abbrev pub runOf : Places → Run

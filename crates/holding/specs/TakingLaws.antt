@@ -10,6 +10,7 @@ use lib.ListN.{length, take, drop, set, getD, length-set, drop-of-length-le}
 use lib.Seq.{getD-take, length-take-le}
 use lib.Dec.{leb, ltb}
 use Rattle.numbers.specs.declared.circle.Ssn.{Ssn}
+use Rattle.numbers.specs.Circle.{ssn0}
 use Rattle.numbers.specs.Numbering.{Numbering, on, key}
 use Rattle.numbers.specs.Profile.{Profile}
 use Rattle.octets.specs.Bytes.{laid}
@@ -26,7 +27,7 @@ use Rattle.holding.specs.declared.taking.Answer.the-variants.{Taken, Sho
 use Rattle.holding.specs.declared.taking.Answer.the-variants as answer
 use Rattle.holding.specs.declared.taking.Took.{Took}
 use Rattle.holding.specs.declared.taking.Message.{Message}
-use Rattle.holding.specs.Held.{noHeld, ssn0}
+use Rattle.holding.specs.Held.{noHeld}
 use Rattle.holding.specs.Message.{Run, broken, whole, led, onward, continues, follow, Choice, none, one, ranked, better, chosen, chunksAt, opens}
 use Rattle.holding.specs.MessageLaws.{runOf, headOf, bestOf, Heads, follow-heads}
 use Rattle.holding.specs.Taking.{firstOf, lenAt, lengthOf, payloadAt, copied, emptied, advanced, messageOf, numberOf, tookBy, took, writtenBy, written}

@@ -14,9 +14,10 @@ use lib.Dec.{eqb, leb, ltb}
 use Rattle.scans.specs.declared.Found.{Found}
 use Rattle.scans.specs.declared.Found.the-variants.{At, Nothing}
 use Rattle.scans.specs.Scan.{pick, findFrom, foldFrom}
-use Rattle.scans.specs.Each.{All, all-map, all-at, all-of, count-map, find-map, any-map, set-map, if-not, if-so, clash, found-at}
+use Rattle.scans.specs.Each.{All, all-map, all-at, all-of, count-map, find-map, any-map, set-map, if-not, if-so, clash, found-at, replicate-kept}
 use Rattle.numbers.specs.declared.circle.Tsn.{Tsn}
 use Rattle.numbers.specs.declared.circle.Ssn.{Ssn}
+use Rattle.numbers.specs.Circle.{ssn0}
 use Rattle.numbers.specs.Numbering.{ring, line, on, key, Within, far-law, on-law, same-law, key-law, key-line}
 use Rattle.numbers.specs.Profile.{Profile}
 use Rattle.numbers.specs.Judgement.{judged}
@@ -26,8 +27,9 @@ use Rattle.octets.specs.Bytes.{laid}
 use Rattle.holding.specs.declared.held.Held.{Held}
 use Rattle.holding.specs.declared.taking.Took.{Took}
 use Rattle.holding.specs.declared.taking.Answer.the-variants.{Taken, Short}
-use Rattle.holding.specs.Held.{noHeld, ssn0, isFree, holds, is-held}
+use Rattle.holding.specs.Held.{noHeld, isFree, holds, is-held}
 use Rattle.holding.specs.Message.{Run, broken, whole, Choice, none, one, isOfOne, continues, led, onward, follow, isLeftEnd, isExpected, opens, ranked, better, chosen, isOne, chunksAt}
+use Rattle.holding.specs.MessageLaws.{continues-holds}
 use Rattle.holding.specs.Taking.{firstOf, lenAt, lengthOf, payloadAt, copied, emptied, advanced, messageOf, tookBy, took, writtenBy, written}
 use Rattle.delivery.specs.declared.receiving.Receiving.{Receiving}
 use Rattle.delivery.specs.declared.arrival.Verdict.{Verdict}
@@ -56,12 +58,7 @@ left-used x e = go (x .used) e
     go false e = clash e
 
 continues-used : (first : Held) (t : ℕ) (x : Held) → continues first t x ≡ true → x .used ≡ true
-unfolding continues
-continues-used first t x e = is-held t x (go (holds t x) _ e) .0
-  where
-    go : (u r : Bool) → pick (not u) false r ≡ true → u ≡ true
-    go true r e = refl
-    go false r e = clash e
+continues-used first t x e = is-held t x (continues-holds first t x e) .0
 
 module _ (P : Profile) (h k : ℕ) where
   -- the circles' sizes
@@ -80,13 +77,13 @@ module _ (P : Profile) (h k : ℕ) where
   down-at : (hs : List Held) (i : ℕ) → getD (map down hs) i noHeld ≡ down (getD hs i noHeld)
   down-at hs i = ap (λ (d : Held). getD (map down hs) i d) (sym down-none) ∙ List·getD-map down hs i noHeld
 
+  ssn-none : reduceSsn m ssn0 ≡ ssn0
+  ssn-none = rw (zero-mod m)
+
   next-at : (next : List Ssn) (s : ℕ) → getD (map (reduceSsn m) next) s ssn0 .0 ≡ getD next s ssn0 .0 % m
   next-at next s =
       ap (λ (x : Ssn). x .0)
-      (ap (λ (d : Ssn). getD (map (reduceSsn m) next) s d) (sym none-law) ∙ List·getD-map (reduceSsn m) next s ssn0)
-    where
-      none-law : reduceSsn m ssn0 ≡ ssn0
-      none-law = rw (zero-mod m)
+      (ap (λ (d : Ssn). getD (map (reduceSsn m) next) s d) (sym ssn-none) ∙ List·getD-map (reduceSsn m) next s ssn0)
 
   -- ---- of what is held
 
@@ -283,17 +280,9 @@ module _ (P : Profile) (h k : ℕ) where
   sack-law r =
       rw (count-map down isFree isFree (r .held) (all-of _ (λ x. refl) (r .held)), kept.blocks-law n P (r .keeping), kept.told-law n P (r .keeping))
 
-  none-held : (j : ℕ) → replicate j noHeld ≡ map down (replicate j noHeld)
-  none-held zero = refl
-  none-held (suc j) = rw (down-none, ← none-held j)
-
-  none-next : (j : ℕ) → replicate j ssn0 ≡ map (reduceSsn m) (replicate j ssn0)
-  none-next zero = refl
-  none-next (suc j) = rw (zero-mod m, ← none-next j)
-
   pub fresh-law : (t : Tsn) → 0 < n → 0 < t .0 → fresh (ring n) P (reduceTsn n t) ≡ reduce n m (fresh line P t)
   unfolding fresh
-  fresh-law t z l = rw (kept.fresh-law n P t z l, ← none-held (P .places), ← none-next (P .streams))
+  fresh-law t z l = rw (kept.fresh-law n P t z l, replicate-kept down noHeld down-none (P .places), replicate-kept (reduceSsn m) ssn0 ssn-none (P .streams))
 
   -- ---- the operations
 

@@ -15,7 +15,8 @@ use mir.Val.{boolByte as bit}
 use Rattle.scans.specs.declared.Found.{Found}
 use Rattle.scans.specs.declared.Found.the-variants.{At, Nothing}
 use Rattle.scans.specs.Scan.{pick, any, findFrom, bit-le, find-within}
-use Rattle.scans.specs.Each.{all-set, clash, found-at}
+use Rattle.scans.specs.Counts.{count-set}
+use Rattle.scans.specs.Each.{all-set, clash, neither, found-at}
 use Rattle.numbers.specs.declared.circle.Tsn.{Tsn}
 use Rattle.numbers.specs.declared.circle.Ssn.{Ssn}
 use Rattle.numbers.specs.declared.circle.Judgement.{Judgement}
@@ -38,7 +39,7 @@ use Rattle.delivery.specs.Arrival as arrival
 use Rattle.delivery.specs.Arrival.{numberOf, isOld, isBeyond, isRepeat, isWedged, judgementOf, verdictOf, noted, keptIn, after, arrived}
 use Rattle.delivery.specs.ArrivalLaws.{kept-coming}
 use Rattle.line.specs.Runs.{copies}
-use Rattle.line.specs.Count.{below, isBelow, below-suc, below-span, below-le, full-below, count-set, copies-set}
+use Rattle.line.specs.Count.{below, isBelow, below-suc, below-span, below-le, full-below, copies-set}
 use Rattle.line.specs.Sender.{Sender}
 use Rattle.line.specs.Chosen.{Real, holds-eqb}
 use Rattle.line.specs.Sound.{Sound, came, came-before, came-past, came-ahead, came-room, low-below, offset-line, come-ahead}
@@ -153,7 +154,7 @@ module _ {P : Profile} {base streams : ℕ} {chunk : ℕ → Chunk} {size : ℕ 
         let a : bit (isBelow (suc p) (getD hs i noHeld)) ≡ 0 = rw empty in
         let c : suc p ≤ chunk n .tsn .0 = omega (arith, send .number n lb) in
         let b : bit (isBelow (suc p) (asHeld (chunk n) (size n))) ≡ 0 = rw (le-ltb (chunk n .tsn .0) (suc p) c) in
-        omega (arith, count-set (isBelow (suc p)) hs i (asHeld (chunk n) (size n)) here)
+        omega (arith, count-set (isBelow (suc p)) noHeld hs i (asHeld (chunk n) (size n)) here)
 
     room' : (d : ℕ) → getD (shift (run new) new) d false ≡ true → d + 1 + below hs' (suc (p + run new)) ≤ P .places
     room' d e =
@@ -232,7 +233,7 @@ module _ {P : Profile} {base streams : ℕ} {chunk : ℕ → Chunk} {size : ℕ 
       let v = kept-coming line P r c streams e .0 in
       let low : ℕ = lowOf line r in
       let o = judged-within (judgementOf line P r t) (P .places - low) (offsetOf line (r .keeping) t) (judged-offset line (r .keeping) (P .places - low) t (judgementOf line P r t) refl) (v .new) (v .near) in
-      let b = clear (isCome line (r .keeping) t) (any (holds t) (r .held)) (v .first) in
+      let b = neither (isCome line (r .keeping) t) (any (holds t) (r .held)) (v .first) .0 in
       let lt : pt < t = omega (arith, offset-line (r .keeping) t, o) in
       let f : getD (r .keeping .come) (n - suc pt) false ≡ false
       = ap (λ (x : ℕ). getD (r .keeping .come) (x - suc pt) false) (sym (send .number n lb)) ∙ (sym (come-ahead (r .keeping) t lt) ∙ b) in
@@ -240,10 +241,6 @@ module _ {P : Profile} {base streams : ℕ} {chunk : ℕ → Chunk} {size : ℕ 
       = omega (arith, o, send .number n lb, offset-line (r .keeping) t, low-below send s (r .keeping) refl refl) in
       go (marked-is P (r .keeping) t (o .0) (omega (arith, o))) (omega (arith, send .number n lb)) f fits (findFrom isFree 0 (r .held)) refl
     where
-      clear : (x y : Bool) → pick x true y ≡ false → x ≡ false
-      clear true y q = clash (sym q)
-      clear false y q = refl
-
       q : offsetOf line (r .keeping) t - 1 ≡ n - suc pt
       q = omega (arith, send .number n lb, offset-line (r .keeping) t)
 

@@ -25,6 +25,7 @@ use Rattle.holding.specs.declared.held.Chunk.{Chunk}
 use Rattle.holding.specs.declared.held.Held.{Held}
 use Rattle.holding.specs.Held.{noHeld, asHeld, holds, holds-is, is-held}
 use Rattle.holding.specs.Message.{Run, broken, whole, Choice, none, one, isOfOne, continues, led, onward, follow, opens, ranked, better, chunksAt}
+use Rattle.holding.specs.MessageLaws.{continues-holds}
 use Rattle.holding.specs.Taking.{emptied}
 use Rattle.line.specs.Runs.{copies}
 use Rattle.line.specs.Count.{copies-cons, copies-nil, copies-set, copies-at, place-of, holds-none}
@@ -47,15 +48,6 @@ find-none p d (x ∷ xs) i j e l q = go (p x) refl j l q (find-none p d xs (i + 
         omega arith
     go false s zero l q ih = clash (sym s ∙ q)
     go false s (suc j) l q ih = ih j (rw s at e) (omega arith) q
-
--- what `continues` asks
-continues-is : (first : Held) (t : ℕ) (x : Held) → continues first t x ≡ true → holds t x ≡ true
-unfolding continues
-continues-is first t x e = go (holds t x) _ e
-  where
-    go : (u r : Bool) → pick (not u) false r ≡ true → u ≡ true
-    go true r e = refl
-    go false r e = clash e
 
 beq-refl : (b : Bool) → Bool·beq b b ≡ true
 beq-refl true = refl
@@ -238,7 +230,7 @@ module _ (P : Profile) (base streams : ℕ) (chunk : ℕ → Chunk) (size : ℕ 
       next-is : (f i j : ℕ) → holds f (at i) ≡ true → findFrom (continues first (on line (at i .tsn .0) 1)) 0 hs ≡ At j → holds (suc f) (at j) ≡ true
       next-is f i j e q =
           let t : on line (at i .tsn .0) 1 ≡ suc f = on-one (at i .tsn .0) ∙ ap suc (is-held f (at i) e .1) in
-          rw t at (continues-is first _ (at j) (found-at _ noHeld hs j q))
+          rw t at (continues-holds first _ (at j) (found-at _ noHeld hs j q))
 
       -- a whole message
       pub follow-whole : (more f i : ℕ) (is : List ℕ) → holds f (at i) ≡ true → follow line hs first more i (at i) ≡ whole is

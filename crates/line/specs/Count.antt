@@ -13,14 +13,11 @@ use lib.Dec.{eqb, ltb}
 use mir.Val.{boolByte as bit}
 use Rattle.scans.specs.declared.Found.the-variants.{At, Nothing}
 use Rattle.scans.specs.Scan.{pick, tick, count, findFrom, bit-le}
+use Rattle.scans.specs.Counts.{tick-bit, count-most, count-set}
 use Rattle.scans.specs.Each.{All, clash}
 use Rattle.holding.specs.declared.held.Held.{Held}
 use Rattle.line.specs.Runs.{copies}
 use Rattle.holding.specs.Held.{noHeld, isFree, holds, holds-is}
-
-pub tick-bit : (t : Bool) (n : ℕ) → tick t n ≡ bit t + n
-tick-bit true n = omega arith
-tick-bit false n = omega arith
 
 pub bit-lt : (a b : ℕ) → bit (ltb a b) ≡ 1 → a < b
 bit-lt a b e = go (ltb a b) refl
@@ -106,13 +103,9 @@ module _ (hs : List Held) (a : ℕ) where
 pub below-mono : (hs : List Held) (a b : ℕ) → a ≤ b → below hs a ≤ below hs b
 below-mono hs a b l = let e : a + (b - a) ≡ b = omega arith in rw e at (below-grows hs a (b - a))
 
-pub count-le : {A : Type 0} (p : A → Bool) (xs : List A) → count p xs ≤ length xs
-count-le p [] = zero-le
-count-le p (x ∷ xs) = omega (arith, tick-bit (p x) (count p xs), bit-le (p x), count-le p xs)
-
 pub below-le : (hs : List Held) (a : ℕ) → below hs a ≤ length hs
 unfolding below
-below-le hs a = count-le (isBelow a) hs
+below-le hs a = count-most (isBelow a) hs
 
 -- ---- places
 
@@ -163,17 +156,10 @@ full-below (x ∷ hs) i a e f = go (x .used) refl (full-below hs (i + 1) a)
 
 -- ---- one place changed
 
-pub count-set : (p : Held → Bool) (hs : List Held) (i : ℕ) (x : Held) → i < length hs
-    → count p (set hs i x) + bit (p (getD hs i noHeld)) ≡ count p hs + bit (p x)
-count-set p [] i x l = absurd (omega arith)
-count-set p (y ∷ hs) zero x l = omega (arith, tick-bit (p x) (count p hs), tick-bit (p y) (count p hs))
-count-set p (y ∷ hs) (suc i) x l =
-    omega (arith, tick-bit (p y) (count p hs), tick-bit (p y) (count p (set hs i x)), count-set p hs i x (omega arith))
-
 pub copies-set : (hs : List Held) (i : ℕ) (x : Held) (n : ℕ) → i < length hs
     → copies (set hs i x) n + bit (holds n (getD hs i noHeld)) ≡ copies hs n + bit (holds n x)
 unfolding copies
-copies-set hs i x n l = count-set (holds n) hs i x l
+copies-set hs i x n l = count-set (holds n) noHeld hs i x l
 
 -- emptying places takes from no count what does not pass
 pub count-empty : (p : Held → Bool) → p noHeld ≡ false → (hs : List Held) (i : ℕ) → count p (set hs i noHeld) ≤ count p hs

@@ -33,7 +33,7 @@ use Rattle.delivery.specs.declared.arrival.Verdict.the-variants.{Kept, Duplicat
 use Rattle.delivery.specs.declared.acknowledging.Sack.{Sack}
 use Rattle.delivery.specs.Receiving.{fresh, isLow, lowOf, taken}
 use Rattle.delivery.specs.Arrival as arrival
-use Rattle.delivery.specs.Arrival.{isRepeat, isWedged, isAgreed, judgementOf, verdictOf, noted, passed, arrived, areaAfter}
+use Rattle.delivery.specs.Arrival.{isRepeat, isWedged, judgementOf, verdictOf, noted, passed, arrived, areaAfter}
 use Rattle.delivery.specs.Acknowledging.{sackOf, told, acknowledged}
 use Rattle.line.specs.Reduce.{reduceSsn}
 use Rattle.line.specs.Sender.{Sender, starts, ordinal, ordinal-suc, ordinal-zero}
@@ -80,7 +80,6 @@ counted zero m = ordinal-zero first chunk 0
 counted (suc n) m = omega (arith, ordinal-suc first chunk 0 n, counted n (omega arith), each n (omega arith) (decLt n first))
 
 honest : Sender rail first 1 chunk
-unfolding isAgreed
 honest = record {
   number = λ n l. refl;
   begins = refl;
@@ -115,7 +114,7 @@ events =
     ∷ (take out ∷ (take out ∷ (comes (first + 3) ∷ (take out ∷ (take out ∷ (comes (first + 3) ∷ (sack ∷ [])))))))))))
 
 fair : Fair rail (2 ^ 31) first chunk payload 1 (start line rail initial area) events
-unfolding fresh keeping.fresh before on far judged offsetOf isCome settled marked listed keeping.told holds isOfOne continues follow isLeftEnd isExpected opens key better chosen advanced took isLow lowOf taken isRepeat isWedged isAgreed judgementOf verdictOf noted passed arrival.kept arrived told acknowledged
+unfolding fresh keeping.fresh before on far judged offsetOf isCome settled marked listed keeping.told holds isOfOne continues follow isLeftEnd isExpected opens key better chosen advanced took isLow lowOf taken isRepeat isWedged judgementOf verdictOf noted passed arrival.kept arrived told acknowledged
 fair = (
   (first + 1, omega arith, refl, refl, omega arith),
   ((first, omega arith, refl, refl, omega arith), ((first + 3, omega arith, refl, refl, omega arith), ((first + 3, omega arith, refl, refl, omega arith), tt))),
@@ -155,7 +154,7 @@ circle-says : answers (ring (2 ^ 32)) (ring (2 ^ 16)) rail 1 (start (ring (2 ^ 3
     ∷ (judges Duplicate
     ∷ (tells (sackAt 0 65536 blockAt2 (record { 0 = 2 } ∷ []) 1)
     ∷ [])))))))))))
-unfolding answers fresh keeping.fresh before on far onCircle judged offsetOf isCome settled marked listed keeping.told runs laidOut blocksOf laid holds isOfOne continues follow isLeftEnd isExpected opens key better chosen advanced took written isLow lowOf taken isRepeat isWedged isAgreed judgementOf verdictOf noted passed arrival.kept arrived areaAfter sackOf told acknowledged
+unfolding answers fresh keeping.fresh before on far onCircle judged offsetOf isCome settled marked listed keeping.told runs laidOut blocksOf laid holds isOfOne continues follow isLeftEnd isExpected opens key better chosen advanced took written isLow lowOf taken isRepeat isWedged judgementOf verdictOf noted passed arrival.kept arrived areaAfter sackOf told acknowledged
 circle-says = refl
 
 -- as the theorem says, with both sides of it computed

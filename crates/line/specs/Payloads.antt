@@ -8,7 +8,7 @@ use native.Mathlib.Omega.{arith}
 use native.Mathlib.Decide.{decLt, ℕ-discrete}
 use borrow.Author.Tests.{ltb-false}
 use lib.ListN.{length, take as first, drop, set, getD, length-append}
-use lib.Seq.{getD-set-same, getD-set-other, drop-set-lt, drop-set-add, take-set-le, take-append-seam, length-take-le, drop-at}
+use lib.Seq.{getD-set-same, getD-set-other, drop-set-add, take-set-le, take-append-seam, length-take-le, drop-at}
 use lib.Dec.{ltb}
 use Rattle.scans.specs.declared.Found.{Found}
 use Rattle.scans.specs.declared.Found.the-variants.{At, Nothing}
@@ -18,7 +18,7 @@ use Rattle.numbers.specs.declared.circle.Tsn.{Tsn}
 use Rattle.numbers.specs.Numbering.{line}
 use Rattle.numbers.specs.Profile.{Profile}
 use Rattle.octets.specs.Bytes.{laid}
-use Rattle.octets.specs.BytesLaws.{laid-is, laid-more, length-laid}
+use Rattle.octets.specs.BytesLaws.{drop-past, laid-is, laid-more, length-laid}
 use Rattle.holding.specs.declared.held.Chunk.{Chunk}
 use Rattle.holding.specs.declared.held.Held.{Held}
 use Rattle.holding.specs.declared.taking.Answer.the-variants.{Taken, Short}
@@ -43,11 +43,6 @@ use Rattle.line.specs.Takes.{Picks, picks, taken-sound}
 use Rattle.line.specs.Sequence.{same-at, arrive-sound, acknowledged-sound}
 
 -- ---- bytes laid beside others
-
-laid-behind : (vs l : List ℕ) (b a : ℕ) → b + length vs ≤ a → drop a (laid l b vs) ≡ drop a l
-unfolding laid
-laid-behind [] l b a h = refl
-laid-behind (v ∷ vs) l b a h = laid-behind vs (set l b v) (suc b) a (omega arith) ∙ drop-set-lt a l b v (omega arith)
 
 laid-before : (vs l : List ℕ) (b a n : ℕ) → a + n ≤ b → first n (drop a (laid l b vs)) ≡ first n (drop a l)
 unfolding laid
@@ -103,7 +98,7 @@ module _ {P : Profile} {payload : ℕ → List ℕ} {area : List ℕ} {hs : List
 
               beside : Dec (j < i) → first (length (payload m)) (drop (P .payload * j) (laid area (P .payload * i) (payload n))) ≡ first (length (payload m)) (drop (P .payload * j) area)
               beside (yes l) = laid-before (payload n) area (P .payload * i) (P .payload * j) (length (payload m)) (omega (arith, beyond j i l, v .0))
-              beside (no l) = ap (first (length (payload m))) (laid-behind (payload n) area (P .payload * i) (P .payload * j) (omega (arith, beyond i j (omega arith))))
+              beside (no l) = ap (first (length (payload m))) (drop-past (payload n) area (P .payload * i) (P .payload * j) (omega (arith, beyond i j (omega arith))))
 
 still-held : (hs : List Held) (i j m : ℕ) → holds m (getD (set hs i noHeld) j noHeld) ≡ true → holds m (getD hs j noHeld) ≡ true
 still-held [] i j m e = e

@@ -6,13 +6,12 @@ use mathlib.Core.Bool.{Bool, true, false, not}
 use mir.Val.{boolByte as bit}
 use native.Mathlib.Nat.{add-suc, add-zero}
 use native.Mathlib.Omega.{arith}
-use borrow.Author.Tests.{le-ltb, eq-eqb, ltb-true, ltb-false, eqb-true}
+use borrow.Author.Tests.{le-ltb, eq-eqb, ltb-false, eqb-true}
 use lib.Dec.{eqb, ltb}
 use Rattle.scans.specs.Scan.{pick, bit-le}
 use Rattle.scans.specs.Each.{clash}
-use Rattle.numbers.specs.Profile.{Profile}
+use Rattle.numbers.specs.Profile.{Profile, isAgreed, agreed-below}
 use Rattle.holding.specs.declared.held.Chunk.{Chunk}
-use Rattle.delivery.specs.Arrival.{isAgreed}
 
 -- an ordered message of stream s begins at n
 unfoldable pub starts : ℕ → (ℕ → Chunk) → ℕ → ℕ → Bool
@@ -45,12 +44,7 @@ pub record Sender (P : Profile) (first streams : ℕ) (chunk : ℕ → Chunk) : 
 
 module _ {P : Profile} {first streams : ℕ} {chunk : ℕ → Chunk} (send : Sender P first streams chunk) where
   pub agreed-few : (n : ℕ) → first ≤ n → chunk n .stream .0 < P .streams
-  unfolding isAgreed
-  agreed-few n l = go (ltb (chunk n .stream .0) (P .streams)) refl (send .agreed n l)
-    where
-      go : (t : Bool) → ltb (chunk n .stream .0) (P .streams) ≡ t → pick t (ltb (chunk n .stream .0) streams) false ≡ true → chunk n .stream .0 < P .streams
-      go true e q = ltb-true (chunk n .stream .0) (P .streams) e
-      go false e q = clash q
+  agreed-few n l = agreed-below P (chunk n .stream .0) streams (send .agreed n l)
 
 module _ (first : ℕ) (chunk : ℕ → Chunk) where
   pub starts-at : (n : ℕ) → first ≤ n → chunk n .begin ≡ true → chunk n .unordered ≡ false → starts first chunk (chunk n .stream .0) n ≡ true

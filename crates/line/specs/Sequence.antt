@@ -11,9 +11,11 @@ use borrow.Author.Tests.{le-ltb, leb-false}
 use lib.ListN.{length, getD, replicate, length-replicate}
 use lib.Dec.{eqb, leb, ltb}
 use Rattle.scans.specs.Scan.{pick, count, any, findFrom}
+use Rattle.scans.specs.Counts.{tick-bit}
 use Rattle.scans.specs.Each.{All, if-not, clash}
 use Rattle.numbers.specs.declared.circle.Tsn.{Tsn}
 use Rattle.numbers.specs.declared.circle.Ssn.{Ssn}
+use Rattle.numbers.specs.Circle.{ssn0}
 use Rattle.numbers.specs.Numbering.{ring, line, before, Within}
 use Rattle.numbers.specs.Profile.{Profile}
 use Rattle.numbers.specs.Keeping as keeping
@@ -24,7 +26,7 @@ use Rattle.holding.specs.declared.held.Chunk.{Chunk}
 use Rattle.holding.specs.declared.held.Held.{Held}
 use Rattle.holding.specs.declared.taking.Answer.{Answer as Taking}
 use Rattle.holding.specs.declared.taking.Answer.the-variants.{Taken, Nothing as None, Short}
-use Rattle.holding.specs.Held.{noHeld, ssn0, asHeld, holds, isFree}
+use Rattle.holding.specs.Held.{noHeld, asHeld, holds, isFree}
 use Rattle.holding.specs.Taking.{firstOf, written}
 use Rattle.delivery.specs.declared.receiving.Receiving.{Receiving}
 use Rattle.delivery.specs.declared.receiving.Taken.{Taken as Left}
@@ -42,7 +44,7 @@ use Rattle.line.specs.Reduce.{reduceHeld, reduceSsn, reduce, reduceTaken
 use Rattle.line.specs.Runs.{Event, arrive, take, sack, Answer, judges, gives, tells, Lent, Turn, turn, start, answers, finally, reduceEvent, reduceAnswer, reduceLent, Fair, copies, handed, handedOver, joinedAll, isOrderedIn, ssnOf, orderGiven, upFrom, acknowledges}
 use Rattle.line.specs.Sender.{Sender}
 use Rattle.line.specs.Agree.{Near, arrived-law, area-law, taken-law, written-law, sack-law}
-use Rattle.line.specs.Count.{tick-bit, holds-none, copies-nil, copies-cons}
+use Rattle.line.specs.Count.{holds-none, copies-nil, copies-cons}
 use Rattle.line.specs.Chosen.{Real}
 use Rattle.line.specs.Sound.{Sound, came, Wide, came-before, came-ahead, near}
 use Rattle.line.specs.Arrives.{SoundOf, arrived-sound}

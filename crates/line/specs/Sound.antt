@@ -16,12 +16,13 @@ use Rattle.scans.specs.Scan.{pick, count, bit-le}
 use Rattle.scans.specs.Each.{All, if-so}
 use Rattle.numbers.specs.declared.circle.Ssn.{Ssn}
 use Rattle.numbers.specs.declared.keeping.Keeping.{Keeping}
+use Rattle.numbers.specs.Circle.{ssn0}
 use Rattle.numbers.specs.Numbering.{line, far, Within}
 use Rattle.numbers.specs.Profile.{Profile}
 use Rattle.numbers.specs.Keeping.{offsetOf, isCome}
 use Rattle.holding.specs.declared.held.Chunk.{Chunk}
 use Rattle.holding.specs.declared.held.Held.{Held}
-use Rattle.holding.specs.Held.{ssn0, asHeld}
+use Rattle.holding.specs.Held.{asHeld}
 use Rattle.delivery.specs.Receiving.{isLow}
 use Rattle.line.specs.Runs.{copies}
 use Rattle.line.specs.Count.{bit-lt, bit-ge, below, isBelow, below-run, below-le, all-held}

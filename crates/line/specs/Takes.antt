@@ -17,12 +17,14 @@ use mir.Val.{boolByte as bit}
 use Rattle.scans.specs.Scan.{pick, count, bit-le}
 use Rattle.scans.specs.Each.{All, all-set, clash}
 use Rattle.numbers.specs.declared.circle.Ssn.{Ssn}
+use Rattle.numbers.specs.Circle.{ssn0}
 use Rattle.numbers.specs.Numbering.{line, on}
 use Rattle.numbers.specs.Profile.{Profile}
 use Rattle.holding.specs.declared.held.Chunk.{Chunk}
 use Rattle.holding.specs.declared.held.Held.{Held}
-use Rattle.holding.specs.Held.{noHeld, ssn0, asHeld, holds, holds-is, is-held}
+use Rattle.holding.specs.Held.{noHeld, asHeld, holds, holds-is, is-held}
 use Rattle.holding.specs.Message.{Run, broken, whole, Choice, none, one, isLeftEnd, isExpected, opens, follow, chosen, chunksAt}
+use Rattle.holding.specs.TakingLaws.{emptied-long}
 use Rattle.holding.specs.Taking.{emptied, advanced, firstOf, lengthOf, messageOf, tookBy, took}
 use Rattle.holding.specs.declared.taking.Answer.{Answer}
 use Rattle.holding.specs.declared.taking.Answer.the-variants.{Taken, Nothing, Short}
@@ -104,10 +106,6 @@ unfolding advanced on
 advanced-set next h e = rw e
 
 -- ---- what emptying leaves
-
-emptied-long : (hs : List Held) (is : List ℕ) → length (emptied hs is) ≡ length hs
-emptied-long hs [] = refl
-emptied-long hs (i ∷ is) = emptied-long (set hs i noHeld) is ∙ length-set hs i noHeld
 
 emptied-real : (base : ℕ) (chunk : ℕ → Chunk) (size : ℕ → ℕ) (hs : List Held) (is : List ℕ) → All (Real base chunk size) hs → All (Real base chunk size) (emptied hs is)
 emptied-real base chunk size hs [] w = w

@@ -56,12 +56,15 @@ module _ {P : Profile} {base streams : ℕ} {chunk : ℕ → Chunk} {size : ℕ 
   abbrev p : ℕ
   p = r .keeping .point .0
 
-  none-under : below hs least ≡ 0
-  none-under = below-none hs least (λ n l. go n l (decLt 0 (copies hs n)))
+  none-there : (n : ℕ) → n < least → copies hs n ≡ 0
+  none-there n l = go (decLt 0 (copies hs n))
     where
-      go : (n : ℕ) → n < least → Dec (0 < copies hs n) → copies hs n ≡ 0
-      go n l (yes h) = absurd (omega (arith, held-within send s n h))
-      go n l (no h) = omega arith
+      go : Dec (0 < copies hs n) → copies hs n ≡ 0
+      go (yes h) = absurd (omega (arith, held-within send s n h))
+      go (no h) = omega arith
+
+  none-under : below hs least ≡ 0
+  none-under = below-none hs least none-there
 
   single : (n : ℕ) → copies hs n ≤ 1
   single n = omega (arith, s .once n, bit-le (came base p (r .keeping .come) n))
@@ -75,11 +78,7 @@ module _ {P : Profile} {base streams : ℕ} {chunk : ℕ → Chunk} {size : ℕ 
       where
         go : Dec (least ≤ p) → least ≤ p
         go (yes l) = l
-        go (no l) = absurd (omega (arith, end .1, below-none hs (suc p) (λ n m. none-here n m (decLt 0 (copies hs n)))))
-          where
-            none-here : (n : ℕ) → n < suc p → Dec (0 < copies hs n) → copies hs n ≡ 0
-            none-here n m (yes h) = absurd (omega (arith, held-within send s n h))
-            none-here n m (no h) = omega arith
+        go (no l) = absurd (omega (arith, end .1, below-none hs (suc p) (λ n m. none-there n (omega arith))))
 
     -- the least is held
     here : (i : ℕ) × (i < length hs) × (holds least (getD hs i noHeld) ≡ true)

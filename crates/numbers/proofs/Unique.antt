@@ -7,6 +7,7 @@ use Rattle.numbers.proofs.circle.Tsn.key.Reads as key-reads
 use Rattle.numbers.proofs.circle.Tsn.judge.Reads as judge-reads
 use Rattle.numbers.proofs.circle.Ssn.after.Reads as circle-ssn-after-reads
 use Rattle.numbers.proofs.circle.Ssn.distance.Reads as circle-ssn-distance-reads
+use Rattle.numbers.proofs.keeping.Blocks.none.Reads as none-reads
 use Rattle.numbers.proofs.keeping.Keeping.fresh.Reads as fresh-reads
 use Rattle.numbers.proofs.keeping.Keeping.offset.Reads as offset-reads
 use Rattle.numbers.proofs.keeping.Keeping.is_come.Reads as is-come-reads
@@ -61,3 +62,6 @@ highest-unique κs a r q s t x y = x .0 ∙ sym (y .0)
 
 pub within-bounds-unique : (κs : _) (a : _) (r q : _) (s t : _) → within-bounds-reads.Post κs a r s → within-bounds-reads.Post κs a q t → r ≡ q
 within-bounds-unique κs a r q s t x y = x ∙ sym y
+
+pub none-unique : (κs : _) (a : _) (r q : _) (s t : _) → none-reads.Post κs a r s → none-reads.Post κs a q t → r ≡ q
+none-unique κs a r q s t x y = x ∙ sym y

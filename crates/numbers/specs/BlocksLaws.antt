@@ -12,6 +12,7 @@ use lib.ListN.{length, take, replicate, getD, length-map}
 use lib.Seq.{take-at}
 use lib.Dec.{ltb, leb}
 use Rattle.scans.specs.Scan.{pick, any, either}
+use Rattle.scans.specs.Counts.{any-append}
 use Rattle.scans.specs.Each.{All, all-map, clash}
 use Rattle.numbers.specs.declared.keeping.Keeping.{Keeping}
 use Rattle.numbers.specs.declared.keeping.Blocks.{Blocks}
@@ -50,14 +51,6 @@ has-not j b h = go (leb (b .from) j)
 
 has-before : (j : ℕ) (b : Block) → j < b .from → has j b ≡ false
 has-before j b h = rw (lt-leb (b .from) j h)
-
-any-append : (p : Block → Bool) (bs cs : List Block) → any p (bs ++ cs) ≡ either (any p bs) (any p cs)
-any-append p [] cs = refl
-any-append p (b ∷ bs) cs = rw (any-append p bs cs) (go (p b))
-  where
-    go : (t : Bool) → pick t true (either (any p bs) (any p cs)) ≡ either (pick t true (any p bs)) (any p cs)
-    go true = refl
-    go false = refl
 
 ended-has : (i r j : ℕ) → r ≤ i → any (has j) (ended i r) ≡ pick (leb j i) (ltb (i - r) j) false
 ended-has i zero j h = go (decLe j i)

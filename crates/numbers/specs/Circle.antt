@@ -7,29 +7,30 @@ use native.Mathlib.Omega.{arith}
 use borrow.Author.Tests.{lt-ltb, le-ltb, le-leb, lt-leb, eq-eqb, ne-eqb}
 use mathlib.Core.Bool.{Bool, true, false}
 use lib.Dec.{leb, ltb, eqb}
+use Rattle.scans.specs.Scan.{pick}
+use Rattle.numbers.specs.declared.circle.Tsn.{Tsn}
+use Rattle.numbers.specs.declared.circle.Ssn.{Ssn}
 use Rattle.numbers.specs.declared.circle.Distance.{Distance}
 use Rattle.numbers.specs.declared.circle.Distance.the-variants.{Ahead, Behind, Opposite}
+
+-- the number 0 of each circle: a stream begins with it, and it stands where no number is given
+abbrev pub tsn0 : Tsn
+tsn0 = record { 0 = 0 }
+
+abbrev pub ssn0 : Ssn
+ssn0 = record { 0 = 0 }
 
 -- the point k steps on from a
 abbrev pub along : ℕ → ℕ → ℕ → ℕ
 along n a k = (a + k) % n
 
--- one of two, by a test
-abbrev pub pickℕ : Bool → ℕ → ℕ → ℕ
-pickℕ true x y = x
-pickℕ false x y = y
-
-abbrev pub pickDistance : Bool → Distance → Distance → Distance
-pickDistance true x y = x
-pickDistance false x y = y
-
 -- the steps from a on to b, below n
 abbrev pub steps : ℕ → ℕ → ℕ → ℕ
-steps n a b = pickℕ (leb a b) (b - a) (n + b - a)
+steps n a b = pick (leb a b) (b - a) (n + b - a)
 
 -- d steps on, d below n, as a distance: the shorter way round
 abbrev pub asDistance : ℕ → ℕ → Distance
-asDistance n d = pickDistance (ltb (d + d) n) (Ahead d) (pickDistance (eqb (d + d) n) Opposite (Behind (n - d)))
+asDistance n d = pick (ltb (d + d) n) (Ahead d) (pick (eqb (d + d) n) Opposite (Behind (n - d)))
 
 -- the signed distance from a to b
 unfoldable pub onCircle : ℕ → ℕ → ℕ → Distance

@@ -22,7 +22,7 @@ use Rattle.numbers.specs.declared.circle.Judgement.{Judgement}
 use Rattle.numbers.specs.declared.circle.Judgement.the-variants.{AtOrBehind, AheadWithin, AheadBeyond, AtOpposite}
 use Rattle.numbers.specs.declared.keeping.Keeping.{Keeping}
 use Rattle.numbers.specs.Circle.{forward}
-use Rattle.numbers.specs.Numbering.{Numbering, ring, line, on, before, far}
+use Rattle.numbers.specs.Numbering.{Numbering, ring, line, on, before, far, aheadOn}
 use Rattle.numbers.specs.Judgement.{judged}
 use Rattle.numbers.specs.JudgementLaws.{Says, judged-says}
 use Rattle.numbers.specs.Profile.{Profile, rail}
@@ -47,13 +47,13 @@ bounded-sound P k b = rw (b .first) (le-leb (k .listed) (P .listed) (b .few))
 
 -- ---- what a record is asked depends on its point and its offsets alone
 
-pub offset-far : (T : Numbering) (k : Keeping) (y : ℕ) → offsetOf T k y ≡ forward (far T (k .point .0) y)
+pub offset-far : (T : Numbering) (k : Keeping) (y : ℕ) → offsetOf T k y ≡ aheadOn T (k .point .0) y
 unfolding offsetOf
 offset-far T k y = refl
 
 pub offset-alike : (T : Numbering) (k l : Keeping) (y : ℕ) → k .point ≡ l .point → offsetOf T k y ≡ offsetOf T l y
 unfolding offsetOf
-offset-alike T k l y e = ap (λ (p : Tsn). forward (far T (p .0) y)) e
+offset-alike T k l y e = ap (λ (p : Tsn). aheadOn T (p .0) y) e
 
 -- what a judgement against the point says of the offset
 abbrev pub OffsetSays : ℕ → ℕ → Judgement → Type 0
@@ -231,8 +231,8 @@ isKnown T k y = pick (ltb (offsetOf T k y) 1) true (isCome T k y)
 pub behind-known : (T : Numbering) (k : Keeping) (y b : ℕ) → On T y → Short T b → on T y b ≡ k .point .0 → isKnown T k y ≡ true
 unfolding offsetOf
 behind-known T k y b hy s e =
-    let z : forward (far T (k .point .0) y) < 1 = omega (arith, on-behind T (k .point .0) y b hy s e) in
-    rw (lt-ltb (forward (far T (k .point .0) y)) 1 z)
+    let z : aheadOn T (k .point .0) y < 1 = omega (arith, on-behind T (k .point .0) y b hy s e) in
+    rw (lt-ltb (aheadOn T (k .point .0) y) 1 z)
 
 -- ---- the number comes
 
@@ -331,9 +331,9 @@ module _ {T : Numbering} {P : Profile} {k : Keeping} {t : ℕ} (w : Comes T P k 
   -- ---- of any number y
 
   module _ (y : ℕ) (hy : On T y) where
-    e-is : offsetOf T (marked T P k t) y ≡ forward (far T (on T (k .point .0) (movedBy T k t)) y)
+    e-is : offsetOf T (marked T P k t) y ≡ aheadOn T (on T (k .point .0) (movedBy T k t)) y
     unfolding offsetOf
-    e-is = ap (λ (p : Tsn). forward (far T (p .0) y)) marked-point
+    e-is = ap (λ (p : Tsn). aheadOn T (p .0) y) marked-point
 
     -- beyond the steps moved it is nearer by them
     pub offset-nearer : movedBy T k t < offsetOf T k y → offsetOf T (marked T P k t) y ≡ offsetOf T k y - movedBy T k t
@@ -353,7 +353,7 @@ module _ {T : Numbering} {P : Profile} {k : Keeping} {t : ℕ} (w : Comes T P k 
     unfolding offsetOf
     offset-was l h =
         was T (k .point .0) (movedBy T k t) y (w .point) hy (rw e-is at l)
-        (short-le T (P .places + P .places) (movedBy T k t + forward (far T (on T (k .point .0) (movedBy T k t)) y)) (omega (arith, moved-le, e-is)) (w .wide))
+        (short-le T (P .places + P .places) (movedBy T k t + aheadOn T (on T (k .point .0) (movedBy T k t)) y) (omega (arith, moved-le, e-is)) (w .wide))
         ∙ ap (λ (x : ℕ). movedBy T k t + x) (sym e-is)
 
     -- the flag of y, when the number has come and the point has not moved

@@ -9,10 +9,10 @@ use native.Mathlib.Nat.{zero-mod}
 use lib.ListN.{set, replicate}
 use lib.Dec.{ltb}
 use Rattle.scans.specs.Scan.{pick}
-use Rattle.scans.specs.Each.{set-map}
+use Rattle.scans.specs.Each.{set-map, replicate-kept}
 use Rattle.numbers.specs.declared.circle.Tsn.{Tsn}
 use Rattle.numbers.specs.declared.keeping.Keeping.{Keeping}
-use Rattle.numbers.specs.Circle.{forward}
+use Rattle.numbers.specs.Circle.{tsn0, forward}
 use Rattle.numbers.specs.Numbering.{ring, line, Within, on-law, before-law, far-law}
 use Rattle.numbers.specs.Profile.{Profile}
 use Rattle.numbers.specs.Come.{run}
@@ -32,13 +32,12 @@ pick-map f true x y = refl
 pick-map f false x y = refl
 
 module _ (n : ℕ) where
-  none-law : (m : ℕ) → replicate m (record { 0 = 0 }) ≡ map (reduceTsn n) (replicate m (record { 0 = 0 }))
-  none-law zero = refl
-  none-law (suc m) = rw (zero-mod n, ← none-law m)
+  none-law : (m : ℕ) → map (reduceTsn n) (replicate m tsn0) ≡ replicate m tsn0
+  none-law m = replicate-kept (reduceTsn n) tsn0 (rw (zero-mod n)) m
 
   pub fresh-law : (P : Profile) (t : Tsn) → 0 < n → 0 < t .0 → fresh (ring n) P (reduceTsn n t) ≡ reduceKeeping n (fresh line P t)
   unfolding fresh
-  fresh-law P t z h = rw (before-law n (t .0) z h, ← none-law (P .listed))
+  fresh-law P t z h = rw (before-law n (t .0) z h, none-law (P .listed))
 
   settled-law : (k : Keeping) (cs : List Bool) → settled (ring n) (reduceKeeping n k) cs ≡ reduceKeeping n (settled line k cs)
   unfolding settled
@@ -52,7 +51,7 @@ module _ (n : ℕ) where
 
   pub told-law : (P : Profile) (k : Keeping) → told P (reduceKeeping n k) ≡ reduceKeeping n (told P k)
   unfolding told
-  told-law P k = rw (← none-law (P .listed))
+  told-law P k = rw (none-law (P .listed))
 
   pub blocks-law : (P : Profile) (k : Keeping) → blocksOf P (reduceKeeping n k) ≡ blocksOf P k
   unfolding blocksOf

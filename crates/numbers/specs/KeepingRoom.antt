@@ -14,6 +14,7 @@ use lib.ListN.{length, set, replicate, getD}
 use lib.Seq.{getD-set-other}
 use lib.Dec.{eqb}
 use Rattle.scans.specs.Scan.{pick, tick, count, any}
+use Rattle.scans.specs.Counts.{none-count, count-none}
 use Rattle.scans.specs.Each.{All, clash, tick-tick}
 use Rattle.numbers.specs.declared.keeping.Keeping.{Keeping}
 use Rattle.numbers.specs.Numbering.{Numbering}
@@ -275,29 +276,13 @@ module _ {T : Numbering} {P : Profile} {k : Keeping} {t : ℕ} (w : Comes T P k 
 -- ---- a place is filled, or freed
 
 -- distinct is: none twice
-none-among : (t : ℕ) (ts : List ℕ) → isAmong t ts ≡ false → count (λ (y : ℕ). eqb y t) ts ≡ 0
-none-among t [] e = refl
-none-among t (y ∷ ts) e = go (eqb y t) refl (none-among t ts)
-  where
-    go : (b : Bool) → eqb y t ≡ b → (isAmong t ts ≡ false → count (λ (z : ℕ). eqb z t) ts ≡ 0) → tick b (count (λ (z : ℕ). eqb z t) ts) ≡ 0
-    go true q ih = clash (sym (rw q at e))
-    go false q ih = ih (rw q at e)
-
-not-among : (t : ℕ) (ts : List ℕ) → count (λ (y : ℕ). eqb y t) ts ≡ 0 → isAmong t ts ≡ false
-not-among t [] e = refl
-not-among t (y ∷ ts) e = go (eqb y t) refl (not-among t ts)
-  where
-    go : (b : Bool) → eqb y t ≡ b → (count (λ (z : ℕ). eqb z t) ts ≡ 0 → isAmong t ts ≡ false) → pick b true (isAmong t ts) ≡ false
-    go true q ih = let z : suc (count (λ (z : ℕ). eqb z t) ts) ≡ 0 = rw q at e in absurd (omega arith)
-    go false q ih = ih (rw q at e)
-
 pub distinct-once : (ts : List ℕ) → Distinct ts → (t : ℕ) → count (λ (y : ℕ). eqb y t) ts ≤ 1
 distinct-once [] s t = zero-le
 distinct-once (y ∷ ts) s t = go (ℕ-discrete y t) (distinct-once ts (s .1) t)
   where
     go : Dec (y ≡ t) → count (λ (z : ℕ). eqb z t) ts ≤ 1 → tick (eqb y t) (count (λ (z : ℕ). eqb z t) ts) ≤ 1
     go (yes q) h =
-        let n : count (λ (z : ℕ). eqb z t) ts ≡ 0 = rw q at (none-among y ts (s .0)) in
+        let n : count (λ (z : ℕ). eqb z t) ts ≡ 0 = rw q at (none-count (λ (z : ℕ). eqb z y) ts (s .0)) in
         rw (eq-eqb y t q) (omega arith)
     go (no q) h = rw (ne-eqb y t q) h
 
@@ -305,7 +290,7 @@ pub once-distinct : (ts : List ℕ) → ((t : ℕ) → count (λ (y : ℕ). eqb 
 once-distinct [] f = tt
 once-distinct (y ∷ ts) f =
     let h : suc (count (λ (z : ℕ). eqb z y) ts) ≤ 1 = rw (eq-eqb y y refl) at (f y) in
-    (not-among y ts (omega arith), once-distinct ts (λ t. rest t (eqb y t) (f t)))
+    (count-none (λ (z : ℕ). eqb z y) ts (omega arith), once-distinct ts (λ t. rest t (eqb y t) (f t)))
   where
     rest : (t : ℕ) (b : Bool) → tick b (count (λ (z : ℕ). eqb z t) ts) ≤ 1 → count (λ (z : ℕ). eqb z t) ts ≤ 1
     rest t true g = omega arith

@@ -12,7 +12,7 @@ use borrow.Author.Tests.{le-leb, lt-leb, eq-eqb, ne-eqb, eqb-true, eqb-false}
 use lib.Dec.{leb, eqb}
 use Rattle.numbers.specs.declared.circle.Distance.{Distance}
 use Rattle.numbers.specs.declared.circle.Distance.the-variants.{Ahead, Behind, Opposite}
-use Rattle.numbers.specs.Circle.{onCircle, steps, along, steps-are}
+use Rattle.numbers.specs.Circle.{onCircle, forward, steps, along, steps-are}
 use Rattle.numbers.specs.Signed.{only, right}
 use Rattle.scans.specs.Scan.{pick}
 
@@ -35,6 +35,10 @@ before line a = a - 1
 unfoldable pub far : Numbering → ℕ → ℕ → Distance
 far (ring n) a b = onCircle n a b
 far line a b = pick (leb a b) (Ahead (b - a)) (Behind (a - b))
+
+-- how far b is ahead of a, and 0 where it is not
+abbrev pub aheadOn : Numbering → ℕ → ℕ → ℕ
+aheadOn T a b = forward (far T a b)
 
 -- the message with the least is taken first: on the line its first number, on the circle that number counted from half a circle behind the point
 unfoldable pub key : Numbering → ℕ → ℕ → ℕ

@@ -4,12 +4,11 @@ use crate::circle::Tsn;
 use crate::rail::Rail;
 ghost use mathlib.Core.Path.{_≡_};
 ghost use Prim.Native.Nat.{_^_, _/_, _<_, _≤_};
-ghost use Rattle.numbers.specs.Circle.{forward};
-ghost use Rattle.numbers.specs.Numbering.{ring, far};
+ghost use Rattle.numbers.specs.Numbering.{ring, aheadOn};
 ghost use Rattle.numbers.specs.Profile.{rail};
 ghost use Rattle.numbers.specs.Come.{run, shift};
 ghost use Rattle.numbers.specs.Keeping.{fresh, offsetOf, isCome, marked, listed, told, highestOf, keepingSound};
-ghost use Rattle.numbers.specs.Blocks.{blocksOf, closed};
+ghost use Rattle.numbers.specs.Blocks.{blocksOf, noBlocks, closed};
 
 #[repr(C)]
 pub struct Keeping {
@@ -27,9 +26,21 @@ pub struct Blocks {
     pub ends: [u16; Rail::BLOCKS],
 }
 
+impl Blocks {
+    pub fn none() -> Blocks
+        ensures { λ r. ⌜ r ≡ noBlocks ⌝ }
+    {
+        Blocks {
+            count: 0,
+            starts: [0; Rail::BLOCKS],
+            ends: [0; Rail::BLOCKS],
+        }
+    }
+}
+
 // How far t is ahead of the point, and 0 where it is not.
 fn ahead_of(point: Tsn, t: Tsn) -> u32
-    ensures { λ r. ⌜ r ≡ forward (far (ring (2 ^ 32)) (point .0) (t .0)) ⌝ }
+    ensures { λ r. ⌜ r ≡ aheadOn (ring (2 ^ 32)) (point .0) (t .0) ⌝ }
 {
     match point.distance(t) {
         Distance::Ahead(d) => d,

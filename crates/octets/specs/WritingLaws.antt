@@ -72,14 +72,26 @@ wrote-is {out} {bs} w h k =
     let z : 0 + length bs ≡ length bs = omega arith in
     wrote-fits w h k ∙ laid-is bs out 0 (omega arith) ∙ ap (λ (j : ℕ). bs ++ drop j out) z
 
-pub wrote-within : {out bs exit : List ℕ} {r : ℕ} → Wrote out bs r exit → r ≤ length out
-unfolding wroteCount
-wrote-within {out} {bs} {exit} {r} w = go (ltb 65532 (length bs)) (ltb (length out) (length bs)) refl (w .count)
-  where
-    go : (s t : Bool) → ltb (length out) (length bs) ≡ t → r ≡ pick s 0 (pick t 0 (length bs)) → r ≤ length out
-    go true t e c = omega arith
-    go false true e c = omega arith
-    go false false e c = omega (arith, ltb-false (length out) (length bs) e)
+-- a writer answers no more than the output has, than it was given, and than a length of 16 bits can say
+module _ {out bs exit : List ℕ} {r : ℕ} (w : Wrote out bs r exit) where
+  wrote-bounds : (r ≤ length out) × (r ≤ length bs) × (r ≤ 65532)
+  unfolding wroteCount
+  wrote-bounds = go (ltb 65532 (length bs)) (ltb (length out) (length bs)) refl refl (w .count)
+    where
+      go : (s t : Bool) → ltb 65532 (length bs) ≡ s → ltb (length out) (length bs) ≡ t → r ≡ pick s 0 (pick t 0 (length bs))
+          → (r ≤ length out) × (r ≤ length bs) × (r ≤ 65532)
+      go true t d e c = (omega arith, omega arith, omega arith)
+      go false true d e c = (omega arith, omega arith, omega arith)
+      go false false d e c = (omega (arith, ltb-false (length out) (length bs) e), omega arith, omega (arith, ltb-false 65532 (length bs) d))
+
+  pub wrote-within : r ≤ length out
+  wrote-within = wrote-bounds .0
+
+  pub wrote-most : r ≤ length bs
+  wrote-most = wrote-bounds .1
+
+  pub wrote-few : r ≤ 65532
+  wrote-few = wrote-bounds .2
 
 -- a writer at work in the part of xs that begins at `at`
 module _ (at : ℕ) (xs : List ℕ) {bs ys : List ℕ} {r : ℕ} (h : at ≤ length xs) (w : Wrote (take (length xs - at) (drop at xs)) bs r ys) where
@@ -103,7 +115,7 @@ module _ (at : ℕ) (xs : List ℕ) {bs ys : List ℕ} {r : ℕ} (h : at ≤ len
   part-within = omega (arith, part-long, wrote-within w)
 
   -- what it answers
-  pub part-count : r ≡ pick (ltb 65532 (length bs)) 0 (pick (ltb (length xs - at) (length bs)) 0 (length bs))
+  part-count : r ≡ pick (ltb 65532 (length bs)) 0 (pick (ltb (length xs - at) (length bs)) 0 (length bs))
   unfolding wroteCount
   part-count = rw part-long at (w .count)
 

@@ -11,7 +11,7 @@ use lib.Dec.{ltb, eqb}
 use lib.ListN.{length, take, drop, length-append, length-drop, List·getD-append}
 use lib.Seq.{take-append-le, drop-append-le}
 use Rattle.scans.specs.Scan.{pick}
-use Rattle.scans.specs.Each.{All, if-so, if-not, clash}
+use Rattle.scans.specs.Each.{All, if-so, if-not, clash, neither}
 use Rattle.octets.specs.Bytes.{u8, u16, up4}
 use Rattle.octets.specs.BytesLaws.{u16-append}
 use Rattle.octets.specs.Walk.{size, walkBy, walk, firstItem}
@@ -31,10 +31,6 @@ no-five : (t : Bool) (x : ℕ) → pick t 5 x ≡ 0 → (t ≡ false) × (x ≡ 
 no-five true x e = absurd (omega (arith, e))
 no-five false x e = (refl, e)
 
-not-true : (t : Bool) (x : Bool) → pick t true x ≡ false → (t ≡ false) × (x ≡ false)
-not-true true x e = clash (sym e)
-not-true false x e = (refl, e)
-
 flip : (t : Bool) → pick t false true ≡ false → t ≡ true
 flip true e = refl
 flip false e = clash (sym e)
@@ -42,8 +38,8 @@ flip false e = clash (sym e)
 pub accepted : (s : List ℕ) → ill s ≡ false → Accepted s
 unfolding ill
 accepted s e =
-    let a = not-true (ltb (u16 s 2) (least (u8 s 0))) _ e in
-    let b = not-true (ltb (length s) (u16 s 2)) _ (a .1) in
+    let a = neither (ltb (u16 s 2) (least (u8 s 0))) _ e in
+    let b = neither (ltb (length s) (u16 s 2)) _ (a .1) in
     record { enough = ltb-false (u16 s 2) (least (u8 s 0)) (a .0); within = ltb-false (length s) (u16 s 2) (b .0); full = flip (filled s) (b .1) }
 
 pub not-ill : (s : List ℕ) → Accepted s → ill s ≡ false

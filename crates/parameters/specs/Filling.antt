@@ -12,7 +12,7 @@ use Rattle.scans.specs.Scan.{pick}
 use Rattle.octets.specs.Bytes.{u16, up4, zeros}
 use Rattle.octets.specs.BytesLaws.{u16-at, u16-append, part-is, zeros-of, zeros-long}
 use Rattle.octets.specs.WalkLaws.{over-keeps, first-here}
-use Rattle.chunks.specs.Frame.{framed, partFrom, bytesIn, ended}
+use Rattle.chunks.specs.Frame.{parameter, framed, partFrom, bytesIn, ended}
 use Rattle.chunks.specs.Back.{Back, from-is, framed-part}
 use Rattle.chunks.specs.RoundTrips.{init-back, parameters-back}
 use Rattle.chunks.specs.InitChunk.{initOf, initFields}
@@ -23,7 +23,7 @@ use Rattle.parameters.specs.declared.parameter.Treatment.{Treatment}
 use Rattle.parameters.specs.declared.parameter.Treatment.the-variants.{Known, Unknown}
 use Rattle.parameters.specs.Parameter.{COOKIE, isKind, paramsOf, valueOf, treated}
 use Rattle.parameters.specs.ParameterLaws.{value-is}
-use Rattle.parameters.specs.Report.{parameter, report, behind, fitted, Gathered, acted, judged, gatherOne, gatherAll, ROOM, initAckBytes}
+use Rattle.parameters.specs.Report.{report, behind, fitted, Gathered, acted, judged, gatherOne, gatherAll, ROOM, initAckBytes}
 use Rattle.parameters.specs.ReportLaws.{init-ack-is}
 
 -- ---- what every step keeps, the whole keeps

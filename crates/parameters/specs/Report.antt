@@ -1,13 +1,13 @@
 -- Which parameters are reported, and how (RFC 9260 sections 3.2.1, 3.2.2, 3.3.3.1.2 and 3.3.10.8)
-use Prim.Native.Nat.{ℕ, _+_}
+use Prim.Native.Nat.{ℕ}
 use mathlib.Core.Bool.{Bool, true, false}
 use mathlib.Core.List.{List, [], _++_}
 use lib.Dec.{ltb}
 use lib.ListN.{length, take}
 use Rattle.scans.specs.Scan.{pick}
-use Rattle.octets.specs.Bytes.{u16, be16, up4, zeros}
+use Rattle.octets.specs.Bytes.{u16, up4, zeros}
 use Rattle.octets.specs.Walk.{overItems}
-use Rattle.chunks.specs.Frame.{framed, carrying, ended}
+use Rattle.chunks.specs.Frame.{framed, parameter, carrying, ended}
 use Rattle.chunks.specs.InitChunk.{initFields}
 use Rattle.chunks.specs.Cause.{caused}
 use Rattle.chunks.specs.declared.init.Init.{Init}
@@ -16,10 +16,6 @@ use Rattle.chunks.specs.declared.kind.Handling.the-variants.{Stop, StopAndRepor
 use Rattle.parameters.specs.declared.parameter.Treatment.{Treatment}
 use Rattle.parameters.specs.declared.parameter.Treatment.the-variants.{Known, Unknown}
 use Rattle.parameters.specs.Parameter.{treated, paramsOf}
-
--- a parameter: type, length, value
-abbrev pub parameter : ℕ → List ℕ → List ℕ
-parameter k v = be16 k ++ be16 (4 + length v) ++ v
 
 -- the report of p: a parameter 8 that holds it (INIT ACK), or p as it is (cause 8)
 abbrev pub report : Bool → List ℕ → List ℕ

@@ -11,7 +11,7 @@ use Rattle.octets.specs.Bytes.{be16, laid, zeros, up4}
 use Rattle.octets.specs.BytesLaws.{laid-more, laid-is, zeros-long, length-laid}
 use Rattle.octets.specs.Walk.{overItems}
 use Rattle.octets.specs.Writing.{Wrote}
-use Rattle.chunks.specs.Frame.{framed}
+use Rattle.chunks.specs.Frame.{parameter, framed}
 use Rattle.chunks.specs.FrameLaws.{from-start, gathered, framed-long, carry-over, carry-none, carry-is, carry-within, wrote-as, Carried, carried}
 use Rattle.chunks.specs.InitChunk.{initFields}
 use Rattle.chunks.specs.Cause.{caused}
@@ -19,7 +19,7 @@ use Rattle.chunks.specs.declared.init.Init.{Init}
 use Rattle.chunks.specs.declared.kind.Handling.{Handling}
 use Rattle.parameters.specs.declared.report.Gathering.{Gathering}
 use Rattle.parameters.specs.Parameter.{paramsOf}
-use Rattle.parameters.specs.Report.{parameter, report, behind, fitted, Gathered, acted, gatherOne, gatherAll, ROOM, initAckBytes, errorParametersBytes}
+use Rattle.parameters.specs.Report.{report, behind, fitted, Gathered, acted, gatherOne, gatherAll, ROOM, initAckBytes, errorParametersBytes}
 
 -- the first n bytes of an array are those gathered
 abbrev pub inArray : List ℕ → Gathering → Gathered

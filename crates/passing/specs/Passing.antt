@@ -15,7 +15,7 @@ use Rattle.packets.specs.Shape.{tiled}
 use Rattle.packets.specs.ShapeLaws.{tiled-none, tiled-last, tiled-more}
 use Rattle.packets.specs.Body.{Sound}
 use Rattle.packets.specs.BodyLaws.{plain-sound, data-sound, init-sound, init-ack-sound, sack-sound, shutdown-sound}
-use Rattle.chunks.specs.Frame.{framed}
+use Rattle.chunks.specs.Frame.{parameter, framed}
 use Rattle.chunks.specs.DataChunk.{dataBytes, flagsOf, dataFields}
 use Rattle.chunks.specs.DataLaws.{data-is}
 use Rattle.chunks.specs.SackChunk.{sackBytes, sackFields, blockAt, dupAt}
@@ -27,7 +27,7 @@ use Rattle.chunks.specs.declared.data.Data.{Data}
 use Rattle.chunks.specs.declared.sack.Sack.{Sack}
 use Rattle.chunks.specs.declared.init.Init.{Init}
 use Rattle.parameters.specs.Parameter.{COOKIE, paramsOf}
-use Rattle.parameters.specs.Report.{parameter, gatherAll, ROOM, initAckBytes}
+use Rattle.parameters.specs.Report.{gatherAll, ROOM, initAckBytes}
 use Rattle.parameters.specs.ReportLaws.{init-ack-is}
 use Rattle.parameters.specs.Filling.{Filling, gathered-fills}
 use Rattle.parameters.specs.Filling.Filling.{last, more}

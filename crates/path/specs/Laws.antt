@@ -8,8 +8,8 @@ use native.Mathlib.Omega.{arith}
 use borrow.Author.Tests.{lt-ltb, le-ltb, le-leb, leb-true, ltb-false}
 use lib.Dec.{ltb}
 use Rattle.scans.specs.Scan.{pick}
-use Rattle.scans.specs.Each.{clash}
-use Rattle.scans.specs.Upto.{smaller, larger, pick-keeps}
+use Rattle.scans.specs.Each.{after-so, after-not}
+use Rattle.scans.specs.Upto.{smaller, larger, smaller-left, smaller-right, larger-most, larger-right, pick-keeps}
 use Rattle.numbers.specs.declared.circle.Tsn.{Tsn}
 use Rattle.path.specs.declared.control.Control.{Control}
 use Rattle.path.specs.declared.clock.Clock.{Clock}
@@ -18,32 +18,6 @@ use Rattle.path.specs.Sizes.{Sizes, Fair, railSizes}
 use Rattle.path.specs.Control as control
 use Rattle.path.specs.Clock as clock
 use Rattle.path.specs.Path as whole
-
--- ---- the smaller and the larger of two
-
-pub smaller-left : (a b : ℕ) → smaller a b ≤ a
-smaller-left a b = go (decLt a b)
-  where
-    go : Dec (a < b) → smaller a b ≤ a
-    go (yes h) = rw (lt-ltb a b h) (omega arith)
-    go (no h) = let l : b ≤ a = omega arith in rw (le-ltb a b l) (omega arith)
-
-pub smaller-right : (a b : ℕ) → smaller a b ≤ b
-smaller-right a b = go (decLt a b)
-  where
-    go : Dec (a < b) → smaller a b ≤ b
-    go (yes h) = rw (lt-ltb a b h) (omega arith)
-    go (no h) = let l : b ≤ a = omega arith in rw (le-ltb a b l) (omega arith)
-
-pub larger-most : (a b c : ℕ) → a ≤ c → b ≤ c → larger a b ≤ c
-larger-most a b c x y = pick-keeps (λ (x : ℕ). x ≤ c) (ltb a b) b a y x
-
-pub larger-right : (a b : ℕ) → b ≤ larger a b
-larger-right a b = go (decLt a b)
-  where
-    go : Dec (a < b) → b ≤ larger a b
-    go (yes h) = rw (lt-ltb a b h) (omega arith)
-    go (no h) = let l : b ≤ a = omega arith in rw (le-ltb a b l) (omega arith)
 
 -- ---- the bounds
 
@@ -64,15 +38,6 @@ pub record Within (z : Sizes) (p : Path) : Type 0 where
   pub tried : p .tries ≤ z .tries
 
 -- ---- the test says the same
-
--- a test that holds after one that failed
-after-not : (b c : Bool) → pick b false c ≡ true → (b ≡ false) × (c ≡ true)
-after-not true c e = clash e
-after-not false c e = (refl, e)
-
-after-so : (b c : Bool) → pick b c false ≡ true → (b ≡ true) × (c ≡ true)
-after-so true c e = (refl, e)
-after-so false c e = clash e
 
 module _ (z : Sizes) where
   controlled-so : (k : Control) → control.isWithin z k ≡ true → Controlled z k

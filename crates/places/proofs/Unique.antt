@@ -8,10 +8,9 @@ use Rattle.places.proofs.all.marked_all.Reads as marked-all-reads
 use Rattle.places.proofs.all.having.Reads as having-reads
 use Rattle.places.proofs.all.sent.Reads as sent-reads
 use Rattle.places.proofs.all.is_empty.Reads as is-empty-reads
-use Rattle.places.proofs.blocks.Blocks.none.Reads as none-reads
-use Rattle.places.proofs.blocks.Blocks.is_blocked.Reads as is-blocked-reads
-use Rattle.places.proofs.blocks.Blocks.any_ill.Reads as any-ill-reads
-use Rattle.places.proofs.blocks.Blocks.top.Reads as top-reads
+use Rattle.places.proofs.blocks.is_blocked.Reads as is-blocked-reads
+use Rattle.places.proofs.blocks.any_ill.Reads as any-ill-reads
+use Rattle.places.proofs.blocks.top.Reads as top-reads
 use Rattle.places.proofs.place.ahead.Reads as ahead-reads
 use Rattle.places.proofs.place.Place.is_outstanding.Reads as is-outstanding-reads
 use Rattle.places.proofs.place.Place.is_sent.Reads as is-sent-reads
@@ -49,9 +48,6 @@ sent-unique κs a r q s t x y = x .0 ∙ sym (y .0)
 
 pub is-empty-unique : (κs : _) (a : _) (r q : _) (s t : _) → is-empty-reads.Post κs a r s → is-empty-reads.Post κs a q t → r ≡ q
 is-empty-unique κs a r q s t x y = x ∙ sym y
-
-pub none-unique : (κs : _) (a : _) (r q : _) (s t : _) → none-reads.Post κs a r s → none-reads.Post κs a q t → r ≡ q
-none-unique κs a r q s t x y = x ∙ sym y
 
 pub is-blocked-unique : (κs : _) (a : _) (r q : _) (s t : _) → is-blocked-reads.Post κs a r s → is-blocked-reads.Post κs a q t → r ≡ q
 is-blocked-unique κs a r q s t x y = x ∙ sym y

@@ -6,7 +6,7 @@ use mathlib.Core.Bool.{Bool, true, false}
 use mathlib.Core.List.{List, [], _∷_, map}
 use native.Mathlib.Decide.{ℕ-discrete}
 use native.Mathlib.Omega.{arith}
-use lib.ListN.{length, set, getD}
+use lib.ListN.{length, set, getD, replicate}
 use Rattle.scans.specs.declared.Found.{Found}
 use Rattle.scans.specs.declared.Found.the-variants.{At, Nothing}
 use Rattle.scans.specs.Scan.{tick, pick, count, findFrom, any}
@@ -78,6 +78,19 @@ module _ {A : Type 0} (z : A) {x y : A} where
 pub clash : {A : Type 0} → false ≡ true → A
 clash e = let z : _≡_ {A = ℕ} 0 1 = cc in absurd (omega arith)
 
+-- a chain of tests, read back
+pub after-so : (b c : Bool) → pick b c false ≡ true → (b ≡ true) × (c ≡ true)
+after-so true c e = (refl, e)
+after-so false c e = clash e
+
+pub after-not : (b c : Bool) → pick b false c ≡ true → (b ≡ false) × (c ≡ true)
+after-not true c e = clash e
+after-not false c e = (refl, e)
+
+pub neither : (b c : Bool) → pick b true c ≡ false → (b ≡ false) × (c ≡ false)
+neither true c e = clash (sym e)
+neither false c e = (refl, e)
+
 -- what is found passes
 pub found : {A : Type 0} (p : A → Bool) (d : A) (xs : List A) (i j : ℕ) → findFrom p i xs ≡ At j → (k : ℕ) × (j ≡ i + k) × (p (getD xs k d) ≡ true)
 found p d [] i j e = let z : _≡_ {A = ℕ} 0 1 = cc in absurd (omega arith)
@@ -126,6 +139,11 @@ module _ (p : ℕ → Bool) where
   pub none-upto : (i n : ℕ) → ((j : ℕ) → i ≤ j → j < i + n → p j ≡ false) → anyUpto p i n ≡ false
   none-upto i zero f = refl
   none-upto i (suc n) f = rw (f i (omega arith) (omega arith)) (none-upto (i + 1) n (λ j a b. f j (omega arith) (omega arith)))
+
+-- a list of one element over and over stays where that element does
+pub replicate-kept : {A : Type 0} (f : A → A) (x : A) → f x ≡ x → (n : ℕ) → map f (replicate n x) ≡ replicate n x
+replicate-kept f x e zero = refl
+replicate-kept f x e (suc n) = rw (e, replicate-kept f x e n)
 
 -- in a count it does not matter which of two stands first
 pub tick-tick : (a b : Bool) (m : ℕ) → tick a (tick b m) ≡ tick b (tick a m)

@@ -6,14 +6,15 @@ use mathlib.Core.List.{List, [], _∷_}
 use native.Mathlib.Omega.{arith}
 use native.Mathlib.Decide.{decLt, ℕ-discrete}
 use borrow.Author.Tests.{lt-ltb, le-ltb, lt-leb, eq-eqb, ne-eqb, ltb-false, leb-false, eqb-true, eqb-false, not-true}
-use lib.ListN.{length, set, getD, replicate, length-replicate, length-set}
+use lib.ListN.{length, set, getD, replicate, length-replicate, length-set, List·getD-eq-default}
 use lib.Seq.{getD-set-same, getD-set-other}
 use lib.Dec.{eqb, ltb, leb}
 use Rattle.numbers.specs.declared.circle.Tsn.{Tsn}
-use Rattle.numbers.specs.Profile.{Profile}
+use Rattle.numbers.specs.Profile.{Profile, isMisfit, misfit-fits, fits-misfit}
 use Rattle.numbers.specs.ComeLaws.{clear-at}
 use Rattle.scans.specs.Scan.{pick, tick, any, count, either, foldFrom}
-use Rattle.scans.specs.Each.{all-map, clash, any-none, none-any, upto-none, none-upto}
+use Rattle.scans.specs.Counts.{count-most}
+use Rattle.scans.specs.Each.{all-map, clash, neither, any-none, none-any, upto-none, none-upto}
 use Rattle.path.specs.Sizes.{Sizes}
 use Rattle.path.specs.Path as way
 use Rattle.path.specs.Laws.{within-so, so-within}
@@ -23,23 +24,6 @@ use Rattle.places.specs.Laws.{tallied-flight}
 use Rattle.sending.specs.declared.sending.Sending.{Sending}
 use Rattle.sending.specs.Sending.{roomOf}
 use Rattle.sending.specs.Bounds.{isOdd, keyOf, membersOf, spotOf, markedBy, seenOf, isGap, hasGap, isSuccessive, isWithin, Fit, hasKey, Successive, Sound}
-
--- ---- scans
-
-module _ {A : Type 0} (p : A → Bool) where
-  pub count-most : (xs : List A) → count p xs ≤ length xs
-  count-most [] = zero-le
-  count-most (x ∷ xs) = go (p x) (count-most xs)
-    where
-      go : (t : Bool) → count p xs ≤ length xs → tick t (count p xs) ≤ suc (length xs)
-      go true h = omega arith
-      go false h = omega arith
-
--- past the end there is nothing
-beyond : {A : Type 0} (xs : List A) (j : ℕ) (d : A) → length xs ≤ j → getD xs j d ≡ d
-beyond [] j d h = refl
-beyond (x ∷ xs) zero d h = absurd (omega arith)
-beyond (x ∷ xs) (suc j) d h = beyond xs j d (omega arith)
 
 -- ---- which numbers are there
 
@@ -122,7 +106,7 @@ module _ (P : Profile) where
     seen-past : (ps : List Place) (j : ℕ) → P .places ≤ j → getD (seenOf P sent acked oldest ps) j false ≡ false
     unfolding seenOf
     seen-past ps j h =
-        beyond (foldFrom noting (replicate (P .places) false) 0 ps) j false (omega (arith, seen-long (replicate (P .places) false) 0 ps, length-replicate (P .places) false))
+        List·getD-eq-default (foldFrom noting (replicate (P .places) false) 0 ps) false {n = j} (omega (arith, seen-long (replicate (P .places) false) 0 ps, length-replicate (P .places) false))
 
     no-gap : (ps : List Place) (n : ℕ) → hasGap (seenOf P sent acked oldest ps) n ≡ false → (k : ℕ) → 0 < k → k ≤ n → any (hasKey sent acked oldest k) ps ≡ true
     unfolding hasGap
@@ -165,30 +149,18 @@ module _ (P : Profile) where
 
   so-fit : (p : Place) → isOdd P p ≡ false → Fit P p
   unfolding isOdd
-  so-fit p e = go (ltb 4 (p .status)) (ltb 3 (p .misses)) (eqb (p .status) 0) (ltb (p .chunk .len) 1) (ltb (P .payload) (p .chunk .len)) refl refl refl refl refl e
-    where
-      go : (a b c d f : Bool) → ltb 4 (p .status) ≡ a → ltb 3 (p .misses) ≡ b → eqb (p .status) 0 ≡ c → ltb (p .chunk .len) 1 ≡ d → ltb (P .payload) (p .chunk .len) ≡ f
-          → pick a true (pick b true (pick c false (pick d true (pick f true (leb (P .streams) (p .chunk .stream .0)))))) ≡ false → Fit P p
-      go true b c d f u v w x y e = clash (sym e)
-      go false true c d f u v w x y e = clash (sym e)
-      go false false true d f u v w x y e = record { status = ltb-false 4 (p .status) u; misses = ltb-false 3 (p .misses) v; cut = λ n. absurd (n (eqb-true (p .status) 0 w)) }
-      go false false false true f u v w x y e = clash (sym e)
-      go false false false false true u v w x y e = clash (sym e)
-      go false false false false false u v w x y e = record {
-        status = ltb-false 4 (p .status) u;
-        misses = ltb-false 3 (p .misses) v;
-        cut = λ n. record { some = ltb-false (p .chunk .len) 1 x; small = ltb-false (P .payload) (p .chunk .len) y; stream = leb-false (P .streams) (p .chunk .stream .0) e };
-      }
+  so-fit p e =
+      let a = neither (ltb 4 (p .status)) _ e in
+      let b = neither (ltb 3 (p .misses)) _ (a .1) in
+      record { status = ltb-false 4 (p .status) (a .0); misses = ltb-false 3 (p .misses) (b .0); cut = λ n. misfit-fits P (p .chunk .len) (p .chunk .stream .0) (sym (ap (λ (t : Bool). pick t false (isMisfit P (p .chunk .len) (p .chunk .stream .0))) (ne-eqb (p .status) 0 n)) ∙ b .1) }
 
   fit-so : (p : Place) → Fit P p → isOdd P p ≡ false
   unfolding isOdd
   fit-so p w = rw (le-ltb 4 (p .status) (w .status), le-ltb 3 (p .misses) (w .misses)) (go (eqb (p .status) 0) refl)
     where
-      go : (c : Bool) → eqb (p .status) 0 ≡ c → pick c false (pick (ltb (p .chunk .len) 1) true (pick (ltb (P .payload) (p .chunk .len)) true (leb (P .streams) (p .chunk .stream .0)))) ≡ false
+      go : (c : Bool) → eqb (p .status) 0 ≡ c → pick c false (isMisfit P (p .chunk .len) (p .chunk .stream .0)) ≡ false
       go true q = refl
-      go false q =
-          let c = w .cut (eqb-false (p .status) 0 q) in
-          rw (le-ltb (p .chunk .len) 1 (c .some), le-ltb (P .payload) (p .chunk .len) (c .small), lt-leb (P .streams) (p .chunk .stream .0) (c .stream))
+      go false q = fits-misfit P (p .chunk .len) (p .chunk .stream .0) (w .cut (eqb-false (p .status) 0 q))
 
 -- ---- the record
 

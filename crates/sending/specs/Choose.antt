@@ -6,7 +6,7 @@ use lib.ListN.{set, getD, replicate}
 use lib.Dec.{eqb, ltb, leb}
 use Rattle.numbers.specs.declared.circle.Tsn.{Tsn}
 use Rattle.numbers.specs.declared.circle.Ssn.{Ssn}
-use Rattle.numbers.specs.Circle.{steps}
+use Rattle.numbers.specs.Circle.{tsn0, ssn0, steps}
 use Rattle.numbers.specs.Numbering.{ring, on}
 use Rattle.numbers.specs.Profile.{Profile}
 use Rattle.scans.specs.Scan.{pick, foldFrom, either}
@@ -20,7 +20,7 @@ use Rattle.sending.specs.declared.sending.Sending.{Sending}
 use Rattle.sending.specs.declared.choosing.Best.{Best}
 use Rattle.sending.specs.declared.choosing.Going.{Going}
 use Rattle.sending.specs.declared.choosing.Chosen.{Chosen}
-use Rattle.sending.specs.Sending.{noSsn, noTsn, noPlace, withFlight, withPath}
+use Rattle.sending.specs.Sending.{noPlace, withFlight, withPath}
 
 -- ---- the next candidate
 
@@ -57,14 +57,14 @@ goes f b p =
 
 -- "SSN 0 if unordered"
 unfoldable pub nextSsn : Profile → List Ssn → Chunk → Ssn
-nextSsn P ns c = pick (c .unordered) noSsn (pick (ltb (c .stream .0) (P .streams)) (getD ns (c .stream .0) noSsn) noSsn)
+nextSsn P ns c = pick (c .unordered) ssn0 (pick (ltb (c .stream .0) (P .streams)) (getD ns (c .stream .0) ssn0) ssn0)
 
 -- the SSN rises when the last chunk of an ordered message is first sent
 unfoldable pub counted : Profile → List Ssn → Chunk → List Ssn
 counted P ns c =
     pick (c .unordered) ns
     (pick (c .end)
-    (pick (ltb (c .stream .0) (P .streams)) (set ns (c .stream .0) (record { 0 = on (ring (2 ^ 16)) (getD ns (c .stream .0) noSsn .0) 1 })) ns)
+    (pick (ltb (c .stream .0) (P .streams)) (set ns (c .stream .0) (record { 0 = on (ring (2 ^ 16)) (getD ns (c .stream .0) ssn0 .0) 1 })) ns)
     ns)
 
 -- a new chunk, with the TSN and SSN that it goes out with
@@ -154,8 +154,8 @@ begun z s =
       count = 0;
       places = replicate (z .bundled) 0;
       resent = false;
-      first = noTsn;
-      last = noTsn;
+      first = tsn0;
+      last = tsn0;
     }
 
 -- "One call fills one packet, or answers length 0": it ends with the first candidate that does not go

@@ -1,6 +1,6 @@
 -- What goes out was marked or waiting, so filling a packet keeps flight equal to its sum. Assumes nothing.
 use Prim.Native.Nat.{ℕ, zero, suc, _+_, _<_}
-use mathlib.Core.Path.{_≡_, refl, ap, _∙_}
+use mathlib.Core.Path.{_≡_, refl, sym, ap, _∙_}
 use mathlib.Core.Bool.{Bool, true, false}
 use mathlib.Core.List.{List, [], _∷_}
 use mathlib.Core.Logic.{_⊎_, inl, inr, ⊎-elim}
@@ -11,8 +11,8 @@ use lib.Dec.{eqb, leb, ltb}
 use Rattle.numbers.specs.declared.circle.Tsn.{Tsn}
 use Rattle.numbers.specs.Profile.{Profile}
 use Rattle.scans.specs.Scan.{pick, total, foldFrom}
-use Rattle.scans.specs.Upto.{runWhile, pick-keeps}
-use Rattle.scans.specs.Each.{clash}
+use Rattle.scans.specs.Upto.{run-keeps, runWhile, pick-keeps}
+use Rattle.scans.specs.Each.{clash, after-not}
 use Rattle.path.specs.Sizes.{Sizes}
 use Rattle.path.specs.Laws.{Within}
 use Rattle.places.specs.declared.place.Place.{Place}
@@ -24,15 +24,6 @@ use Rattle.sending.specs.declared.choosing.Chosen.{Chosen}
 use Rattle.sending.specs.Sending.{noPlace}
 use Rattle.sending.specs.Choose.{rankOf, better, bestOf, goes, put, again, first, numbered, sent, going, filling, begun, filled}
 use Rattle.sending.specs.Laws.{Summed}
-
--- a step repeated while a test holds keeps what each step keeps where the test holds
-pub run-kept : {F : Type 0} (P : F → Type 0) (go : F → Bool) (step : F → F) → ((f : F) → go f ≡ true → P f → P (step f)) → (n : ℕ) (f : F) → P f → P (runWhile go step f n)
-run-kept P go step k zero f h = h
-run-kept P go step k (suc n) f h = at (go f) refl (λ e. run-kept P go step k n (step f) (k f e h))
-  where
-    at : (t : Bool) → go f ≡ t → (go f ≡ true → P (runWhile go step (step f) n)) → P (pick t (runWhile go step (step f) n) f)
-    at true e r = r e
-    at false e r = h
 
 -- ---- the candidate is marked or waits
 
@@ -77,17 +68,15 @@ rank-ready a o p h =
     (λ (e : eqb (p .status) 1 ≡ true). inr (eqb-true (p .status) 1 e))
     (rank-by (eqb (p .status) 3) (eqb (p .status) 1) _ _ h)
 
-first-not : (t c : Bool) → pick t false c ≡ true → t ≡ false
-first-not true c e = clash e
-first-not false c e = refl
-
 pub goes-low : (f : Chosen) (b : Best) (p : Place) → goes f b p ≡ true → b .rank < 8589934592
 unfolding goes
-goes-low f b p e = leb-false 8589934592 (b .rank) (first-not (leb 8589934592 (b .rank)) _ e)
+goes-low f b p e = leb-false 8589934592 (b .rank) (after-not (leb 8589934592 (b .rank)) _ e .0)
 
-pub going-ready : (f : Chosen) → going f .go ≡ true → Ready (getD (f .sending .places) (going f .place) noPlace)
+-- the one that goes has the best rank
+pub going-rank : (f : Chosen) → going f .go ≡ true
+    → bestOf (f .sending .acked) (f .sending .oldest) (f .sending .places) .rank ≡ rankOf (f .sending .acked) (f .sending .oldest) (getD (f .sending .places) (going f .place) noPlace)
 unfolding going bestOf
-going-ready f e =
+going-rank f e =
     let a = f .sending .acked in
     let o = f .sending .oldest in
     let ps = f .sending .places in
@@ -97,8 +86,16 @@ going-ready f e =
     (λ (h : r ≡ record { rank = 8589934592; place = 0 }). absurd (omega (arith, low, ap (λ (x : Best). x .rank) h)))
     (λ (w : Ranked a o ps 0 r).
     let k : r .place ≡ w .0 = omega arith in
-    rw k (rank-ready a o (getD ps (w .0) noPlace) (omega (arith, low, w .2))))
+    w .2 ∙ ap (λ (x : ℕ). rankOf a o (getD ps x noPlace)) (sym k))
     (best-or a o ps (record { rank = 8589934592; place = 0 }) 0)
+
+pub going-ready : (f : Chosen) → going f .go ≡ true → Ready (getD (f .sending .places) (going f .place) noPlace)
+unfolding going
+going-ready f e =
+    let a = f .sending .acked in
+    let o = f .sending .oldest in
+    let r = bestOf a o (f .sending .places) in
+    rank-ready a o (getD (f .sending .places) (r .place) noPlace) (omega (arith, goes-low f r (getD (f .sending .places) (r .place) noPlace) e, going-rank f e))
 
 -- ---- a place put in flight
 
@@ -136,7 +133,7 @@ begun-sums z s = tallied-flight (s .acked) (s .places)
 -- whatever flight the record came with
 pub filled-sums : (z : Sizes) (P : Profile) (s : Sending) → Summed (filled z P s .sending)
 unfolding filled
-filled-sums z P s = run-kept Kept (λ f. going f .go) (λ f. filling P f (going f .place)) (step-sums P) (z .bundled) (begun z s) (begun-sums z s)
+filled-sums z P s = run-keeps Kept (λ f. going f .go) (λ f. filling P f (going f .place)) (step-sums P) (z .bundled) (begun z s) (begun-sums z s)
 
 -- ---- filling a packet leaves the rest of the path
 
@@ -158,4 +155,4 @@ begun-path z s w = record { controlled = w .controlled; clocked = w .clocked; tr
 pub filled-path : (z : Sizes) (P : Profile) (s : Sending) → Within z (s .path) → Within z (filled z P s .sending .path)
 unfolding filled
 filled-path z P s w =
-    run-kept (λ (f : Chosen). Within z (f .sending .path)) (λ f. going f .go) (λ f. filling P f (going f .place)) (step-path z P) (z .bundled) (begun z s) (begun-path z s w)
+    run-keeps (λ (f : Chosen). Within z (f .sending .path)) (λ f. going f .go) (λ f. filling P f (going f .place)) (step-path z P) (z .bundled) (begun z s) (begun-path z s w)

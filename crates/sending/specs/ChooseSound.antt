@@ -11,13 +11,16 @@ use native.Mathlib.Decide.{decLt, decLe, ℕ-discrete}
 use borrow.Author.Tests.{le-leb, lt-leb, eq-eqb, ne-eqb, eqb-true, eqb-false, ltb-true, ltb-false}
 use lib.ListN.{length, set, getD, length-set}
 use lib.Dec.{eqb, ltb}
+use mir.Val.{boolByte}
 use Rattle.numbers.specs.declared.circle.Tsn.{Tsn}
 use Rattle.numbers.specs.Circle.{steps}
 use Rattle.numbers.specs.Numbering.{ring, on}
 use Rattle.numbers.specs.Reach.{ahead-on, on-ahead, on-on, on-On}
 use Rattle.numbers.specs.Profile.{Profile}
 use Rattle.scans.specs.Scan.{pick, tick, any, count, foldFrom}
+use Rattle.scans.specs.Counts.{count-most, count-at, count-set, count-set-same, any-set-same}
 use Rattle.scans.specs.Each.{All, all-at, all-set, clash}
+use Rattle.scans.specs.Upto.{run-keeps}
 use Rattle.path.specs.Sizes.{Sizes}
 use Rattle.places.specs.declared.place.Place.{Place}
 use Rattle.places.specs.Places.{being, aheadOf, hasStatus, isSent}
@@ -28,24 +31,13 @@ use Rattle.sending.specs.declared.choosing.Chosen.{Chosen}
 use Rattle.sending.specs.Sending.{noPlace, roomOf}
 use Rattle.sending.specs.Choose.{rankOf, better, bestOf, put, again, first, numbered, sent, going, filling, begun, filled}
 use Rattle.sending.specs.Bounds.{keyOf, membersOf, hasKey, Fit, Successive, Sound}
-use Rattle.sending.specs.BoundsLaws.{count-most}
-use Rattle.sending.specs.ChooseLaws.{run-kept, Ranked, best-or, goes-low, going-ready, put-sums, begun-sums, begun-path}
+use Rattle.sending.specs.ChooseLaws.{Ranked, best-or, goes-low, going-rank, going-ready, put-sums, begun-sums, begun-path}
 use Rattle.sending.specs.SoundLaws.{alike-key, alike-fit}
 use Rattle.sending.specs.AcknowledgeLaws.{OnCircle, key-sent, key-unsent}
 
 -- ---- one place replaced
 
 module _ {A : Type 0} (f : A → Bool) (d : A) where
-  pub any-set-same : (xs : List A) (i : ℕ) (x : A) → f x ≡ f (getD xs i d) → any f (set xs i x) ≡ any f xs
-  any-set-same [] i x e = refl
-  any-set-same (y ∷ xs) zero x e = rw e
-  any-set-same (y ∷ xs) (suc i) x e = rw (any-set-same xs i x e)
-
-  pub count-set-same : (xs : List A) (i : ℕ) (x : A) → f x ≡ f (getD xs i d) → count f (set xs i x) ≡ count f xs
-  count-set-same [] i x e = refl
-  count-set-same (y ∷ xs) zero x e = rw e
-  count-set-same (y ∷ xs) (suc i) x e = rw (count-set-same xs i x e)
-
   -- one that passes stays where another is replaced
   pub any-set-other : (xs : List A) (i : ℕ) (x : A) → f (getD xs i d) ≡ false → any f xs ≡ true → any f (set xs i x) ≡ true
   any-set-other [] i x e h = h
@@ -68,24 +60,6 @@ module _ {A : Type 0} (f : A → Bool) (d : A) where
       go : (t : Bool) → any f (set xs i x) ≡ true → pick t true (any f (set xs i x)) ≡ true
       go true ih = refl
       go false ih = ih
-
-  pub count-set-more : (xs : List A) (i : ℕ) (x : A) → i < length xs → f (getD xs i d) ≡ false → f x ≡ true → count f (set xs i x) ≡ suc (count f xs)
-  count-set-more [] i x h e g = absurd (omega arith)
-  count-set-more (y ∷ xs) zero x h e g = rw (e, g)
-  count-set-more (y ∷ xs) (suc i) x h e g = go (f y) (count-set-more xs i x (omega arith) e g)
-    where
-      go : (t : Bool) → count f (set xs i x) ≡ suc (count f xs) → tick t (count f (set xs i x)) ≡ suc (tick t (count f xs))
-      go true k = rw k
-      go false k = k
-
-  pub count-set-less : (xs : List A) (i : ℕ) (x : A) → i < length xs → f (getD xs i d) ≡ true → f x ≡ false → suc (count f (set xs i x)) ≡ count f xs
-  count-set-less [] i x h e g = absurd (omega arith)
-  count-set-less (y ∷ xs) zero x h e g = rw (e, g)
-  count-set-less (y ∷ xs) (suc i) x h e g = go (f y) (count-set-less xs i x (omega arith) e g)
-    where
-      go : (t : Bool) → suc (count f (set xs i x)) ≡ count f xs → suc (tick t (count f (set xs i x))) ≡ tick t (count f xs)
-      go true k = rw k
-      go false k = k
 
 pub any-imp : {A : Type 0} (f g : A → Bool) (xs : List A) → All (λ (x : A). f x ≡ true → g x ≡ true) xs → any f xs ≡ true → any g xs ≡ true
 any-imp f g [] w h = h
@@ -178,34 +152,9 @@ oldest-rank a o (p ∷ ps) = (λ e. at (ℕ-discrete (p .status) 1) (eqb-true (k
     at (yes h) k = eq-eqb (rankOf a o p) 4294967296 (omega (arith, rank-waits a o p h, key-waits a o p h, k))
     at (no h) k = absurd (omega (arith, key-none a o p h, k))
 
-going-rank : (f : Chosen) → going f .go ≡ true
-    → bestOf (f .sending .acked) (f .sending .oldest) (f .sending .places) .rank ≡ rankOf (f .sending .acked) (f .sending .oldest) (getD (f .sending .places) (going f .place) noPlace)
-unfolding going bestOf
-going-rank f e =
-    let a = f .sending .acked in
-    let o = f .sending .oldest in
-    let ps = f .sending .places in
-    let r = foldFrom (better a o) (record { rank = 8589934592; place = 0 }) 0 ps in
-    let low : r .rank < 8589934592 = goes-low f r (getD ps (r .place) noPlace) e in
-    ⊎-elim
-    (λ (h : r ≡ record { rank = 8589934592; place = 0 }). absurd (omega (arith, low, ap (λ (x : Best). x .rank) h)))
-    (λ (w : Ranked a o ps 0 r).
-    let k : r .place ≡ w .0 = omega arith in
-    w .2 ∙ ap (λ (x : ℕ). rankOf a o (getD ps x noPlace)) (sym k))
-    (best-or a o ps (record { rank = 8589934592; place = 0 }) 0)
-
 best-rank : (a : Tsn) (o : ℕ) (ps : List Place) → any (λ p. eqb (rankOf a o p) 4294967296) ps ≡ true → bestOf a o ps .rank ≤ 4294967296
 unfolding bestOf
 best-rank a o ps e = best-least a o 4294967296 ps (record { rank = 8589934592; place = 0 }) 0 e
-
-count-any : {A : Type 0} (f : A → Bool) (d : A) (xs : List A) (i : ℕ) → i < length xs → f (getD xs i d) ≡ true → 1 ≤ count f xs
-count-any f d [] i h e = absurd (omega arith)
-count-any f d (x ∷ xs) zero h e = rw e (omega arith)
-count-any f d (x ∷ xs) (suc i) h e = go (f x) (count-any f d xs i (omega arith) e)
-  where
-    go : (t : Bool) → 1 ≤ count f xs → 1 ≤ tick t (count f xs)
-    go true k = omega arith
-    go false k = k
 
 -- "then new", in the order of handing in: a new one that goes is the first of those that wait
 pub first-waits : (z : Sizes) (P : Profile) (f : Chosen) → Sound z P (f .sending) → going f .go ≡ true → getD (f .sending .places) (going f .place) noPlace .status ≡ 1
@@ -215,7 +164,7 @@ first-waits z P f w g e =
     let o = f .sending .oldest in
     let ps = f .sending .places in
     let p = getD ps (going f .place) noPlace in
-    let one : 1 ≤ count (hasStatus 1) ps = count-any (hasStatus 1) noPlace ps (going f .place) (in-range ps (going f .place) (λ q. omega arith)) (eq-eqb (p .status) 1 e) in
+    let one : 1 ≤ count (hasStatus 1) ps = count-at (hasStatus 1) noPlace ps (going f .place) (in-range ps (going f .place) (λ q. omega arith)) (eq-eqb (p .status) 1 e) in
     let l = best-rank a o ps (any-imp (hasKey false a o 1) (λ x. eqb (rankOf a o x) 4294967296) ps (oldest-rank a o ps) (w .waiting .each 1 (omega arith) one)) in
     omega (arith, l, going-rank f g, rank-waits a o p e, key-waits a o p e)
 
@@ -311,7 +260,7 @@ module _ (z : Sizes) (P : Profile) (s : Sending) (w : Sound z P s) (t : Typed s)
     new-key o = key-sent (s .acked) o new new-sent ∙ ap (aheadOf (s .acked)) (new-tsn P s here)
 
     first-sent : (o : ℕ) → Successive true (s .acked) o (set (s .places) i new) (suc (roomOf s))
-    first-sent o = record { many = count-set-more isSent noPlace (s .places) i new inside was-unsent new-sent ∙ ap suc (w .sent .many); each = λ j a b. at j a b (decLe j (roomOf s)) }
+    first-sent o = record { many = omega (arith, count-set isSent noPlace (s .places) i new inside, ap boolByte was-unsent, ap boolByte new-sent, w .sent .many); each = λ j a b. at j a b (decLe j (roomOf s)) }
       where
         at : (j : ℕ) → 0 < j → j ≤ suc (roomOf s) → Dec (j ≤ roomOf s) → any (hasKey true (s .acked) o j) (set (s .places) i new) ≡ true
         at j a b (yes l) =
@@ -330,7 +279,7 @@ module _ (z : Sizes) (P : Profile) (s : Sending) (w : Sound z P s) (t : Typed s)
             (eq-eqb (keyOf true (s .acked) o new) j (omega (arith, new-key o, b, w .ahead)))
 
     left-waiting : suc (count (hasStatus 1) (set (s .places) i new)) ≡ count (hasStatus 1) (s .places)
-    left-waiting = count-set-less (hasStatus 1) noPlace (s .places) i new inside (eq-eqb (here .status) 1 e) refl
+    left-waiting = omega (arith, count-set (hasStatus 1) noPlace (s .places) i new inside, ap boolByte (eq-eqb (here .status) 1 e))
 
     new-orders : All (λ (p : Place). p .chunk .order < 2 ^ 32) (set (s .places) i new)
     new-orders =
@@ -417,7 +366,7 @@ module _ (z : Sizes) (P : Profile) where
   filled-sure : (s : Sending) → Sure s → Sure (filled z P s .sending)
   unfolding filled
   filled-sure s h =
-      run-kept (λ (f : Chosen). Sure (f .sending)) (λ f. going f .go) (λ f. filling P f (going f .place)) step-sure (z .bundled) (begun z s) (begun-sure s h)
+      run-keeps (λ (f : Chosen). Sure (f .sending)) (λ f. going f .go) (λ f. filling P f (going f .place)) step-sure (z .bundled) (begun z s) (begun-sure s h)
 
   pub filled-sound : (s : Sending) → Sound z P s → Typed s → Sound z P (filled z P s .sending)
   filled-sound s w t = filled-sure s (w, t) .0

@@ -1,9 +1,9 @@
 // A SACK is judged and taken in; a SHUTDOWN's point works alike.
 use crate::sending::Sending;
+use numbers::Blocks;
 use numbers::Judgement;
 use numbers::Tsn;
 use path::Path;
-use places::Blocks;
 use places::Sack;
 ghost use mathlib.Core.Path.{_≡_};
 ghost use Prim.Native.Nat.{_-_};
@@ -23,7 +23,7 @@ fn judge_blocks(b: Blocks, room: u32) -> u8
     if 64 < b.count {
         return 16;
     }
-    if b.any_ill(room) {
+    if places::blocks::any_ill(b, room) {
         return 16;
     }
     0
@@ -94,7 +94,7 @@ fn limit(s: Sending, k: Sack, highest: u32) -> u64
             return highest as u64;
         }
         let b = k.blocks;
-        let top = b.top();
+        let top = places::blocks::top(b);
         return d as u64 + top as u64;
     }
     highest as u64

@@ -9,7 +9,7 @@ use places::Place;
 ghost use mathlib.Core.Path.{_≡_};
 ghost use Prim.Native.Nat.{_≤_, _<_, _*_};
 ghost use lib.ListN.{length};
-ghost use Rattle.numbers.specs.Profile.{rail};
+ghost use Rattle.numbers.specs.Profile.{rail, placeAt};
 ghost use Rattle.octets.specs.Bytes.{laid};
 ghost use Rattle.sending.specs.HandIn.{chunksOf, isRefused, takes, partLen, partOf, chunkAt, waitingAt, laidOut, storedIn, waited, handedIn, areaAfter};
 
@@ -128,7 +128,7 @@ fn laid_out(places: [Place; Rail::PLACES], m: Message, n: usize) -> [Place; Rail
 // The payload of chunk k into the bytes of place i.
 fn store(area: &mut [u8], message: &[u8], i: usize, k: usize)
     requires { ⌜ (i < 128) × (k < 128) ⌝ }
-    ensures { λ _. ⌜ now (area .exit) ≡ laid (now (area .entry)) (512 * i) (partOf rail (now (message .entry)) k) ⌝ }
+    ensures { λ _. ⌜ now (area .exit) ≡ laid (now (area .entry)) (placeAt rail i) (partOf rail (now (message .entry)) k) ⌝ }
 {
     let part = octets::bytes::part(message, Rail::PAYLOAD * k, Rail::PAYLOAD);
     octets::bytes::put_all(area, Rail::PAYLOAD * i, part);

@@ -7,6 +7,7 @@ use lib.ListN.{length}
 use Rattle.scans.specs.Scan.{pick}
 use Rattle.numbers.specs.declared.circle.Tsn.{Tsn}
 use Rattle.numbers.specs.declared.circle.StreamId.{StreamId}
+use Rattle.numbers.specs.declared.keeping.Blocks.{Blocks}
 use Rattle.numbers.specs.Numbering.{ring}
 use Rattle.numbers.specs.Profile.{rail}
 use Rattle.path.specs.Sizes.{railSizes}
@@ -19,7 +20,6 @@ use Rattle.delivery.specs.declared.arrival.Verdict.{Verdict}
 use Rattle.delivery.specs.declared.arrival.Verdict.the-variants.{Kept, Empty, Long, Duplicate, Wedged, Far, Stray}
 use Rattle.delivery.specs.declared.arrival.Arrival.{Arrival}
 use Rattle.delivery.specs.Arrival.{arrived, areaAfter}
-use Rattle.places.specs.declared.blocks.Blocks.{Blocks}
 use Rattle.sending.specs.declared.acknowledging.Answer.{Answer}
 use Rattle.sending.specs.Acknowledge as sender
 use Rattle.sending.specs.Sending.{isBare, heard}

@@ -10,11 +10,11 @@ use lib.ListN.{length, drop, length-drop}
 use lib.Seq.{length-take-le}
 use Rattle.scans.specs.Scan.{pick}
 use Rattle.scans.specs.Each.{All, clash}
+use Rattle.scans.specs.Upto.{smaller-left}
 use Rattle.octets.specs.Bytes.{u8}
 use Rattle.numbers.specs.Numbering.{ring}
 use Rattle.numbers.specs.Profile.{rail}
 use Rattle.path.specs.Sizes.{railSizes}
-use Rattle.path.specs.Laws.{smaller-left}
 use Rattle.chunks.specs.declared.init.Init.{Init}
 use Rattle.chunks.specs.Again.{Octet}
 use Rattle.chunks.specs.InitChunk.{initOf}

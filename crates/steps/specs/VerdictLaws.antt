@@ -6,7 +6,7 @@ use native.Mathlib.Omega.{arith}
 use borrow.Author.Tests.{ltb-false}
 use lib.ListN.{length, take, drop, length-take}
 use Rattle.octets.specs.Writing.{wroteCount, wroteBytes, Wrote}
-use Rattle.octets.specs.WritingLaws.{wrote-none, WroteAt, stayed, written, wrote-at}
+use Rattle.octets.specs.WritingLaws.{wrote-none, wrote-most}
 use Rattle.chunks.specs.declared.frame.Part.{Part}
 use mathlib.Core.Bool.{Bool, true, false}
 use lib.Dec.{eqb, ltb}
@@ -55,14 +55,6 @@ cookie-short p s h =
     go true u f k e = absurd (omega (arith, ap (λ (b : Bool). pick {A = ℕ} b 0 1) k))
     go false true f k e = absurd (omega (arith, ap (λ (b : Bool). pick {A = ℕ} b 0 1) k))
     go false false f k e = omega (arith, ltb-false 256 (p .len) f)
-
--- a writer writes no more than it was given
-wrote-most : {xs a ys : List ℕ} {n : ℕ} → Wrote xs a n ys → n ≤ length a
-wrote-most {xs} {a} {ys} {n} w = go (w .count) (wrote-at xs 0 a)
-  where
-    go : {k : ℕ} {e : List ℕ} → n ≡ k → WroteAt xs 0 a k e → n ≤ length a
-    go p (stayed z q) = omega arith
-    go p (written l z q) = omega arith
 
 pub echo-few : (cookie : List ℕ) {xs ys : List ℕ} {n : ℕ} → Wrote xs (cookieEchoBytes cookie) n ys → n ≤ 260
 echo-few cookie w = omega (arith, wrote-most w, echo-within cookie)

@@ -1,8 +1,8 @@
 // The worked examples of sending, C12 and C13 among them: each answer is printed as it comes out, and beside it what it should be.
 use libc::STDOUT_FILENO;
+use numbers::Blocks;
 use numbers::StreamId;
 use numbers::Tsn;
-use places::Blocks;
 use sending::Answer;
 use sending::Chosen;
 use sending::Sending;
