@@ -19,8 +19,10 @@ use Rattle.holding.specs.Held.{asHeld}
 use Rattle.delivery.specs.declared.arrival.Verdict.{Verdict}
 use Rattle.delivery.specs.declared.arrival.Verdict.the-variants.{Kept, Empty, Long, Duplicate, Wedged, Far, Stray}
 use Rattle.delivery.specs.declared.arrival.Arrival.{Arrival}
+use Rattle.delivery.specs.declared.receiving.Receiving.{Receiving}
 use Rattle.delivery.specs.Arrival.{arrived, areaAfter}
 use Rattle.sending.specs.declared.acknowledging.Answer.{Answer}
+use Rattle.sending.specs.declared.sending.Sending.{Sending}
 use Rattle.sending.specs.Acknowledge as sender
 use Rattle.sending.specs.Sending.{isBare, heard}
 use Rattle.states.specs.declared.state.State.the-variants.{ShutdownSent, ShutdownAckSent}
@@ -84,9 +86,11 @@ callOf Far t s = NoCall
 callOf Stray t s = ErrorStream s
 
 -- the receiver's answer to a chunk
-unfoldable pub arrivalOf : Association → List ℕ → Arrival
-arrivalOf a s =
-    arrived (ring (2 ^ 32)) rail (a .receiving) (asHeld (chunkOf s) (length (payloadOf s))) (a .ends .«streams_in»)
+unfoldable pub arrivalIn : Receiving → ℕ → List ℕ → Arrival
+arrivalIn r streams s = arrived (ring (2 ^ 32)) rail r (asHeld (chunkOf s) (length (payloadOf s))) streams
+
+abbrev pub arrivalOf : Association → List ℕ → Arrival
+arrivalOf a s = arrivalIn (a .receiving) (a .ends .«streams_in») s
 
 -- what becomes of a DATA that the receiving side answers so
 unfoldable pub dataRead : Association → List ℕ → Arrival → Step
@@ -112,9 +116,11 @@ readLateData a s =
     (dataRead a s (arrivalOf a s))
 
 -- what then stands in the lent area
-unfoldable pub areaData : Association → List ℕ → List ℕ → List ℕ
-areaData a area s =
-    areaAfter (ring (2 ^ 32)) rail (a .receiving) (asHeld (chunkOf s) (length (payloadOf s))) (a .ends .«streams_in») area (payloadOf s)
+unfoldable pub areaIn : Receiving → ℕ → List ℕ → List ℕ → List ℕ
+areaIn r streams area s = areaAfter (ring (2 ^ 32)) rail r (asHeld (chunkOf s) (length (payloadOf s))) streams area (payloadOf s)
+
+abbrev pub areaData : Association → List ℕ → List ℕ → List ℕ
+areaData a area s = areaIn (a .receiving) (a .ends .«streams_in») area s
 
 -- ---- SACK
 
@@ -123,8 +129,11 @@ unfoldable pub blocksOf : List ℕ → Blocks
 blocksOf s = record { count = sackOf s .blocks; starts = blocksIn rail s .starts; ends = blocksIn rail s .ends }
 
 -- the sending side's answer to a SACK
-unfoldable pub heardSack : Association → List ℕ → Answer
-heardSack a s = sender.acknowledged railSizes (a .sending) (sender.sackOf (sackOf s .point) (sackOf s .window) (blocksOf s))
+unfoldable pub heardBy : Sending → List ℕ → Answer
+heardBy q s = sender.acknowledged railSizes q (sender.sackOf (sackOf s .point) (sackOf s .window) (blocksOf s))
+
+abbrev pub heardSack : Association → List ℕ → Answer
+heardSack a s = heardBy (a .sending) s
 
 -- "16 with cause 13"
 abbrev pub sackCall : ℕ → Named

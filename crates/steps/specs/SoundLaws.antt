@@ -42,7 +42,7 @@ use Rattle.steps.specs.declared.lent.Echoed.the-variants.{Bad, Stale, Go
 use Rattle.steps.specs.Verdict.{Step}
 use Rattle.steps.specs.Lent.{isMade, heeded}
 use Rattle.steps.specs.Opening.{isPoor, isOdd, isPoorLent, answerInit, established, readEcho}
-use Rattle.steps.specs.Carrying.{chunkOf, payloadOf, isKept, arrivalOf, dataRead, readData, readLateData, blocksOf, heardSack, sackRead, isLast, readSack, readSackPending, readSackReceived, echoHeartbeat, clearTries}
+use Rattle.steps.specs.Carrying.{chunkOf, payloadOf, isKept, arrivalIn, arrivalOf, dataRead, readData, readLateData, blocksOf, heardBy, heardSack, sackRead, isLast, readSack, readSackPending, readSackReceived, echoHeartbeat, clearTries}
 use Rattle.steps.specs.Closing.{readError, heardShutdown, readShutdown, crossShutdown, repeatShutdownAck}
 use Rattle.steps.specs.Unknown.{passUnknown, tellUnknown}
 
@@ -112,7 +112,7 @@ module _ (a : Association) (k : Kept a) where
 
   module _ (s : List ℕ) (w : All Octet s) where
     arrival-received : Received (arrivalOf a s .receiving)
-    unfolding arrivalOf chunkOf
+    unfolding arrivalIn chunkOf
     arrival-received =
         let r = kept-receiver a k in
         record {
@@ -128,7 +128,7 @@ module _ (a : Association) (k : Kept a) where
     data-keeps = data-kept
 
     heard-kept : Kept (withSending a (heardSack a s .sending))
-    unfolding heardSack
+    unfolding heardBy
     heard-kept =
         kept-with-sending a k _
         (sending.acknowledged-kept railSizes rail rail-fair (a .sending) (kept-sender a k) (sender.sackOf (sackOf s .point) (sackOf s .window) (blocksOf s)) (sack-point s w))

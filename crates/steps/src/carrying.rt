@@ -6,17 +6,19 @@ use crate::verdict::Named;
 use crate::verdict::Owed;
 use association::Association;
 use delivery::Arrival;
+use delivery::Receiving;
 use delivery::Verdict;
 use holding::Chunk;
 use numbers::Blocks;
 use numbers::StreamId;
 use numbers::Tsn;
 use sending::Answer;
+use sending::Sending;
 use states::State;
 ghost use mathlib.Core.Path.{_≡_};
 ghost use Rattle.octets.specs.Writing.{wroteBytes};
 ghost use Rattle.steps.specs.Verdict.{doneIn, doneWith};
-ghost use Rattle.steps.specs.Carrying.{chunkOf, isKept, fateOf, callOf, arrivalOf, dataRead, readData, readLateData, areaData, blocksOf, heardSack, sackCall, readSack, readSackPending, readSackReceived, echoHeartbeat, clearTries};
+ghost use Rattle.steps.specs.Carrying.{chunkOf, isKept, fateOf, callOf, arrivalIn, dataRead, readData, readLateData, areaData, areaIn, blocksOf, heardBy, sackCall, readSack, readSackPending, readSackReceived, echoHeartbeat, clearTries};
 
 fn chunk_of(s: &[u8]) -> Chunk
     ensures { λ r. ⌜ r ≡ chunkOf (now (s .entry)) ⌝ }
@@ -79,16 +81,14 @@ fn is_kept(v: Verdict) -> bool
 }
 
 // The receiver's answer to a DATA chunk.
-fn hear_data(a: Association, area: &mut [u8], s: &[u8]) -> Arrival
-    ensures { λ r. ⌜ (r ≡ arrivalOf a (now (s .entry))) × (now (area .exit) ≡ areaData a (now (area .entry)) (now (s .entry))) ⌝ }
+fn hear_data(receiving: Receiving, streams: u16, area: &mut [u8], s: &[u8]) -> Arrival
+    ensures { λ r. ⌜ (r ≡ arrivalIn receiving streams (now (s .entry))) × (now (area .exit) ≡ areaIn receiving streams (now (area .entry)) (now (s .entry))) ⌝ }
 {
     let c = chunk_of(s);
     let p = chunks::data::payload(s);
     let from = p.at;
     let to = from + p.len;
-    let receiving = a.receiving;
-    let ends = a.ends;
-    receiving.arrive(area, c, &s[from..to], ends.streams_in)
+    receiving.arrive(area, c, &s[from..to], streams)
 }
 
 fn data_read(mut a: Association, o: Arrival, s: &[u8]) -> Done
@@ -115,7 +115,9 @@ fn data_read(mut a: Association, o: Arrival, s: &[u8]) -> Done
 pub fn read_data(a: Association, area: &mut [u8], s: &[u8]) -> Done
     ensures { λ r. ⌜ (r ≡ doneWith 0 (readData a (now (s .entry)))) × (now (area .exit) ≡ areaData a (now (area .entry)) (now (s .entry))) ⌝ }
 {
-    let o = hear_data(a, area, s);
+    let receiving = a.receiving;
+    let ends = a.ends;
+    let o = hear_data(receiving, ends.streams_in, area, s);
     data_read(a, o, s)
 }
 
@@ -123,7 +125,9 @@ pub fn read_data(a: Association, area: &mut [u8], s: &[u8]) -> Done
 pub fn read_late_data(mut a: Association, area: &mut [u8], s: &[u8]) -> Done
     ensures { λ r. ⌜ (r ≡ doneWith 0 (readLateData a (now (s .entry)))) × (now (area .exit) ≡ areaData a (now (area .entry)) (now (s .entry))) ⌝ }
 {
-    let o = hear_data(a, area, s);
+    let receiving = a.receiving;
+    let ends = a.ends;
+    let o = hear_data(receiving, ends.streams_in, area, s);
     let v = o.verdict;
     if is_kept(v) {
         let after = o.receiving;
@@ -152,12 +156,11 @@ fn blocks_of(s: &[u8]) -> Blocks
     }
 }
 
-fn hear_sack(a: Association, s: &[u8]) -> Answer
-    ensures { λ r. ⌜ r ≡ heardSack a (now (s .entry)) ⌝ }
+fn hear_sack(sending: Sending, s: &[u8]) -> Answer
+    ensures { λ r. ⌜ r ≡ heardBy sending (now (s .entry)) ⌝ }
 {
     let h = chunks::sack::read_sack(s);
     let b = blocks_of(s);
-    let sending = a.sending;
     let point = h.point;
     sending::acknowledge(sending, point, h.window, b)
 }
@@ -176,7 +179,8 @@ pub fn sack_call(number: u8) -> Named
 pub fn read_sack(mut a: Association, s: &[u8]) -> Done
     ensures { λ r. ⌜ r ≡ doneWith 0 (readSack a (now (s .entry))) ⌝ }
 {
-    let o = hear_sack(a, s);
+    let sending = a.sending;
+    let o = hear_sack(sending, s);
     if o.number == 0 {
         let after = o.sending;
         a.sending = after;
@@ -189,7 +193,8 @@ pub fn read_sack(mut a: Association, s: &[u8]) -> Done
 pub fn read_sack_pending(mut a: Association, s: &[u8]) -> Done
     ensures { λ r. ⌜ r ≡ doneWith 0 (readSackPending a (now (s .entry))) ⌝ }
 {
-    let o = hear_sack(a, s);
+    let sending = a.sending;
+    let o = hear_sack(sending, s);
     if o.number == 0 {
         let after = o.sending;
         a.sending = after;
@@ -209,7 +214,8 @@ pub fn read_sack_pending(mut a: Association, s: &[u8]) -> Done
 pub fn read_sack_received(mut a: Association, s: &[u8], space: &mut [u8]) -> Done
     ensures { λ r. ⌜ (r ≡ doneIn (now (space .entry)) (readSackReceived a (now (s .entry)))) × (now (space .exit) ≡ wroteBytes (now (space .entry)) (readSackReceived a (now (s .entry)) .reply)) ⌝ }
 {
-    let o = hear_sack(a, s);
+    let sending = a.sending;
+    let o = hear_sack(sending, s);
     if o.number == 0 {
         let after = o.sending;
         a.sending = after;

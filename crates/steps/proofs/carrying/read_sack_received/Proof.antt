@@ -50,7 +50,7 @@ accepted-requires-2 c κs = search needs
 -- src/carrying.rt:196:9
 returns-2 : tie.Need-returns-2
 unfolding readSackReceived
-returns-2 c = (rw (← c .before .before .before .before .before .before .hear-sack .ensures, eq-eqb _ _ (c .before .before .before .before .if1 .taken), ← c .before .before .is-empty .ensures, c .before .if2 .left, ← wrote-none (c .before .before .before .before .before .before .before .before .before .args .space .now) .count) (c .accepted2 .ensures), rw (← c .before .before .before .before .before .before .hear-sack .ensures, eq-eqb _ _ (c .before .before .before .before .if1 .taken), ← c .before .before .is-empty .ensures, c .before .if2 .left) (wrote-none (c .before .before .before .before .before .before .before .before .before .args .space .now) .bytes))
+returns-2 c = (rw (← c .before .before .before .before .before .before .hear-sack .ensures, eq-eqb _ _ (c .before .before .before .before .if1 .taken), ← c .before .before .is-empty .ensures, c .before .if2 .left, ← wrote-none (c .before .before .before .before .before .before .before .before .before .before .args .space .now) .count) (c .accepted2 .ensures), rw (← c .before .before .before .before .before .before .hear-sack .ensures, eq-eqb _ _ (c .before .before .before .before .if1 .taken), ← c .before .before .is-empty .ensures, c .before .if2 .left) (wrote-none (c .before .before .before .before .before .before .before .before .before .before .args .space .now) .bytes))
 
 -- src/carrying.rt:198:32
 sack-call-requires : tie.Need-sack-call-requires
@@ -63,7 +63,7 @@ refused-requires c κs = search needs
 -- src/carrying.rt:185:1
 returns-3 : tie.Need-returns-3
 unfolding readSackReceived
-returns-3 c = (rw (← c .before .before .before .before .hear-sack .ensures, ne-eqb _ _ (c .before .before .if1 .left), ← c .before .sack-call .ensures, ← wrote-none (c .before .before .before .before .before .before .before .args .space .now) .count) (c .refused .ensures), rw (← c .before .before .before .before .hear-sack .ensures, ne-eqb _ _ (c .before .before .if1 .left)) (wrote-none (c .before .before .before .before .before .before .before .args .space .now) .bytes))
+returns-3 c = (rw (← c .before .before .before .before .hear-sack .ensures, ne-eqb _ _ (c .before .before .if1 .left), ← c .before .sack-call .ensures, ← wrote-none (c .before .before .before .before .before .before .before .before .args .space .now) .count) (c .refused .ensures), rw (← c .before .before .before .before .hear-sack .ensures, ne-eqb _ _ (c .before .before .if1 .left)) (wrote-none (c .before .before .before .before .before .before .before .before .args .space .now) .bytes))
 
 pub read-sack-received-spec : {M : Type 1} → statement M
 read-sack-received-spec =
