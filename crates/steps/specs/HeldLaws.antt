@@ -24,7 +24,7 @@ use Rattle.parameters.specs.Stale.{staleIn}
 use Rattle.delivery.specs.Receiving.{fresh}
 use Rattle.states.specs.declared.rows.Row.{Row}
 use Rattle.states.specs.declared.rows.Row.the-variants.{Refused, ReadData, ReadLateData, AnswerInit, TakeInitAck, ReadSack, ReadSackPending, ReadSackReceived, EchoHeartbeat, ClearTries, BecomeClosed, ReadShutdown, CrossShutdown, RepeatShutdownAck, ReflectComplete, SendComplete, PassError, ReadError, ReadEcho, BecomeEstablished, BecomeComplete, PassUnknown, TellUnknown}
-use Rattle.states.specs.Calls.{acknowledgeIn}
+use Rattle.states.specs.Calls.{readsData}
 use Rattle.states.specs.RowsLaws.{finds, row-finds}
 use Rattle.association.specs.declared.ends.Association.{Association}
 use Rattle.steps.specs.declared.chunk.Beside.{Beside}
@@ -111,7 +111,7 @@ module _ (a : Association) where
   tell-none Skip s = inl refl
   tell-none SkipAndReport s = inl refl
 
-  module _ (out : acknowledgeIn (a .state) ≡ false) (room : ℕ) (b : Beside) (cookie area s : List ℕ) where
+  module _ (out : readsData (a .state) ≡ false) (room : ℕ) (b : Beside) (cookie area s : List ℕ) where
     row-none : (r : Row) → finds r (a .state) ≡ true → HoldsNone a (rowStep room a b cookie s r) × (rowArea a area s r ≡ area)
     row-none ReadData e = clash (sym out ∙ e)
     row-none ReadLateData e = clash (sym out ∙ e)
