@@ -10,7 +10,7 @@ use lib.ListN.{length}
 use Rattle.scans.specs.Scan.{pick}
 use Rattle.packets.specs.declared.header.Header.{Header}
 use Rattle.states.specs.declared.state.State.the-variants.{Closed}
-use Rattle.states.specs.declared.calls.Call.{Call}
+use Rattle.states.specs.declared.call.Call.{Call}
 use Rattle.states.specs.Calls.{permitted}
 use Rattle.association.specs.declared.ends.Association.{Association}
 use Rattle.association.specs.Fresh.{withState}

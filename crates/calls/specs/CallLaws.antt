@@ -11,7 +11,7 @@ use Rattle.states.specs.declared.state.State.{State}
 use Rattle.states.specs.declared.state.State.the-variants.{Closed, CookieWait, CookieEchoed, Established, ShutdownPending, ShutdownSent, ShutdownReceived, ShutdownAckSent}
 use Rattle.states.specs.Tries.{triedAgain, withinTries}
 use Rattle.states.specs.TriesLaws.{tries-kept}
-use Rattle.states.specs.declared.calls.Call.{Call}
+use Rattle.states.specs.declared.call.Call.{Call}
 use Rattle.association.specs.declared.ends.Association.{Association}
 use Rattle.association.specs.Fresh.{withState, withReceiving}
 use Rattle.association.specs.Bounds.{isSound}

@@ -9,7 +9,7 @@ use Rattle.chunks.specs.Frame.{framed}
 use Rattle.sending.specs.Sending.{isBare}
 use Rattle.states.specs.declared.state.State.{State}
 use Rattle.states.specs.declared.state.State.the-variants.{Closed, CookieWait, CookieEchoed, Established, ShutdownPending, ShutdownSent, ShutdownReceived, ShutdownAckSent}
-use Rattle.states.specs.declared.calls.Call.the-variants.{Shutdown, Abort}
+use Rattle.states.specs.declared.call.Call.the-variants.{Shutdown, Abort}
 use Rattle.association.specs.declared.ends.Association.{Association}
 use Rattle.association.specs.Fresh.{withState}
 use Rattle.calls.specs.declared.closing.Reason.{Reason}

@@ -23,8 +23,8 @@ use Rattle.sending.specs.Sending.{isBare}
 use Rattle.sending.specs.Expiry.{expired}
 use Rattle.sending.specs.Laws.{handed-number, refused-message, refused-area}
 use Rattle.states.specs.declared.state.State.{State}
-use Rattle.states.specs.declared.calls.Call.{Call}
-use Rattle.states.specs.declared.calls.Call.the-variants.{Associate, HandIn, Acknowledge, ThirdTimer, Shutdown, Abort, Heartbeat, Sample, TellStale}
+use Rattle.states.specs.declared.call.Call.{Call}
+use Rattle.states.specs.declared.call.Call.the-variants.{Associate, HandIn, Acknowledge, ThirdTimer, Shutdown, Abort, Heartbeat, Sample, TellStale}
 use Rattle.states.specs.Tries.{triedAgain}
 use Rattle.states.specs.RowsLaws.{each-state}
 use Rattle.association.specs.declared.ends.Association.{Association}

@@ -15,7 +15,7 @@ use Rattle.delivery.specs.declared.receiving.Taken as receiver
 use Rattle.delivery.specs.Receiving.{taken}
 use Rattle.sending.specs.declared.cutting.Handed.{Handed}
 use Rattle.sending.specs.HandIn as sender
-use Rattle.states.specs.declared.calls.Call.the-variants.{HandIn}
+use Rattle.states.specs.declared.call.Call.the-variants.{HandIn}
 use Rattle.association.specs.declared.ends.Association.{Association}
 use Rattle.association.specs.Fresh.{withReceiving, withSending}
 use Rattle.association.specs.Bounds.{isSound}

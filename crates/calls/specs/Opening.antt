@@ -9,7 +9,7 @@ use Rattle.chunks.specs.declared.init.Init.{Init}
 use Rattle.chunks.specs.InitChunk.{initFields}
 use Rattle.chunks.specs.Frame.{framed}
 use Rattle.states.specs.declared.state.State.the-variants.{CookieWait}
-use Rattle.states.specs.declared.calls.Call.the-variants.{Associate}
+use Rattle.states.specs.declared.call.Call.the-variants.{Associate}
 use Rattle.association.specs.declared.ends.Association.{Association}
 use Rattle.association.specs.Fresh.{started}
 use Rattle.calls.specs.Packet.{headOf}

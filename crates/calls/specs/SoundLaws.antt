@@ -22,8 +22,8 @@ use Rattle.sending.specs.Sending.{isBare}
 use Rattle.sending.specs.Expiry.{expired}
 use Rattle.states.specs.declared.state.State.{State}
 use Rattle.states.specs.declared.state.State.the-variants.{CookieWait, CookieEchoed, Established, ShutdownPending, ShutdownSent, ShutdownReceived, ShutdownAckSent}
-use Rattle.states.specs.declared.calls.Call.{Call}
-use Rattle.states.specs.declared.calls.Call.the-variants.{Associate, HandIn, Acknowledge, ThirdTimer, Shutdown, Abort, Heartbeat, Sample, TellStale}
+use Rattle.states.specs.declared.call.Call.{Call}
+use Rattle.states.specs.declared.call.Call.the-variants.{Associate, HandIn, Acknowledge, ThirdTimer, Shutdown, Abort, Heartbeat, Sample, TellStale}
 use Rattle.states.specs.Calls.{permitted}
 use Rattle.states.specs.Tries.{triedAgain, withinTries}
 use Rattle.states.specs.TriesLaws.{tries-kept, tried-keeps}

@@ -7,7 +7,7 @@ use Rattle.chunks.specs.declared.cause.Cause.the-variants.{InvalidStream, Stale
 use Rattle.chunks.specs.Cause.{caused, code, information}
 use Rattle.chunks.specs.Frame.{framed}
 use Rattle.chunks.specs.HeartbeatChunk.{heartbeatBytes}
-use Rattle.states.specs.declared.calls.Call.the-variants.{Acknowledge, TellStale, Heartbeat}
+use Rattle.states.specs.declared.call.Call.the-variants.{Acknowledge, TellStale, Heartbeat}
 use Rattle.association.specs.declared.ends.Association.{Association}
 use Rattle.calls.specs.Packet.{toPeer}
 use Rattle.calls.specs.Answer.{isShortOut, barred, Plan, carrying, unless}

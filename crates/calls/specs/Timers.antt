@@ -14,8 +14,8 @@ use Rattle.sending.specs.Sending.{doubled, sampled}
 use Rattle.sending.specs.Expiry.{expired}
 use Rattle.states.specs.declared.state.State.{State}
 use Rattle.states.specs.declared.state.State.the-variants.{Closed, CookieWait, CookieEchoed, Established, ShutdownPending, ShutdownSent, ShutdownReceived, ShutdownAckSent}
-use Rattle.states.specs.declared.calls.Call.{Call}
-use Rattle.states.specs.declared.calls.Call.the-variants.{ThirdTimer, Sample}
+use Rattle.states.specs.declared.call.Call.{Call}
+use Rattle.states.specs.declared.call.Call.the-variants.{ThirdTimer, Sample}
 use Rattle.states.specs.Tries.{triedAgain, isClosed}
 use Rattle.association.specs.declared.ends.Association.{Association}
 use Rattle.association.specs.declared.ends.Cookie.{Cookie}

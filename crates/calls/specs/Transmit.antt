@@ -17,7 +17,7 @@ use Rattle.places.specs.declared.place.Place.{Place}
 use Rattle.sending.specs.declared.choosing.Chosen.{Chosen}
 use Rattle.sending.specs.Sending.{noPlace}
 use Rattle.sending.specs.Choose.{filled}
-use Rattle.states.specs.declared.calls.Call.the-variants.{Transmit}
+use Rattle.states.specs.declared.call.Call.the-variants.{Transmit}
 use Rattle.association.specs.declared.ends.Association.{Association}
 use Rattle.association.specs.Fresh.{withSending}
 use Rattle.calls.specs.declared.transmitting.Transmitted.{Transmitted}

@@ -17,7 +17,7 @@ use Rattle.path.specs.Sizes.{railSizes}
 use Rattle.sending.specs.declared.choosing.Chosen.{Chosen}
 use Rattle.sending.specs.Choose.{filled}
 use Rattle.places.specs.declared.place.Place.{Place}
-use Rattle.states.specs.declared.calls.Call.{Call}
+use Rattle.states.specs.declared.call.Call.{Call}
 use Rattle.association.specs.declared.ends.Association.{Association}
 use Rattle.association.specs.Fresh.{withSending}
 use Rattle.calls.specs.Answer.{isShortArea, isShortOut, barred}

@@ -2,8 +2,8 @@
 use mathlib.Core.Bool.{Bool, true, false, not}
 use Rattle.states.specs.declared.state.State.{State}
 use Rattle.states.specs.declared.state.State.the-variants.{Closed, CookieWait, CookieEchoed, Established, ShutdownPending, ShutdownSent, ShutdownReceived, ShutdownAckSent}
-use Rattle.states.specs.declared.calls.Call.{Call}
-use Rattle.states.specs.declared.calls.Call.the-variants.{Associate, HandIn, Transmit, Acknowledge, FirstTimer, SecondTimer, ThirdTimer, Shutdown, Abort, Heartbeat, Sample, TellStale}
+use Rattle.states.specs.declared.call.Call.{Call}
+use Rattle.states.specs.declared.call.Call.the-variants.{Associate, HandIn, Transmit, Acknowledge, FirstTimer, SecondTimer, ThirdTimer, Shutdown, Abort, Heartbeat, Sample, TellStale}
 use Rattle.states.specs.Tries.{isClosed}
 
 -- the state is ESTABLISHED

@@ -10,7 +10,7 @@ use Rattle.states.specs.declared.state.State.{State}
 use Rattle.states.specs.declared.state.State.the-variants.{Closed, CookieWait, CookieEchoed, Established, ShutdownPending, ShutdownSent, ShutdownReceived, ShutdownAckSent}
 use Rattle.states.specs.declared.rows.Row.{Row}
 use Rattle.states.specs.declared.rows.Row.the-variants.{Refused, ReadData, ReadLateData, AnswerInit, TakeInitAck, ReadSack, ReadSackPending, ReadSackReceived, EchoHeartbeat, ClearTries, BecomeClosed, ReadShutdown, CrossShutdown, RepeatShutdownAck, ReflectComplete, SendComplete, PassError, ReadError, ReadEcho, BecomeEstablished, BecomeComplete, PassUnknown, TellUnknown}
-use Rattle.states.specs.declared.calls.Call.the-variants as call
+use Rattle.states.specs.declared.call.Call.the-variants as call
 use Rattle.states.specs.Rows.{dataRow, initRow, initAckRow, sackRow, heartbeatRow, heartbeatAckRow, abortRow, shutdownRow, shutdownAckRow, errorRow, cookieEchoRow, cookieAckRow, shutdownCompleteRow, unknownRow, rowOf}
 use Rattle.states.specs.Calls.{readsData, permitted}
 

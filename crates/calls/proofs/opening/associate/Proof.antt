@@ -1,5 +1,5 @@
 use mathlib.Core.Path.{sym, _∙_}
-use Rattle.states.specs.declared.calls.Call.the-variants.{Associate}
+use Rattle.states.specs.declared.call.Call.the-variants.{Associate}
 use Rattle.calls.specs.Answer.{earlier}
 use Rattle.calls.specs.AnswerLaws.{roomy, earlier-none, done-sent, done-refused, done-so}
 use Rattle.calls.specs.Opening.{associating}
