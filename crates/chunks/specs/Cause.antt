@@ -11,7 +11,7 @@ abbrev pub caused : ℕ → List ℕ → List ℕ
 caused c info = be16 c ++ be16 (4 + length info) ++ info
 
 -- the cause codes that we send: 1, 3, 9 and 13 as 01 calls for them, 12 for the host's own ABORT
-unfoldable pub code : Cause → ℕ
+abbrev pub code : Cause → ℕ
 code (InvalidStream s) = 1
 code (StaleCookie late) = 3
 code (NoUserData t) = 9
