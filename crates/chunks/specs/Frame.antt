@@ -1,8 +1,8 @@
 -- A chunk by its type, flags and value (RFC 9260 section 3.2); the parts of a chunk that was received.
 use Prim.Native.Nat.{ℕ, _+_, _-_, _/_, _%_}
-use mathlib.Core.Bool.{Bool}
+use mathlib.Core.Bool.{Bool, false}
 use mathlib.Core.List.{List, []}
-use lib.Dec.{ltb, eqb}
+use lib.Dec.{ltb, leb, eqb}
 use lib.ListN.{length, take, drop, getD}
 use Rattle.scans.specs.Scan.{pick}
 use Rattle.scans.specs.Upto.{smaller}
@@ -14,9 +14,13 @@ use Rattle.chunks.specs.declared.frame.Part.{Part}
 abbrev pub framed : ℕ → ℕ → List ℕ → List ℕ
 framed k f v = chunk k f (4 + length v) v
 
+-- at least one, and no more than `most`
+abbrev pub isOneTo : ℕ → ℕ → Bool
+isOneTo most n = pick (ltb n 1) false (leb n most)
+
 -- the bytes bs of a chunk that carries c: none where c is empty, or has more bytes than `most`
 unfoldable pub carrying : ℕ → List ℕ → List ℕ → List ℕ
-carrying most c bs = pick (ltb most (length c)) [] (pick (eqb (length c) 0) [] bs)
+carrying most c bs = pick (isOneTo most (length c)) bs []
 
 -- the rows of a figure, four bytes each
 abbrev pub rowsOf : List ℕ → List ℕ

@@ -10,6 +10,7 @@ use Rattle.octets.specs.Walk.{overItems}
 use Rattle.chunks.specs.Frame.{framed, carrying, ended}
 use Rattle.chunks.specs.InitChunk.{initFields}
 use Rattle.chunks.specs.Cause.{caused}
+use Rattle.chunks.specs.CookieChunk.{longestCookie}
 use Rattle.chunks.specs.declared.init.Init.{Init}
 use Rattle.chunks.specs.declared.kind.Handling.{Handling}
 use Rattle.chunks.specs.declared.kind.Handling.the-variants.{Stop, StopAndReport, Skip, SkipAndReport}
@@ -64,7 +65,7 @@ ROOM = 1440
 
 -- the INIT ACK that answers the INIT s, with its cookie c
 unfoldable pub initAckBytes : Init → List ℕ → List ℕ → List ℕ
-initAckBytes v c s = carrying 256 c (framed 2 0 (initFields v ++ gatherAll ROOM true (parameter 7 c) (paramsOf s)))
+initAckBytes v c s = carrying longestCookie c (framed 2 0 (initFields v ++ gatherAll ROOM true (parameter 7 c) (paramsOf s)))
 
 -- an ERROR with cause 8 and the parameters v; none where there are none
 abbrev pub errorOf : List ℕ → List ℕ
