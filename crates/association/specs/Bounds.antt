@@ -2,11 +2,13 @@
 -- equal to its sum; sent TSNs successive". What is received and what is sent have tests of their own; here is what stands beside them.
 use Prim.Native.Nat.{ℕ, _^_}
 use mathlib.Core.Bool.{Bool, true, false, not}
-use lib.Dec.{ltb, leb, eqb}
+use lib.Dec.{ltb, eqb}
 use Rattle.scans.specs.Scan.{pick}
 use Rattle.numbers.specs.Numbering.{ring}
 use Rattle.numbers.specs.Profile.{rail}
 use Rattle.path.specs.Sizes.{railSizes}
+use Rattle.chunks.specs.Frame.{isOneTo}
+use Rattle.chunks.specs.CookieChunk.{longestCookie, isCookie}
 use Rattle.delivery.specs.Bounds as receiver
 use Rattle.sending.specs.Bounds as sender
 use Rattle.states.specs.declared.state.State.{State}
@@ -18,7 +20,7 @@ use Rattle.association.specs.declared.ends.Association.{Association}
 
 -- "128 streams each way at most", and at least one
 abbrev pub areStreams : ℕ → Bool
-areStreams n = pick (ltb n 1) false (leb n 128)
+areStreams n = isOneTo 128 n
 
 -- a tag that is to be known is 0
 abbrev pub lacksTag : Bool → ℕ → Bool
@@ -31,15 +33,11 @@ areEnds e known =
     (pick (lacksTag known (e .«peer_tag»)) false
     (pick (areStreams (e .«streams_in»)) (areStreams (e .«streams_out»)) false))
 
--- "cookie 1 to 256 bytes"
-abbrev pub isEcho : Cookie → Bool
-isEcho c = pick (ltb (c .len) 1) false (leb (c .len) 256)
-
 -- what each state asks of the ends and of the cookie; CLOSED asks nothing
 abbrev pub isHead : State → Ends → Cookie → Bool
 isHead Closed e c = true
 isHead (CookieWait n) e c = areEnds e false
-isHead (CookieEchoed n) e c = pick (isEcho c) (areEnds e true) false
+isHead (CookieEchoed n) e c = pick (isCookie (c .len)) (areEnds e true) false
 isHead Established e c = areEnds e true
 isHead ShutdownPending e c = areEnds e true
 isHead (ShutdownSent n) e c = areEnds e true
@@ -50,6 +48,6 @@ isHead (ShutdownAckSent n) e c = areEnds e true
 unfoldable pub isSound : Association → Bool
 isSound a =
     pick (not (withinTries (a .state))) false
-    (pick (ltb 256 (a .cookie .len)) false
+    (pick (ltb longestCookie (a .cookie .len)) false
     (pick (not (isHead (a .state) (a .ends) (a .cookie))) false
     (pick (not (receiver.isSound (ring (2 ^ 32)) rail (a .receiving))) false (sender.isWithin railSizes rail (a .sending)))))
