@@ -2,6 +2,8 @@
 use Prim.Native.Nat.{ℕ, _^_, _≤_}
 use mathlib.Core.Path.{_≡_, refl}
 use mathlib.Core.Bool.{Bool, true, false, not}
+use native.Mathlib.Omega.{arith}
+use borrow.Author.Tests.{eqb-true, eqb-false}
 use lib.Dec.{ltb, eqb}
 use Rattle.scans.specs.Scan.{pick}
 use Rattle.scans.specs.Each.{clash}
@@ -23,7 +25,7 @@ use Rattle.association.specs.declared.ends.Ends.{Ends}
 use Rattle.association.specs.declared.ends.Cookie.{Cookie}
 use Rattle.association.specs.declared.ends.Association.{Association}
 use Rattle.association.specs.Fresh.{withState, withReceiving, withSending}
-use Rattle.association.specs.Bounds.{areStreams, lacksTag, areEnds, isHead, isSound}
+use Rattle.association.specs.Bounds.{areStreams, lacksTag, areEnds, isHead, isSound, firstNumber, earlier}
 
 -- ---- a record taken apart, and put together
 
@@ -110,3 +112,21 @@ pub known-ends : (e : Ends) (c : Cookie) (s : State) → knowsPeer s ≡ true �
 known-ends e c =
     each-state (λ s. knowsPeer s ≡ true → isHead s e c ≡ true → areEnds e true ≡ true) clash (λ n. clash) (λ n k h. behind (isCookie (c .len)) (areEnds e true) h) (λ k h. h) (λ k h. h) (λ n k h. h)
     (λ k h. h) (λ n k h. h)
+
+-- ---- numbers
+
+-- what is not refused first is within its bounds, has what was lent, and is asked the rest
+pub first-none : (a : Association) (short : Bool) (next : ℕ) → firstNumber a short next ≡ 0 → (isSound a ≡ true) × (short ≡ false) × (next ≡ 0)
+first-none a short next = go (isSound a) short
+  where
+    go : (s t : Bool) → pick s (pick t 18 next) 1 ≡ 0 → (s ≡ true) × (t ≡ false) × (next ≡ 0)
+    go true true h = absurd (omega (arith, h))
+    go true false h = (refl, refl, h)
+    go false t h = absurd (omega (arith, h))
+
+pub earlier-none : (m n : ℕ) → earlier m n ≡ 0 → (m ≡ 0) × (n ≡ 0)
+earlier-none m n = go (eqb m 0) refl
+  where
+    go : (t : Bool) → eqb m 0 ≡ t → pick t n m ≡ 0 → (m ≡ 0) × (n ≡ 0)
+    go true e h = (eqb-true m 0 e, h)
+    go false e h = absurd (eqb-false m 0 e h)
