@@ -1,24 +1,26 @@
 -- What a packet that arrives leaves, case by case. Assumes nothing.
 use Prim.Native.Nat.{ℕ, _+_, _-_, _≤_}
-use mathlib.Core.Path.{_≡_, refl}
+use mathlib.Core.Path.{_≡_, refl, sym}
 use mathlib.Core.Bool.{Bool, true, false}
 use mathlib.Core.List.{List, [], _++_}
 use native.Mathlib.Omega.{arith}
-use borrow.Author.Tests.{ltb-false, eqb-true, eqb-false}
+use borrow.Author.Tests.{ltb-true, ltb-false, eqb-true}
 use lib.Dec.{ltb, eqb}
 use lib.ListN.{length, drop}
 use Rattle.scans.specs.Scan.{pick, either}
+use Rattle.scans.specs.Each.{clash}
 use Rattle.scans.specs.Upto.{pick-keeps}
-use Rattle.octets.specs.Bytes.{be32, laid}
+use Rattle.octets.specs.Bytes.{laid}
 use Rattle.octets.specs.Walk.{overItems}
 use Rattle.octets.specs.Writing.{fitting}
-use Rattle.chunks.specs.Frame.{framed}
+use Rattle.chunks.specs.ShutdownChunk.{shutdownBytes, completeBytes}
 use Rattle.packets.specs.declared.header.Header.{Header}
 use Rattle.packets.specs.Header.{headerOf, sealCount, sealBytes}
 use Rattle.packets.specs.Checks.{sizeNumber, sumNumber}
 use Rattle.packets.specs.Shape.{shapeNumber}
 use Rattle.association.specs.declared.ends.Association.{Association}
-use Rattle.association.specs.Bounds.{isSound}
+use Rattle.association.specs.Bounds.{leastOut, leastArea}
+use Rattle.association.specs.BoundsLaws.{first-none, earlier-none}
 use Rattle.steps.specs.declared.chunk.Beside.{Beside}
 use Rattle.steps.specs.declared.lent.Lent.{Lent}
 use Rattle.steps.specs.declared.lent.Echoed.{Echoed}
@@ -29,7 +31,8 @@ use Rattle.arriving.specs.declared.walk.Walked.{Walked}
 use Rattle.arriving.specs.Tags.{headNumber}
 use Rattle.arriving.specs.Walked.{Turn, begun, takenIn, isDue, stepAt, replyAt, turned, walkedOver}
 use Rattle.arriving.specs.WalkedLaws.{noted-same}
-use Rattle.arriving.specs.Reply.{isSilenced, isShutdownSent, endedBy, completeBytes, closedBy, wholeReply, replyHead, sentLength, sentOut}
+use Rattle.arriving.specs.Reply.{isSilenced, isShutdownSent, endedBy, closedBy, wholeReply, replyHead, sentLength, sentOut}
+use Rattle.arriving.specs.ReplyLaws.{laid-none}
 use Rattle.arriving.specs.Arrival.{lentNumber, packetNumber, refusedWith, passed, answeredLength, answeredOut, acceptedAs, numberOf, arrivedOf, outOf}
 
 -- ---- one chunk
@@ -59,7 +62,7 @@ passed-over a area packet lent cookie e = (record { first = true; source = heade
 
 pub data Closing (w : Walked) (reply bs : List ℕ) : Type 0 where
   as-gathered : bs ≡ reply → Closing w reply bs
-  shut : w .due ≡ true → bs ≡ reply ++ fitting (1460 - length reply) (framed 7 0 (be32 (w .association .receiving .keeping .point .0))) → Closing w reply bs
+  shut : w .due ≡ true → bs ≡ reply ++ fitting (1460 - length reply) (shutdownBytes (w .association .receiving .keeping .point)) → Closing w reply bs
   displaced : (reflected : Bool) → bs ≡ completeBytes reflected → Closing w reply bs
 
 module _ (w : Walked) (reply : List ℕ) where
@@ -68,7 +71,7 @@ module _ (w : Walked) (reply : List ℕ) where
   ending = go (w .due) refl (isShutdownSent (w .association .state))
     where
       go : (x : Bool) → w .due ≡ x → (y : Bool)
-          → Closing w reply (pick (pick x y false) (reply ++ fitting (1460 - length reply) (framed 7 0 (be32 (w .association .receiving .keeping .point .0)))) reply)
+          → Closing w reply (pick (pick x y false) (reply ++ fitting (1460 - length reply) (shutdownBytes (w .association .receiving .keeping .point))) reply)
       go true e true = shut e refl
       go true e false = as-gathered refl
       go false e y = as-gathered refl
@@ -93,18 +96,12 @@ pub data Sealed (reply out : List ℕ) (n : ℕ) (exit : List ℕ) : Type 0 wher
 
 sealing : (h : Header) (reply out : List ℕ) → Sealed reply out (sentLength reply out) (sentOut h reply out)
 unfolding sentLength sentOut
-sealing h reply out = go (eqb (length reply) 0) refl
+sealing h reply out = go (ltb 12 (12 + length reply)) refl
   where
-    go : (x : Bool) → eqb (length reply) 0 ≡ x
-        → Sealed reply out (pick x 0 (sealCount (12 + length reply) (laid out 12 reply))) (pick x out (sealBytes h (12 + length reply) (laid out 12 reply)))
-    go true e = nothing refl refl
-    go false e = behind h (eqb-false (length reply) 0 e) refl refl
-
-not-lent : (a b c : Bool) → _≡_ {A = ℕ} (pick a (pick b 18 (pick c 18 0)) 1) 0 → c ≡ false
-not-lent true true c e = absurd (omega arith)
-not-lent true false true e = absurd (omega arith)
-not-lent true false false e = refl
-not-lent false b c e = absurd (omega arith)
+    go : (x : Bool) → ltb 12 (12 + length reply) ≡ x
+        → Sealed reply out (pick x (sealCount (12 + length reply) (laid out 12 reply)) 0) (pick x (sealBytes h (12 + length reply) (laid out 12 reply)) (laid out 12 reply))
+    go true e = behind h (λ z. omega (arith, ltb-true 12 (12 + length reply) e, z)) refl refl
+    go false e = nothing refl (laid-none reply out (omega (arith, ltb-false 12 (12 + length reply) e)))
 
 not-packet : (a b c : Bool) (n : ℕ) → pick a 2 (pick b 3 (pick c 4 n)) ≡ 0 → n ≡ 0
 not-packet true b c n e = absurd (omega (arith, e))
@@ -115,18 +112,17 @@ not-packet false false false n e = e
 module _ (a : Association) (area packet : List ℕ) (lent : Lent) (cookie : List ℕ) (e : Echoed) (out : List ℕ) where
   both : numberOf a area packet e out ≡ 0 → (lentNumber a (length area) (length out) ≡ 0) × (packetNumber a packet (heeded e) ≡ 0)
   unfolding numberOf
-  both h = go (eqb (lentNumber a (length area) (length out)) 0) refl h
-    where
-      go : (x : Bool) → eqb (lentNumber a (length area) (length out)) 0 ≡ x
-          → pick x (packetNumber a packet (heeded e)) (lentNumber a (length area) (length out)) ≡ 0
-          → (lentNumber a (length area) (length out) ≡ 0) × (packetNumber a packet (heeded e) ≡ 0)
-      go true p q = (eqb-true (lentNumber a (length area) (length out)) 0 p, q)
-      go false p q = absurd (eqb-false (lentNumber a (length area) (length out)) 0 p q)
+  both = earlier-none (lentNumber a (length area) (length out)) (packetNumber a packet (heeded e))
 
   -- a packet is let in only where the output is long enough for any reply
   pub let-in-long : numberOf a area packet e out ≡ 0 → 1472 ≤ length out
   unfolding lentNumber
-  let-in-long h = ltb-false (length out) 1472 (not-lent (isSound a) (ltb (length area) 65536) (ltb (length out) 1472) (both h .0))
+  let-in-long h = go (ltb (length area) leastArea) (ltb (length out) leastOut) refl (first-none a (either (ltb (length area) leastArea) (ltb (length out) leastOut)) 0 (both h .0) .1)
+    where
+      go : (s t : Bool) → ltb (length out) leastOut ≡ t → either s t ≡ false → leastOut ≤ length out
+      go true t e n = clash (sym n)
+      go false true e n = clash (sym n)
+      go false false e n = ltb-false (length out) leastOut e
 
   -- and only if it is well formed
   pub let-in-shape : numberOf a area packet e out ≡ 0 → shapeNumber packet ≡ 0

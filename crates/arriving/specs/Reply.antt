@@ -5,15 +5,16 @@ use mathlib.Core.List.{List, [], _++_}
 use lib.Dec.{ltb, eqb}
 use lib.ListN.{length}
 use Rattle.scans.specs.Scan.{pick}
-use Rattle.octets.specs.Bytes.{u8, u32, be32, laid}
+use Rattle.octets.specs.Bytes.{u8, u32, laid}
 use Rattle.octets.specs.Walk.{firstItem}
 use Rattle.octets.specs.Writing.{fitting}
-use Rattle.chunks.specs.Frame.{framed, weight}
+use Rattle.chunks.specs.ShutdownChunk.{shutdownBytes, completeBytes}
 use Rattle.packets.specs.declared.header.Header.{Header}
-use Rattle.packets.specs.Header.{sealCount, sealBytes}
+use Rattle.packets.specs.Header.{filledCount, filledBytes}
 use Rattle.states.specs.declared.state.State.{State}
 use Rattle.states.specs.declared.state.State.the-variants.{Closed, CookieWait, CookieEchoed, Established, ShutdownPending, ShutdownSent, ShutdownReceived, ShutdownAckSent}
 use Rattle.association.specs.declared.ends.Association.{Association}
+use Rattle.association.specs.Heads.{headTo}
 use Rattle.steps.specs.declared.verdict.Owed.{Owed}
 use Rattle.steps.specs.declared.verdict.Owed.the-variants.{Nothing, Shutdown, Complete, Reflected}
 use Rattle.arriving.specs.declared.walk.Walked.{Walked}
@@ -43,11 +44,7 @@ isShutdownDue w = pick (w .due) (isShutdownSent (w .association .state)) false
 -- it goes out once, behind all other replies, with the point at the packet's end
 unfoldable pub endedBy : Walked → List ℕ → List ℕ
 endedBy w reply =
-    pick (isShutdownDue w) (reply ++ fitting (1460 - length reply) (framed 7 0 (be32 (w .association .receiving .keeping .point .0)))) reply
-
--- SHUTDOWN COMPLETE, with or without the T bit (section 3.3.13)
-abbrev pub completeBytes : Bool → List ℕ
-completeBytes reflected = framed 14 (weight reflected 1) []
+    pick (isShutdownDue w) (reply ++ fitting (1460 - length reply) (shutdownBytes (w .association .receiving .keeping .point))) reply
 
 -- "INIT ACK and SHUTDOWN COMPLETE stand alone": it takes the place of all other replies
 abbrev pub closedBy : Walked → List ℕ → Owed → List ℕ
@@ -73,11 +70,11 @@ replyTag a Shutdown tag s = initiateTag a s
 
 -- from our port back to where the packet came from
 abbrev pub replyHead : Association → Owed → Header → List ℕ → Header
-replyHead a o h s = record { source = a .ends .«local_port»; destination = h .source; tag = replyTag a o (h .tag) s }
+replyHead a o h s = headTo (a .ends) (h .source) (replyTag a o (h .tag) s)
 
 -- its packet: the header, and the reply behind it; none where there is no reply
 unfoldable pub sentLength : List ℕ → List ℕ → ℕ
-sentLength reply out = pick (eqb (length reply) 0) 0 (sealCount (12 + length reply) (laid out 12 reply))
+sentLength reply out = filledCount (12 + length reply) (laid out 12 reply)
 
 unfoldable pub sentOut : Header → List ℕ → List ℕ → List ℕ
-sentOut h reply out = pick (eqb (length reply) 0) out (sealBytes h (12 + length reply) (laid out 12 reply))
+sentOut h reply out = filledBytes h (12 + length reply) (laid out 12 reply)

@@ -9,7 +9,8 @@ ghost use mathlib.Core.Path.{_≡_};
 ghost use Prim.Native.Nat.{_≤_};
 ghost use lib.ListN.{length, take};
 ghost use Rattle.octets.specs.Walk.{firstItem};
-ghost use Rattle.arriving.specs.Reply.{isAbort, isSilenced, isShutdownSent, isShutdownDue, completeBytes, endedBy, wholeReply, initiateTag, replyTag, replyHead, sentLength, sentOut};
+ghost use Rattle.chunks.specs.ShutdownChunk.{completeBytes};
+ghost use Rattle.arriving.specs.Reply.{isAbort, isSilenced, isShutdownSent, isShutdownDue, endedBy, wholeReply, initiateTag, replyTag, replyHead, sentLength, sentOut};
 
 fn is_abort(s: &[u8]) -> bool
     ensures { λ r. ⌜ r ≡ isAbort (now (s .entry)) ⌝ }

@@ -2,14 +2,17 @@
 use Prim.Native.Nat.{ℕ, _^_, _≤_}
 use mathlib.Core.Path.{_≡_, refl}
 use mathlib.Core.Bool.{Bool, true, false, not}
-use borrow.Author.Tests.{le-ltb, le-leb, ltb-false, leb-true}
-use lib.Dec.{ltb, leb, eqb}
+use native.Mathlib.Omega.{arith}
+use borrow.Author.Tests.{eqb-true, eqb-false}
+use lib.Dec.{ltb, eqb}
 use Rattle.scans.specs.Scan.{pick}
 use Rattle.scans.specs.Each.{clash}
 use Rattle.scans.specs.Upto.{smaller, pick-keeps}
 use Rattle.numbers.specs.Numbering.{ring}
 use Rattle.numbers.specs.Profile.{rail}
 use Rattle.path.specs.Sizes.{railSizes}
+use Rattle.chunks.specs.FrameLaws.{one-to-so}
+use Rattle.chunks.specs.CookieChunk.{longestCookie, isCookie}
 use Rattle.delivery.specs.declared.receiving.Receiving.{Receiving}
 use Rattle.delivery.specs.Bounds as receiver
 use Rattle.sending.specs.declared.sending.Sending.{Sending}
@@ -22,14 +25,14 @@ use Rattle.association.specs.declared.ends.Ends.{Ends}
 use Rattle.association.specs.declared.ends.Cookie.{Cookie}
 use Rattle.association.specs.declared.ends.Association.{Association}
 use Rattle.association.specs.Fresh.{withState, withReceiving, withSending}
-use Rattle.association.specs.Bounds.{areStreams, lacksTag, areEnds, isEcho, isHead, isSound}
+use Rattle.association.specs.Bounds.{areStreams, lacksTag, areEnds, isHead, isSound, firstNumber, earlier}
 
 -- ---- a record taken apart, and put together
 
 -- the five tests, each for itself
 pub record Parts (a : Association) : Type 0 where
   pub tries : withinTries (a .state) ≡ true
-  pub cookie : ltb 256 (a .cookie .len) ≡ false
+  pub cookie : ltb longestCookie (a .cookie .len) ≡ false
   pub head : isHead (a .state) (a .ends) (a .cookie) ≡ true
   pub receiving : receiver.isSound (ring (2 ^ 32)) rail (a .receiving) ≡ true
   pub sending : sender.isWithin railSizes rail (a .sending) ≡ true
@@ -38,7 +41,7 @@ pub sound-parts : (a : Association) → isSound a ≡ true → Parts a
 unfolding isSound
 sound-parts a e = go _ _ _ _ refl refl refl refl e
   where
-    go : (t l h r : Bool) → withinTries (a .state) ≡ t → ltb 256 (a .cookie .len) ≡ l → isHead (a .state) (a .ends) (a .cookie) ≡ h
+    go : (t l h r : Bool) → withinTries (a .state) ≡ t → ltb longestCookie (a .cookie .len) ≡ l → isHead (a .state) (a .ends) (a .cookie) ≡ h
         → receiver.isSound (ring (2 ^ 32)) rail (a .receiving) ≡ r
         → pick (not t) false (pick l false (pick (not h) false (pick (not r) false (sender.isWithin railSizes rail (a .sending))))) ≡ true → Parts a
     go false l h r p q s u e = clash e
@@ -77,17 +80,7 @@ module _ (a : Association) (e : isSound a ≡ true) where
 
 -- one side's number and the other's: the fewer of the two can be agreed
 pub fewer-streams : (m n : ℕ) → 1 ≤ m → 1 ≤ n → smaller m n ≤ 128 → areStreams (smaller m n) ≡ true
-fewer-streams m n a b c = streams-so (smaller m n) (pick-keeps (λ (x : ℕ). 1 ≤ x) (ltb m n) m n a b) c
-  where
-    streams-so : (n : ℕ) → 1 ≤ n → n ≤ 128 → areStreams n ≡ true
-    streams-so n a b = rw (le-ltb n 1 a) (le-leb n 128 b)
-
-pub streams-few : (n : ℕ) → areStreams n ≡ true → (1 ≤ n) × (n ≤ 128)
-streams-few n e = go (ltb n 1) refl e
-  where
-    go : (t : Bool) → ltb n 1 ≡ t → pick t false (leb n 128) ≡ true → (1 ≤ n) × (n ≤ 128)
-    go true q e = clash e
-    go false q e = (ltb-false n 1 q, leb-true n 128 e)
+fewer-streams m n a b c = one-to-so 128 (smaller m n) (pick-keeps (λ (x : ℕ). 1 ≤ x) (ltb m n) m n a b) c
 
 pub record Ended (e : Ends) (known : Bool) : Type 0 where
   pub mine : eqb (e .«my_tag») 0 ≡ false
@@ -117,5 +110,23 @@ behind false u e = clash e
 -- once the peer is known, both tags are there
 pub known-ends : (e : Ends) (c : Cookie) (s : State) → knowsPeer s ≡ true → isHead s e c ≡ true → areEnds e true ≡ true
 known-ends e c =
-    each-state (λ s. knowsPeer s ≡ true → isHead s e c ≡ true → areEnds e true ≡ true) clash (λ n. clash) (λ n k h. behind (isEcho c) (areEnds e true) h) (λ k h. h) (λ k h. h) (λ n k h. h)
+    each-state (λ s. knowsPeer s ≡ true → isHead s e c ≡ true → areEnds e true ≡ true) clash (λ n. clash) (λ n k h. behind (isCookie (c .len)) (areEnds e true) h) (λ k h. h) (λ k h. h) (λ n k h. h)
     (λ k h. h) (λ n k h. h)
+
+-- ---- numbers
+
+-- what is not refused first is within its bounds, has what was lent, and is asked the rest
+pub first-none : (a : Association) (short : Bool) (next : ℕ) → firstNumber a short next ≡ 0 → (isSound a ≡ true) × (short ≡ false) × (next ≡ 0)
+first-none a short next = go (isSound a) short
+  where
+    go : (s t : Bool) → pick s (pick t 18 next) 1 ≡ 0 → (s ≡ true) × (t ≡ false) × (next ≡ 0)
+    go true true h = absurd (omega (arith, h))
+    go true false h = (refl, refl, h)
+    go false t h = absurd (omega (arith, h))
+
+pub earlier-none : (m n : ℕ) → earlier m n ≡ 0 → (m ≡ 0) × (n ≡ 0)
+earlier-none m n = go (eqb m 0) refl
+  where
+    go : (t : Bool) → eqb m 0 ≡ t → pick t n m ≡ 0 → (m ≡ 0) × (n ≡ 0)
+    go true e h = (eqb-true m 0 e, h)
+    go false e h = absurd (eqb-false m 0 e h)

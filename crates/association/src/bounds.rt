@@ -5,7 +5,8 @@ use crate::ends::Ends;
 use numbers::Rail;
 use states::State;
 ghost use mathlib.Core.Path.{_≡_};
-ghost use Rattle.association.specs.Bounds.{areStreams, lacksTag, isEcho, areEnds, isHead, isSound};
+ghost use Rattle.chunks.specs.CookieChunk.{isCookie};
+ghost use Rattle.association.specs.Bounds.{areStreams, lacksTag, areEnds, isHead, isSound};
 
 // At least one stream, and no more than the profile has.
 pub fn are_streams(n: u16) -> bool
@@ -44,7 +45,7 @@ fn are_ends(e: Ends, known: bool) -> bool
 }
 
 fn is_echo(c: Cookie) -> bool
-    ensures { λ r. ⌜ r ≡ isEcho c ⌝ }
+    ensures { λ r. ⌜ r ≡ isCookie (c .len) ⌝ }
 {
     if c.len < 1 {
         return false;

@@ -8,7 +8,7 @@ use Rattle.chunks.specs.declared.sack.Sack.{Sack}
 use Rattle.chunks.specs.SackChunk.{sackBytes}
 use Rattle.delivery.specs.declared.acknowledging.Acknowledged as told
 use Rattle.delivery.specs.Acknowledging as receiving
-use Rattle.states.specs.declared.calls.Call.the-variants.{Acknowledge}
+use Rattle.states.specs.declared.call.Call.the-variants.{Acknowledge}
 use Rattle.association.specs.declared.ends.Association.{Association}
 use Rattle.association.specs.Fresh.{withReceiving}
 use Rattle.calls.specs.declared.acknowledging.Acknowledged.{Acknowledged}

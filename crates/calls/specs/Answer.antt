@@ -8,28 +8,24 @@ use lib.ListN.{length}
 use Rattle.scans.specs.Scan.{pick}
 use Rattle.packets.specs.declared.header.Header.{Header}
 use Rattle.states.specs.declared.state.State.the-variants.{Closed}
-use Rattle.states.specs.declared.calls.Call.{Call}
+use Rattle.states.specs.declared.call.Call.{Call}
 use Rattle.states.specs.Calls.{permitted}
 use Rattle.association.specs.declared.ends.Association.{Association}
 use Rattle.association.specs.Fresh.{withState}
-use Rattle.association.specs.Bounds.{isSound}
+use Rattle.association.specs.Bounds.{leastOut, leastArea, firstNumber}
 use Rattle.calls.specs.declared.answer.Answer.{Answer}
 use Rattle.calls.specs.Packet.{toPeer, sentLength, sentOne}
 
--- "lent output at least 1,472 bytes"; "a lent area of 65,536 bytes"
+-- what is lent is too short
 abbrev pub isShortOut : List ℕ → Bool
-isShortOut out = ltb (length out) 1472
+isShortOut out = ltb (length out) leastOut
 
 abbrev pub isShortArea : List ℕ → Bool
-isShortArea area = ltb (length area) 65536
+isShortArea area = ltb (length area) leastArea
 
 -- 1 "record outside its bounds", 18 "lent output or area too short", 7 "call not for this state"
 unfoldable pub barred : Association → Bool → Call → ℕ
-barred a short call = pick (isSound a) (pick short 18 (pick (permitted call (a .state)) 0 7)) 1
-
--- of two numbers the first that is given
-abbrev pub earlier : ℕ → ℕ → ℕ
-earlier m n = pick (eqb m 0) n m
+barred a short call = firstNumber a short (pick (permitted call (a .state)) 0 7)
 
 -- a call: its number, the record after it, whether an expiry closed it, and the packet of one chunk that goes out, if one does
 pub record Plan : Type 0 where

@@ -4,40 +4,32 @@ use mathlib.Core.Path.{_≡_, refl, sym, _∙_}
 use mathlib.Core.Bool.{Bool, true, false}
 use mathlib.Core.List.{List, []}
 use native.Mathlib.Omega.{arith}
-use borrow.Author.Tests.{ltb-false, eqb-true, eq-eqb, ne-eqb}
-use lib.Dec.{eqb}
+use borrow.Author.Tests.{ltb-false, eq-eqb, ne-eqb}
 use lib.ListN.{length}
 use Rattle.scans.specs.Scan.{pick}
 use Rattle.packets.specs.declared.header.Header.{Header}
 use Rattle.states.specs.declared.state.State.the-variants.{Closed}
-use Rattle.states.specs.declared.calls.Call.{Call}
+use Rattle.states.specs.declared.call.Call.{Call}
 use Rattle.states.specs.Calls.{permitted}
 use Rattle.association.specs.declared.ends.Association.{Association}
 use Rattle.association.specs.Fresh.{withState}
-use Rattle.association.specs.Bounds.{isSound}
+use Rattle.association.specs.Bounds.{leastOut}
+use Rattle.association.specs.BoundsLaws.{first-none}
 use Rattle.calls.specs.declared.answer.Answer.{Answer}
 use Rattle.calls.specs.Packet.{Sent}
-use Rattle.calls.specs.Answer.{isShortOut, barred, earlier, Plan, refusing, quietly, carrying, ending, unless, answerOf, outOf, Done, Kept}
+use Rattle.calls.specs.Answer.{isShortOut, barred, Plan, refusing, quietly, carrying, ending, unless, answerOf, outOf, Done, Kept}
 
--- a call that is let in has its lent output and area
-pub let-in : (a : Association) (short : Bool) (call : Call) → barred a short call ≡ 0 → short ≡ false
+-- a call that is let in has its lent output and area, and is one for the state
+pub let-in : (a : Association) (short : Bool) (call : Call) → barred a short call ≡ 0 → (short ≡ false) × (permitted call (a .state) ≡ true)
 unfolding barred
-let-in a short call e = go (isSound a) short (permitted call (a .state)) e
+let-in a short call e = let f = first-none a short (pick (permitted call (a .state)) 0 7) e in (f .1, go (permitted call (a .state)) (f .2))
   where
-    go : (s t p : Bool) → _≡_ {A = ℕ} (pick s (pick t 18 (pick p 0 7)) 1) 0 → t ≡ false
-    go true true p h = absurd (omega (arith, h))
-    go true false p h = refl
-    go false t p h = absurd (omega (arith, h))
+    go : (p : Bool) → _≡_ {A = ℕ} (pick p 0 7) 0 → p ≡ true
+    go true h = refl
+    go false h = absurd (omega (arith, h))
 
 pub roomy : (a : Association) (out : List ℕ) (call : Call) {n : ℕ} → n ≡ barred a (isShortOut out) call → n ≡ 0 → 12 ≤ length out
-roomy a out call e z = omega (arith, ltb-false (length out) 1472 (let-in a (isShortOut out) call (sym e ∙ z)))
-
-pub earlier-none : (m n : ℕ) → earlier m n ≡ 0 → m ≡ 0
-earlier-none m n = go (eqb m 0) refl
-  where
-    go : (t : Bool) → eqb m 0 ≡ t → pick t n m ≡ 0 → m ≡ 0
-    go true e h = eqb-true m 0 e
-    go false e h = h
+roomy a out call e z = omega (arith, ltb-false (length out) leastOut (let-in a (isShortOut out) call (sym e ∙ z) .0))
 
 -- ---- the ways to end
 

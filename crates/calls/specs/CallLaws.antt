@@ -3,6 +3,7 @@ use Prim.Native.Nat.{ℕ}
 use mathlib.Core.Path.{_≡_, refl, sym, _∙_}
 use mathlib.Core.Bool.{Bool, true, false}
 use mathlib.Core.List.{List}
+use lib.Dec.{eqb}
 use lib.ListN.{length}
 use Rattle.scans.specs.Scan.{pick}
 use Rattle.holding.specs.declared.taking.Answer as took
@@ -11,7 +12,7 @@ use Rattle.states.specs.declared.state.State.{State}
 use Rattle.states.specs.declared.state.State.the-variants.{Closed, CookieWait, CookieEchoed, Established, ShutdownPending, ShutdownSent, ShutdownReceived, ShutdownAckSent}
 use Rattle.states.specs.Tries.{triedAgain, withinTries}
 use Rattle.states.specs.TriesLaws.{tries-kept}
-use Rattle.states.specs.declared.calls.Call.{Call}
+use Rattle.states.specs.declared.call.Call.{Call}
 use Rattle.association.specs.declared.ends.Association.{Association}
 use Rattle.association.specs.Fresh.{withState, withReceiving}
 use Rattle.association.specs.Bounds.{isSound}
@@ -74,7 +75,7 @@ unfolding delivered
 closed-gives a area room e = rw (sound-closed a e, e) (go (isShortArea area))
   where
     go : (s : Bool)
-        → pick s (undelivered (withState a Closed) 18 0) (deliveredAs (taking a room .answer) (withReceiving (withState a Closed) (taking a room .receiving))) .message
-        ≡ pick s (undelivered a 18 0) (deliveredAs (taking a room .answer) (withReceiving a (taking a room .receiving))) .message
+        → pick (eqb (pick s 18 0) 0) (deliveredAs (taking a room .answer) (withReceiving (withState a Closed) (taking a room .receiving))) (undelivered (withState a Closed) (pick s 18 0) 0) .message
+        ≡ pick (eqb (pick s 18 0) 0) (deliveredAs (taking a room .answer) (withReceiving a (taking a room .receiving))) (undelivered a (pick s 18 0) 0) .message
     go true = refl
     go false = same-message (taking a room .answer) _ _

@@ -6,24 +6,24 @@ use Rattle.chunks.specs.declared.cause.Cause.{Cause}
 use Rattle.chunks.specs.declared.cause.Cause.the-variants.{NoUserData, UserAbort, ProtocolViolation}
 use Rattle.chunks.specs.Cause.{caused, code, information}
 use Rattle.chunks.specs.Frame.{framed}
+use Rattle.chunks.specs.ShutdownChunk.{shutdownBytes}
 use Rattle.sending.specs.Sending.{isBare}
 use Rattle.states.specs.declared.state.State.{State}
 use Rattle.states.specs.declared.state.State.the-variants.{Closed, CookieWait, CookieEchoed, Established, ShutdownPending, ShutdownSent, ShutdownReceived, ShutdownAckSent}
-use Rattle.states.specs.declared.calls.Call.the-variants.{Shutdown, Abort}
+use Rattle.states.specs.declared.call.Call.the-variants.{Shutdown, Abort}
 use Rattle.association.specs.declared.ends.Association.{Association}
 use Rattle.association.specs.Fresh.{withState}
 use Rattle.calls.specs.declared.closing.Reason.{Reason}
 use Rattle.calls.specs.declared.closing.Reason.the-variants.{User, NoData, Violation}
 use Rattle.calls.specs.Packet.{toPeer}
 use Rattle.calls.specs.Answer.{isShortOut, barred, Plan, quietly, carrying, unless}
-use Rattle.calls.specs.Timers.{shutdownBytes}
 
 -- section 9.2: SHUTDOWN goes out once nothing is left to send
 unfoldable pub shutting : Association → List ℕ → Plan
 shutting a out =
     unless (barred a (isShortOut out) Shutdown) a
     (pick (isBare (a .sending))
-    (carrying (withState a (ShutdownSent 0)) (toPeer (a .ends)) (shutdownBytes a))
+    (carrying (withState a (ShutdownSent 0)) (toPeer (a .ends)) (shutdownBytes (a .receiving .keeping .point)))
     (quietly (withState a ShutdownPending)))
 
 -- "9 calls for ABORT with cause 9, 12 and 16 with cause 13"; the host's own has cause 12

@@ -23,21 +23,21 @@ use Rattle.sending.specs.Sending.{isBare}
 use Rattle.sending.specs.Expiry.{expired}
 use Rattle.sending.specs.Laws.{handed-number, refused-message, refused-area}
 use Rattle.states.specs.declared.state.State.{State}
-use Rattle.states.specs.declared.calls.Call.{Call}
-use Rattle.states.specs.declared.calls.Call.the-variants.{Associate, HandIn, Acknowledge, ThirdTimer, Shutdown, Abort, Heartbeat, Sample, TellStale}
+use Rattle.states.specs.declared.call.Call.{Call}
+use Rattle.states.specs.declared.call.Call.the-variants.{Associate, HandIn, Acknowledge, ThirdTimer, Shutdown, Abort, Heartbeat, Sample, TellStale}
 use Rattle.states.specs.Tries.{triedAgain}
 use Rattle.states.specs.RowsLaws.{each-state}
 use Rattle.association.specs.declared.ends.Association.{Association}
 use Rattle.association.specs.Fresh.{withReceiving, withSending}
-use Rattle.association.specs.Bounds.{isSound}
+use Rattle.association.specs.Bounds.{earlier}
 use Rattle.calls.specs.declared.acknowledging.Acknowledged.{Acknowledged}
 use Rattle.calls.specs.declared.closing.Reason.{Reason}
 use Rattle.calls.specs.declared.messages.HandedIn.{HandedIn}
 use Rattle.calls.specs.declared.messages.Delivered.{Delivered}
 use Rattle.calls.specs.declared.transmitting.Transmitted.{Transmitted}
-use Rattle.calls.specs.Answer.{isShortArea, isShortOut, barred, earlier, Plan, refusing, unless, answerOf, outOf}
+use Rattle.calls.specs.Answer.{isShortArea, isShortOut, barred, Plan, refusing, unless, answerOf, outOf}
 use Rattle.calls.specs.Opening.{associateRefusal, associating}
-use Rattle.calls.specs.Messages.{handedIn, handedArea, undelivered, deliveredAs, taking, delivered, deliveredOut}
+use Rattle.calls.specs.Messages.{handedIn, handedArea, deliveredAs, taking, takeBar, delivered, deliveredOut}
 use Rattle.calls.specs.Transmit.{transmitBar, transmitted, transmittedOut}
 use Rattle.calls.specs.Acknowledging.{acknowledged, acknowledgedOut}
 use Rattle.calls.specs.Timers.{triedTo, expiring, expiringThird, sampling}
@@ -138,14 +138,9 @@ module _ (a : Association) where
   unfolding delivered deliveredOut
   take-left area out =
       let g = given (taking a (length out) .answer) (withReceiving a (taking a (length out) .receiving)) in
-      either-left (λ (x : Delivered). x .number) (λ x. x .association) (isSound a) _ _ _ out
-      (λ h. short (isShortArea area) _ _ (λ k. let l = taken-refused (ring (2 ^ 32)) (ring (2 ^ 16)) rail (a .receiving) area out (omega (arith, k, g .1)) in (g .0 ∙ ap (λ (r : Receiving). withReceiving a r) (l .0), l .1)) h)
+      either-left (λ (x : Delivered). x .number) (λ x. x .association) (eqb (takeBar a area) 0) _ _ _ out
+      (λ h. let l = taken-refused (ring (2 ^ 32)) (ring (2 ^ 16)) rail (a .receiving) area out (omega (arith, h, g .1)) in (g .0 ∙ ap (λ (r : Receiving). withReceiving a r) (l .0), l .1))
       refl
-    where
-      short : (t : Bool) (x : Delivered) (after : List ℕ) → (0 < x .number → (x .association ≡ a) × (after ≡ out)) → 0 < pick t (undelivered a 18 0) x .number
-          → (pick t (undelivered a 18 0) x .association ≡ a) × (pick t out after ≡ out)
-      short true x after f h = (refl, refl)
-      short false x after f h = f h
 
   pub sack-left : (out : List ℕ) → 0 < acknowledged a out .number → (acknowledged a out .association ≡ a) × (acknowledgedOut a out ≡ out)
   unfolding acknowledged acknowledgedOut

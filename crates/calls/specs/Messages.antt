@@ -15,10 +15,10 @@ use Rattle.delivery.specs.declared.receiving.Taken as receiver
 use Rattle.delivery.specs.Receiving.{taken}
 use Rattle.sending.specs.declared.cutting.Handed.{Handed}
 use Rattle.sending.specs.HandIn as sender
-use Rattle.states.specs.declared.calls.Call.the-variants.{HandIn}
+use Rattle.states.specs.declared.call.Call.the-variants.{HandIn}
 use Rattle.association.specs.declared.ends.Association.{Association}
 use Rattle.association.specs.Fresh.{withReceiving, withSending}
-use Rattle.association.specs.Bounds.{isSound}
+use Rattle.association.specs.Bounds.{firstNumber}
 use Rattle.calls.specs.declared.messages.HandedIn.{HandedIn}
 use Rattle.calls.specs.declared.messages.Delivered.{Delivered}
 use Rattle.calls.specs.Answer.{isShortArea, barred}
@@ -67,17 +67,20 @@ deliveredAs (Short n) a = undelivered a 18 n
 abbrev pub taking : Association → ℕ → receiver.Taken
 taking a room = taken (ring (2 ^ 32)) (ring (2 ^ 16)) rail (a .receiving) room
 
+-- 1, 18 for the area
+abbrev pub takeBar : Association → List ℕ → ℕ
+takeBar a area = firstNumber a (isShortArea area) 0
+
 -- what the call answers: 1, 18 for the area, 17, 18 for the output
 unfoldable pub delivered : Association → List ℕ → ℕ → Delivered
 delivered a area room =
-    pick (isSound a)
-    (pick (isShortArea area) (undelivered a 18 0) (deliveredAs (taking a room .answer) (withReceiving a (taking a room .receiving))))
-    (undelivered a 1 0)
+    pick (eqb (takeBar a area) 0)
+    (deliveredAs (taking a room .answer) (withReceiving a (taking a room .receiving)))
+    (undelivered a (takeBar a area) 0)
 
 -- what then stands in the lent output
 unfoldable pub deliveredOut : Association → List ℕ → List ℕ → List ℕ
 deliveredOut a area out =
-    pick (isSound a)
-    (pick (isShortArea area) out
-    (written (ring (2 ^ 32)) rail (a .receiving .held) (a .receiving .next) (a .receiving .keeping .point .0) area out))
+    pick (eqb (takeBar a area) 0)
+    (written (ring (2 ^ 32)) rail (a .receiving .held) (a .receiving .next) (a .receiving .keeping .point .0) area out)
     out

@@ -9,11 +9,12 @@ use Rattle.chunks.specs.declared.init.Init.{Init}
 use Rattle.chunks.specs.InitChunk.{initFields}
 use Rattle.chunks.specs.Frame.{framed}
 use Rattle.states.specs.declared.state.State.the-variants.{CookieWait}
-use Rattle.states.specs.declared.calls.Call.the-variants.{Associate}
+use Rattle.states.specs.declared.call.Call.the-variants.{Associate}
 use Rattle.association.specs.declared.ends.Association.{Association}
 use Rattle.association.specs.Fresh.{started}
+use Rattle.association.specs.Bounds.{earlier}
 use Rattle.calls.specs.Packet.{headOf}
-use Rattle.calls.specs.Answer.{isShortOut, barred, earlier, Plan, carrying, unless}
+use Rattle.calls.specs.Answer.{isShortOut, barred, Plan, carrying, unless}
 
 -- the INIT of a record: every place free, the streams wanted, the next TSN
 abbrev pub initOf : Association → Init

@@ -7,10 +7,11 @@ use Rattle.octets.specs.Writing.{wroteCount, wroteAt}
 use Rattle.packets.specs.declared.header.Header.{Header}
 use Rattle.packets.specs.Header.{sealCount, sealBytes}
 use Rattle.association.specs.declared.ends.Ends.{Ends}
+use Rattle.association.specs.Heads.{headTo}
 
--- from our port to the peer's, with a tag
+-- to the peer's port, with a tag
 abbrev pub headOf : Ends → ℕ → Header
-headOf e tag = record { source = e .«local_port»; destination = e .«peer_port»; tag = tag }
+headOf e tag = headTo e (e .«peer_port») tag
 
 -- "Other packets carry" the tag that the peer chose
 abbrev pub toPeer : Ends → Header

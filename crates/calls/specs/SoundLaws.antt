@@ -22,25 +22,25 @@ use Rattle.sending.specs.Sending.{isBare}
 use Rattle.sending.specs.Expiry.{expired}
 use Rattle.states.specs.declared.state.State.{State}
 use Rattle.states.specs.declared.state.State.the-variants.{CookieWait, CookieEchoed, Established, ShutdownPending, ShutdownSent, ShutdownReceived, ShutdownAckSent}
-use Rattle.states.specs.declared.calls.Call.{Call}
-use Rattle.states.specs.declared.calls.Call.the-variants.{Associate, HandIn, Acknowledge, ThirdTimer, Shutdown, Abort, Heartbeat, Sample, TellStale}
-use Rattle.states.specs.Calls.{permitted}
+use Rattle.states.specs.declared.call.Call.{Call}
+use Rattle.states.specs.declared.call.Call.the-variants.{Associate, HandIn, Acknowledge, ThirdTimer, Shutdown, Abort, Heartbeat, Sample, TellStale}
 use Rattle.states.specs.Tries.{triedAgain, withinTries}
 use Rattle.states.specs.TriesLaws.{tries-kept, tried-keeps}
 use Rattle.states.specs.RowsLaws.{each-state, shutdown-knows}
 use Rattle.association.specs.declared.ends.Association.{Association}
 use Rattle.association.specs.Fresh.{withState}
-use Rattle.association.specs.Bounds.{isHead, isSound}
-use Rattle.association.specs.BoundsLaws.{sound-parts, fewer-streams, ended-ends}
+use Rattle.association.specs.Bounds.{isHead, earlier}
+use Rattle.association.specs.BoundsLaws.{sound-parts, fewer-streams, ended-ends, earlier-none}
 use Rattle.association.specs.KeptLaws.{Kept, kept-receiver, kept-sender, kept-with-receiving, kept-with-sending, kept-with-state, kept-closed, kept-moved, kept-started}
 use Rattle.calls.specs.declared.acknowledging.Acknowledged.{Acknowledged}
 use Rattle.calls.specs.declared.closing.Reason.{Reason}
 use Rattle.calls.specs.declared.messages.HandedIn.{HandedIn}
 use Rattle.calls.specs.declared.messages.Delivered.{Delivered}
 use Rattle.calls.specs.declared.transmitting.Transmitted.{Transmitted}
-use Rattle.calls.specs.Answer.{isShortArea, isShortOut, barred, earlier, Plan, refusing, unless, answerOf}
+use Rattle.calls.specs.Answer.{isShortArea, isShortOut, barred, Plan, refusing, unless, answerOf}
 use Rattle.calls.specs.Opening.{wanting, associateRefusal, associating}
-use Rattle.calls.specs.Messages.{handedIn, deliveredAs, taking, delivered}
+use Rattle.calls.specs.AnswerLaws.{let-in}
+use Rattle.calls.specs.Messages.{handedIn, deliveredAs, taking, takeBar, delivered}
 use Rattle.calls.specs.Transmit.{transmitBar, transmitted}
 use Rattle.calls.specs.Acknowledging.{acknowledged}
 use Rattle.calls.specs.Timers.{backedOff, triedTo, expiring, expiringThird, sampling}
@@ -55,24 +55,6 @@ Keeps p = Kept (p .association)
 pub answer-keeps : (p : Plan) (out : List ℕ) → Keeps p → Kept (answerOf p out .association)
 unfolding answerOf
 answer-keeps p out k = k
-
--- a call that is let in is one for the state
-let-in-state : (a : Association) (short : Bool) (call : Call) → barred a short call ≡ 0 → permitted call (a .state) ≡ true
-unfolding barred
-let-in-state a short call e = go (isSound a) short (permitted call (a .state)) e
-  where
-    go : (s t p : Bool) → _≡_ {A = ℕ} (pick s (pick t 18 (pick p 0 7)) 1) 0 → p ≡ true
-    go true true p h = absurd (omega (arith, h))
-    go true false true h = refl
-    go true false false h = absurd (omega (arith, h))
-    go false t p h = absurd (omega (arith, h))
-
-next-none : (m n : ℕ) → earlier m n ≡ 0 → n ≡ 0
-next-none m n e = go (eqb m 0) refl e
-  where
-    go : (t : Bool) → eqb m 0 ≡ t → pick t n m ≡ 0 → n ≡ 0
-    go true q h = h
-    go false q h = absurd (eqb-false m 0 q h)
 
 wanted : (tag port streams : ℕ) → associateRefusal tag port streams ≡ 0 → (eqb tag 0 ≡ false) × (1 ≤ streams)
 unfolding associateRefusal
@@ -102,7 +84,7 @@ module _ (a : Association) (k : Kept a) where
   pub associate-keeps : (tag : ℕ) (tsn : Tsn) (port streams : ℕ) (out : List ℕ) → tsn .0 < 2 ^ 32 → Keeps (associating a tag tsn port streams out)
   unfolding associating
   associate-keeps tag tsn port streams out h =
-      unless-keeps (earlier (barred a (isShortOut out) Associate) (associateRefusal tag port streams)) _ (λ e. let w = wanted tag port streams (next-none (barred a (isShortOut out) Associate) (associateRefusal tag port streams) e) in wanting-kept a tag tsn port streams h (w .0) (w .1))
+      unless-keeps (earlier (barred a (isShortOut out) Associate) (associateRefusal tag port streams)) _ (λ e. let w = wanted tag port streams (earlier-none (barred a (isShortOut out) Associate) (associateRefusal tag port streams) e .1) in wanting-kept a tag tsn port streams h (w .0) (w .1))
 
   -- T1 and T2
   tried-keeps-bounds : (s : State) → withinTries s ≡ true → isHead s (a .ends) (a .cookie) ≡ true → Keeps (triedTo a s)
@@ -134,7 +116,7 @@ module _ (a : Association) (k : Kept a) where
   unfolding shutting
   shutdown-keeps out =
       unless-keeps (barred a (isShortOut out) Shutdown) _
-      (λ e. let o = shutdown-knows (a .state) (let-in-state a (isShortOut out) Shutdown e) in pick-keeps Keeps (isBare (a .sending)) _ _ (kept-moved a k o (ShutdownSent 0) refl refl) (kept-moved a k o ShutdownPending refl refl))
+      (λ e. let o = shutdown-knows (a .state) (let-in a (isShortOut out) Shutdown e .1) in pick-keeps Keeps (isBare (a .sending)) _ _ (kept-moved a k o (ShutdownSent 0) refl refl) (kept-moved a k o ShutdownPending refl refl))
 
   aborted-keeps : (why : Reason) (s : State) → Keeps (aborted s a why)
   aborted-keeps why =
@@ -181,7 +163,7 @@ module _ (a : Association) (k : Kept a) where
   take-keeps area room =
       let r = kept-receiver a k in
       let t = kept-with-receiving a k (taking a room .receiving) (record { shaped = taken-shaped (ring (2 ^ 32)) (ring (2 ^ 16)) rail (a .receiving) room (r .shaped); sound = taken-sound (ring (2 ^ 32)) (ring (2 ^ 16)) rail (a .receiving) room (r .sound) }) in
-      pick-keeps (λ (x : Delivered). Kept (x .association)) (isSound a) _ _ (pick-keeps (λ (x : Delivered). Kept (x .association)) (isShortArea area) _ _ k (delivered-keeps (taking a room .answer) _ t)) k
+      pick-keeps (λ (x : Delivered). Kept (x .association)) (eqb (takeBar a area) 0) _ _ (delivered-keeps (taking a room .answer) _ t) k
 
   pub sack-keeps : (out : List ℕ) → Kept (acknowledged a out .association)
   unfolding acknowledged

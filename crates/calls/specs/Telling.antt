@@ -7,8 +7,9 @@ use Rattle.chunks.specs.declared.cause.Cause.the-variants.{InvalidStream, Stale
 use Rattle.chunks.specs.Cause.{caused, code, information}
 use Rattle.chunks.specs.Frame.{framed}
 use Rattle.chunks.specs.HeartbeatChunk.{heartbeatBytes}
-use Rattle.states.specs.declared.calls.Call.the-variants.{Acknowledge, TellStale, Heartbeat}
+use Rattle.states.specs.declared.call.Call.the-variants.{Acknowledge, TellStale, Heartbeat}
 use Rattle.association.specs.declared.ends.Association.{Association}
+use Rattle.association.specs.Heads.{headTo}
 use Rattle.calls.specs.Packet.{toPeer}
 use Rattle.calls.specs.Answer.{isShortOut, barred, Plan, carrying, unless}
 
@@ -24,7 +25,7 @@ tellingStream a stream out = unless (barred a (isShortOut out) Acknowledge) a (c
 unfoldable pub tellingStale : Association → ℕ → ℕ → ℕ → List ℕ → Plan
 tellingStale a port tag late out =
     unless (barred a (isShortOut out) TellStale) a
-    (carrying a (record { source = a .ends .«local_port»; destination = port; tag = tag }) (errorBytes (StaleCookie late)))
+    (carrying a (headTo (a .ends) port tag) (errorBytes (StaleCookie late)))
 
 -- section 8.3, with a value of the host
 unfoldable pub beating : Association → List ℕ → List ℕ → Plan

@@ -1,21 +1,20 @@
 -- T1, T2, T3 and a measured round trip: "Tries: 8 for T1, 10 for T2 and T3; the next expiry closes and reports".
 use Prim.Native.Nat.{ℕ}
 use mathlib.Core.Bool.{false}
-use mathlib.Core.List.{List, []}
+use mathlib.Core.List.{List}
 use lib.Dec.{eqb}
 use lib.ListN.{take, drop}
 use Rattle.scans.specs.Scan.{pick}
 use Rattle.path.specs.Sizes.{railSizes}
-use Rattle.octets.specs.Bytes.{be32}
-use Rattle.chunks.specs.Frame.{framed}
+use Rattle.chunks.specs.ShutdownChunk.{shutdownBytes, shutdownAckBytes}
 use Rattle.chunks.specs.CookieChunk.{cookieEchoBytes}
 use Rattle.sending.specs.declared.expiring.Expiry.{Expiry}
 use Rattle.sending.specs.Sending.{doubled, sampled}
 use Rattle.sending.specs.Expiry.{expired}
 use Rattle.states.specs.declared.state.State.{State}
 use Rattle.states.specs.declared.state.State.the-variants.{Closed, CookieWait, CookieEchoed, Established, ShutdownPending, ShutdownSent, ShutdownReceived, ShutdownAckSent}
-use Rattle.states.specs.declared.calls.Call.{Call}
-use Rattle.states.specs.declared.calls.Call.the-variants.{ThirdTimer, Sample}
+use Rattle.states.specs.declared.call.Call.{Call}
+use Rattle.states.specs.declared.call.Call.the-variants.{ThirdTimer, Sample}
 use Rattle.states.specs.Tries.{triedAgain, isClosed}
 use Rattle.association.specs.declared.ends.Association.{Association}
 use Rattle.association.specs.declared.ends.Cookie.{Cookie}
@@ -28,16 +27,12 @@ use Rattle.calls.specs.Opening.{initBytes}
 abbrev pub cookieOf : Cookie → List ℕ
 cookieOf c = take (c .len) (drop 0 (c .bytes))
 
--- SHUTDOWN with the point as it is now
-abbrev pub shutdownBytes : Association → List ℕ
-shutdownBytes a = framed 7 0 (be32 (a .receiving .keeping .point .0))
-
--- what a state waits for is asked again (sections 5.1 and 9.2)
+-- what a state waits for is asked again (sections 5.1 and 9.2), a SHUTDOWN with the point as it is now
 abbrev pub repeating : State → Association → Plan
 repeating (CookieWait n) a = carrying a (headOf (a .ends) 0) (initBytes a)
 repeating (CookieEchoed n) a = carrying a (toPeer (a .ends)) (cookieEchoBytes (cookieOf (a .cookie)))
-repeating (ShutdownSent n) a = carrying a (toPeer (a .ends)) (shutdownBytes a)
-repeating (ShutdownAckSent n) a = carrying a (toPeer (a .ends)) (framed 8 0 [])
+repeating (ShutdownSent n) a = carrying a (toPeer (a .ends)) (shutdownBytes (a .receiving .keeping .point))
+repeating (ShutdownAckSent n) a = carrying a (toPeer (a .ends)) shutdownAckBytes
 repeating Closed a = quietly a
 repeating Established a = quietly a
 repeating ShutdownPending a = quietly a

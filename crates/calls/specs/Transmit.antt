@@ -8,7 +8,7 @@ use Rattle.scans.specs.Scan.{pick, foldFrom, either}
 use Rattle.numbers.specs.Profile.{rail}
 use Rattle.octets.specs.Writing.{wroteCount, wroteAt}
 use Rattle.packets.specs.declared.header.Header.{Header}
-use Rattle.packets.specs.Header.{sealCount, sealBytes}
+use Rattle.packets.specs.Header.{filledCount, filledBytes}
 use Rattle.chunks.specs.declared.data.Data.{Data}
 use Rattle.chunks.specs.DataChunk.{dataBytes}
 use Rattle.path.specs.Sizes.{railSizes}
@@ -18,7 +18,7 @@ use Rattle.sending.specs.declared.choosing.Chosen.{Chosen}
 use Rattle.sending.specs.Sending.{noPlace}
 use Rattle.sending.specs.Choose.{filled}
 use Rattle.holding.specs.Taking.{payloadAt}
-use Rattle.states.specs.declared.calls.Call.the-variants.{Transmit}
+use Rattle.states.specs.declared.call.Call.the-variants.{Transmit}
 use Rattle.association.specs.declared.ends.Association.{Association}
 use Rattle.association.specs.Fresh.{withSending}
 use Rattle.calls.specs.declared.transmitting.Transmitted.{Transmitted}
@@ -55,10 +55,10 @@ bundled area f out = foldFrom (turned area (f .count) (f .sending .places)) (rec
 
 -- a packet with no chunk is none
 unfoldable pub bundleLength : Bundle → ℕ
-bundleLength b = pick (ltb 12 (b .at)) (sealCount (b .at) (b .out)) 0
+bundleLength b = filledCount (b .at) (b .out)
 
 unfoldable pub bundleOut : Header → Bundle → List ℕ
-bundleOut h b = pick (ltb 12 (b .at)) (sealBytes h (b .at) (b .out)) (b .out)
+bundleOut h b = filledBytes h (b .at) (b .out)
 
 -- 1, 18 for the area or the output, 7
 abbrev pub transmitBar : Association → List ℕ → List ℕ → ℕ

@@ -7,7 +7,8 @@ use native.Mathlib.Omega.{arith}
 use borrow.Author.Tests.{ltb-false, eq-eqb}
 use lib.Dec.{ltb}
 use lib.ListN.{length, take, drop}
-use Rattle.scans.specs.Scan.{pick, either}
+use Rattle.scans.specs.Scan.{either}
+use Rattle.scans.specs.Each.{clash}
 use Rattle.numbers.specs.Profile.{rail}
 use Rattle.octets.specs.BytesLaws.{part-is}
 use Rattle.octets.specs.Writing.{Wrote, wroteCount, wroteAt}
@@ -17,7 +18,7 @@ use Rattle.path.specs.Sizes.{railSizes}
 use Rattle.sending.specs.declared.choosing.Chosen.{Chosen}
 use Rattle.sending.specs.Choose.{filled}
 use Rattle.places.specs.declared.place.Place.{Place}
-use Rattle.states.specs.declared.calls.Call.{Call}
+use Rattle.states.specs.declared.call.Call.{Call}
 use Rattle.association.specs.declared.ends.Association.{Association}
 use Rattle.association.specs.Fresh.{withSending}
 use Rattle.calls.specs.Answer.{isShortArea, isShortOut, barred}
@@ -50,11 +51,11 @@ module _ (at : ℕ) (xs : List ℕ) {bs ys : List ℕ} {r : ℕ} (h : at ≤ len
 -- the lent area and output are long enough
 pub both-roomy : (a : Association) (area out : List ℕ) (call : Call) {n : ℕ} → n ≡ barred a (either (isShortArea area) (isShortOut out)) call → n ≡ 0 → 12 ≤ length out
 both-roomy a area out call e z =
-    go (isShortArea area) (isShortOut out) refl (let-in a (either (isShortArea area) (isShortOut out)) call (sym e ∙ z))
+    go (isShortArea area) (isShortOut out) refl (let-in a (either (isShortArea area) (isShortOut out)) call (sym e ∙ z) .0)
   where
     go : (s t : Bool) → ltb (length out) 1472 ≡ t → either s t ≡ false → 12 ≤ length out
-    go true t q h = let z : _≡_ {A = Bool} true false = h in absurd (omega (arith, ap (λ (b : Bool). pick {A = ℕ} b 0 1) z))
-    go false true q h = let z : _≡_ {A = Bool} true false = h in absurd (omega (arith, ap (λ (b : Bool). pick {A = ℕ} b 0 1) z))
+    go true t q h = clash (sym h)
+    go false true q h = clash (sym h)
     go false false q h = omega (arith, ltb-false (length out) 1472 q)
 
 -- the packet that goes out

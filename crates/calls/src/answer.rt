@@ -4,7 +4,8 @@ use states::Call;
 use states::State;
 ghost use mathlib.Core.Path.{_≡_};
 ghost use mathlib.Core.Bool.{true, false};
-ghost use Rattle.calls.specs.Answer.{barred, earlier};
+ghost use Rattle.association.specs.Bounds.{earlier};
+ghost use Rattle.calls.specs.Answer.{barred};
 ghost use Rattle.calls.specs.AnswerLaws.{Refused, Told, Over};
 
 // A number of document 01's table, 0 if none; the bytes of the packet that was written; whether an expiry closed the association; the record.

@@ -6,16 +6,16 @@ use chunks::init::Init;
 use numbers::Rail;
 use packets::Header;
 ghost use mathlib.Core.Path.{_≡_};
-ghost use mathlib.Core.List.{[]};
 ghost use Prim.Native.Nat.{_≤_};
 ghost use lib.ListN.{length};
 ghost use Rattle.chunks.specs.Frame.{framed};
 ghost use Rattle.chunks.specs.Cause.{caused, code, information};
+ghost use Rattle.chunks.specs.ShutdownChunk.{shutdownBytes, shutdownAckBytes};
 ghost use Rattle.chunks.specs.CookieChunk.{cookieEchoBytes};
 ghost use Rattle.chunks.specs.HeartbeatChunk.{heartbeatBytes};
 ghost use Rattle.calls.specs.Packet.{headOf, toPeer, Sent};
 ghost use Rattle.calls.specs.Opening.{initOf, initBytes};
-ghost use Rattle.calls.specs.Timers.{cookieOf, shutdownBytes};
+ghost use Rattle.calls.specs.Timers.{cookieOf};
 ghost use Rattle.calls.specs.Telling.{errorBytes};
 
 // The window of a record with every place free.
@@ -79,7 +79,7 @@ pub(crate) fn send_cookie_echo(a: Association, out: &mut [u8]) -> usize
 // The point is the record's own.
 pub(crate) fn send_shutdown(a: Association, out: &mut [u8]) -> usize
     requires { ⌜ 12 ≤ length (now out) ⌝ }
-    ensures { λ r. ⌜ Sent (toPeer (a .ends)) (shutdownBytes a) (now (out .entry)) r (now (out .exit)) ⌝ }
+    ensures { λ r. ⌜ Sent (toPeer (a .ends)) (shutdownBytes (a .receiving .keeping .point)) (now (out .entry)) r (now (out .exit)) ⌝ }
 {
     let h = to_peer(a.ends);
     let receiving = a.receiving;
@@ -90,7 +90,7 @@ pub(crate) fn send_shutdown(a: Association, out: &mut [u8]) -> usize
 
 pub(crate) fn send_shutdown_ack(e: Ends, out: &mut [u8]) -> usize
     requires { ⌜ 12 ≤ length (now out) ⌝ }
-    ensures { λ r. ⌜ Sent (toPeer e) (framed 8 0 []) (now (out .entry)) r (now (out .exit)) ⌝ }
+    ensures { λ r. ⌜ Sent (toPeer e) shutdownAckBytes (now (out .entry)) r (now (out .exit)) ⌝ }
 {
     let h = to_peer(e);
     let n = chunks::shutdown::write_shutdown_ack(&mut out[12..]);

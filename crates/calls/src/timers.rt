@@ -9,7 +9,7 @@ ghost use mathlib.Core.Path.{_≡_};
 ghost use Prim.Native.Nat.{_≤_};
 ghost use lib.ListN.{length};
 ghost use Rattle.association.specs.Fresh.{withSending};
-ghost use Rattle.states.specs.declared.calls.Call.the-variants.{FirstTimer, SecondTimer};
+ghost use Rattle.states.specs.declared.call.Call.the-variants.{FirstTimer, SecondTimer};
 ghost use Rattle.calls.specs.Answer.{Done, Kept};
 ghost use Rattle.calls.specs.Timers.{repeating, backedOff, triedTo, expiring, expiringThird, sampling};
 

@@ -4,16 +4,17 @@ use mathlib.Core.Path.{_≡_, refl, ap, _∙_}
 use mathlib.Core.Bool.{Bool, true, false}
 use mathlib.Core.List.{List, [], _++_}
 use native.Mathlib.Omega.{arith}
-use borrow.Author.Tests.{lt-ltb, le-ltb, ltb-false, eq-eqb, ne-eqb, eqb-false}
-use lib.Dec.{ltb, eqb}
+use borrow.Author.Tests.{lt-ltb, le-ltb, le-leb, lt-leb, ltb-false, leb-true}
+use lib.Dec.{ltb, leb}
 use lib.ListN.{length, getD, take, drop, length-append}
 use lib.Seq.{take-at}
 use Rattle.scans.specs.Scan.{pick}
+use Rattle.scans.specs.Each.{clash}
 use Rattle.octets.specs.Bytes.{be16, be32, laid, zeros, up4}
 use Rattle.octets.specs.BytesLaws.{laid-is}
 use Rattle.octets.specs.Writing.{head, Wrote}
 use Rattle.octets.specs.WritingLaws.{length-chunk, length-items, Holds, first, then, wrote-none}
-use Rattle.chunks.specs.Frame.{framed, rowsOf, carrying}
+use Rattle.chunks.specs.Frame.{framed, isOneTo, rowsOf, carrying}
 
 pub none-left : (a b : ℕ) → a ≤ b → a - b ≡ 0
 none-left a b h = omega arith
@@ -63,27 +64,38 @@ pub row-wrote : (k f : ℕ) (a b : List ℕ) (h : ℕ) {x out exit : List ℕ} {
     → Wrote out (framed k f (a ++ be32 h ++ b)) r exit → Wrote out (framed k f (a ++ x ++ b)) r exit
 row-wrote k f a b h e w = wrote-as (ap (λ (y : List ℕ). framed k f (a ++ y ++ b)) e) w
 
+-- ---- from one to the most
+
+module _ (most n : ℕ) where
+  pub one-to-so : 1 ≤ n → n ≤ most → isOneTo most n ≡ true
+  one-to-so a b = rw (le-ltb n 1 a) (le-leb n most b)
+
+  pub one-to-is : isOneTo most n ≡ true → (1 ≤ n) × (n ≤ most)
+  one-to-is = go (ltb n 1) refl
+    where
+      go : (t : Bool) → ltb n 1 ≡ t → pick t false (leb n most) ≡ true → (1 ≤ n) × (n ≤ most)
+      go true q e = clash e
+      go false q e = (ltb-false n 1 q, leb-true n most e)
+
+  one-to-over : most < n → isOneTo most n ≡ false
+  one-to-over h = go (ltb n 1)
+    where
+      go : (t : Bool) → pick t false (leb n most) ≡ false
+      go true = refl
+      go false = lt-leb n most h
+
 module _ (most : ℕ) (c bs : List ℕ) where
   pub carry-over : {out : List ℕ} → most < length c → Wrote out (carrying most c bs) 0 out
   unfolding carrying
-  carry-over {out} h = rw (lt-ltb most (length c) h) (wrote-none out)
+  carry-over {out} h = rw (one-to-over most (length c) h) (wrote-none out)
 
   pub carry-none : {out : List ℕ} → length c ≤ most → length c ≡ 0 → Wrote out (carrying most c bs) 0 out
   unfolding carrying
-  carry-none {out} h e = rw (le-ltb most (length c) h, eq-eqb (length c) 0 e) (wrote-none out)
+  carry-none {out} h e = rw (lt-ltb (length c) 1 (omega arith)) (wrote-none out)
 
   pub carry-is : length c ≤ most → (length c ≡ 0 → ⊥) → carrying most c bs ≡ bs
   unfolding carrying
-  carry-is h n = rw (le-ltb most (length c) h, ne-eqb (length c) 0 n)
-
-  pub carry-within : {n : ℕ} → (length c ≤ most → length bs ≤ n) → length (carrying most c bs) ≤ n
-  unfolding carrying
-  carry-within {n} h = go (ltb most (length c)) (eqb (length c) 0) refl
-    where
-      go : (s t : Bool) → ltb most (length c) ≡ s → length (pick s [] (pick t [] bs)) ≤ n
-      go true t e = omega arith
-      go false true e = omega arith
-      go false false e = h (ltb-false most (length c) e)
+  carry-is h n = rw (one-to-so most (length c) (omega arith) h)
 
 -- what is carried: nothing, or bs
 pub data Carried (most : ℕ) (c bs x : List ℕ) : Type 0 where
@@ -92,12 +104,18 @@ pub data Carried (most : ℕ) (c bs x : List ℕ) : Type 0 where
 
 pub carried : (most : ℕ) (c bs : List ℕ) → Carried most c bs (carrying most c bs)
 unfolding carrying
-carried most c bs = go (ltb most (length c)) refl (eqb (length c) 0) refl
+carried most c bs = go (isOneTo most (length c)) refl
   where
-    go : (s : Bool) → ltb most (length c) ≡ s → (t : Bool) → eqb (length c) 0 ≡ t → Carried most c bs (pick s [] (pick t [] bs))
-    go true p t q = none refl
-    go false p true q = none refl
-    go false p false q = whole (ltb-false most (length c) p) (eqb-false (length c) 0 q) refl
+    go : (t : Bool) → isOneTo most (length c) ≡ t → Carried most c bs (pick t bs [])
+    go true e = let l = one-to-is most (length c) e in whole (l .1) (λ z. omega (arith, z, l .0)) refl
+    go false e = none refl
+
+pub carry-within : (most : ℕ) (c bs : List ℕ) {n : ℕ} → (length c ≤ most → length bs ≤ n) → length (carrying most c bs) ≤ n
+carry-within most c bs {n} h = go (carried most c bs)
+  where
+    go : {x : List ℕ} → Carried most c bs x → length x ≤ n
+    go (none e) = omega (arith, ap (λ (l : List ℕ). length l) e)
+    go (whole l k e) = omega (arith, ap (λ (l : List ℕ). length l) e, h l)
 
 -- ---- what was gathered in an array
 

@@ -22,7 +22,7 @@ use Rattle.chunks.specs.DataLaws.{data-is}
 use Rattle.chunks.specs.InitChunk.{initOf, initFields}
 use Rattle.chunks.specs.SackChunk.{sackOf, blockOf, repeatOf, blocksIn, listedIn, table, sackBytes, sackFields, blockAt, dupAt}
 use Rattle.chunks.specs.SackLaws.{sack-is}
-use Rattle.chunks.specs.ShutdownChunk.{pointOf}
+use Rattle.chunks.specs.ShutdownChunk.{pointOf, shutdownBytes}
 use Rattle.chunks.specs.CookieChunk.{cookieEchoBytes}
 use Rattle.chunks.specs.CookieLaws.{echo-is}
 use Rattle.chunks.specs.declared.data.Data.{Data}
@@ -89,9 +89,9 @@ reflected-back k false v = record { value = λ rest. refl }
 
 -- ---- SHUTDOWN
 
-pub point-back : (t : Tsn) → Back pointOf t (framed 7 0 (be32 (t .0)))
+pub point-back : (t : Tsn) → Back pointOf t (shutdownBytes t)
 unfolding pointOf
-point-back t = record { value = λ rest. rw (u32-at (framed 7 0 (be32 (t .0)) ++ rest) 4 (t .0) refl) }
+point-back t = record { value = λ rest. rw (u32-at (shutdownBytes t ++ rest) 4 (t .0) refl) }
 
 -- ---- SACK
 

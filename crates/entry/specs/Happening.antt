@@ -6,7 +6,7 @@ use lib.ListN.{length}
 use Rattle.scans.specs.Scan.{pick}
 use Rattle.octets.specs.Bytes.{be32}
 use Rattle.numbers.specs.declared.circle.StreamId.{StreamId}
-use Rattle.states.specs.declared.calls.Call.the-variants.{FirstTimer, SecondTimer}
+use Rattle.states.specs.declared.call.Call.the-variants.{FirstTimer, SecondTimer}
 use Rattle.association.specs.declared.ends.Association.{Association}
 use Rattle.association.specs.Bounds.{isSound}
 use Rattle.steps.specs.declared.lent.Lent.{Lent}

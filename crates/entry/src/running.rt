@@ -12,7 +12,7 @@ ghost use mathlib.Core.Path.{_≡_};
 ghost use mathlib.Core.Bool.{false};
 ghost use mathlib.Core.List.{[]};
 ghost use lib.ListN.{length};
-ghost use Rattle.states.specs.declared.calls.Call.the-variants.{FirstTimer, SecondTimer};
+ghost use Rattle.states.specs.declared.call.Call.the-variants.{FirstTimer, SecondTimer};
 ghost use Rattle.arriving.specs.Arrival.{arrivedOf, areaOf, outOf};
 ghost use Rattle.calls.specs.Answer.{answerOf};
 ghost use Rattle.calls.specs.Opening.{associating};

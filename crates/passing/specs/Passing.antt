@@ -2,10 +2,11 @@
 -- SHUTDOWN COMPLETE have no rule of their own; the others are DATA, INIT, INIT ACK, SACK and SHUTDOWN. Assumes nothing.
 use Prim.Native.Nat.{ℕ, _+_, _*_, _≤_}
 use mathlib.Core.Path.{_≡_, refl, ap}
-use mathlib.Core.Bool.{true}
+use mathlib.Core.Bool.{Bool, true}
 use mathlib.Core.List.{List, [], _++_}
 use native.Mathlib.Omega.{arith}
 use lib.ListN.{length, length-append}
+use Rattle.numbers.specs.declared.circle.Tsn.{Tsn}
 use Rattle.numbers.specs.Profile.{rail}
 use Rattle.octets.specs.Bytes.{u16, be32}
 use Rattle.octets.specs.BytesLaws.{u16-at}
@@ -15,12 +16,13 @@ use Rattle.packets.specs.Shape.{tiled}
 use Rattle.packets.specs.ShapeLaws.{tiled-none, tiled-last, tiled-more}
 use Rattle.packets.specs.Body.{Sound}
 use Rattle.packets.specs.BodyLaws.{plain-sound, data-sound, init-sound, init-ack-sound, sack-sound, shutdown-sound}
-use Rattle.chunks.specs.Frame.{parameter, framed}
+use Rattle.chunks.specs.Frame.{parameter, framed, weight}
 use Rattle.chunks.specs.DataChunk.{dataBytes, flagsOf, dataFields}
 use Rattle.chunks.specs.DataLaws.{data-is}
 use Rattle.chunks.specs.SackChunk.{sackBytes, sackFields, blockAt, dupAt}
 use Rattle.chunks.specs.SackLaws.{sack-is}
 use Rattle.chunks.specs.InitChunk.{initFields}
+use Rattle.chunks.specs.ShutdownChunk.{shutdownBytes, shutdownAckBytes, completeBytes}
 use Rattle.chunks.specs.CookieChunk.{cookieEchoBytes}
 use Rattle.chunks.specs.CookieLaws.{echo-is}
 use Rattle.chunks.specs.declared.data.Data.{Data}
@@ -67,8 +69,8 @@ module _ (k : Sack) (h : k .blocks .count ≤ 64) (g : k .listed ≤ 16) where
       let b : u16 s 14 ≡ k .listed = u16-at s 14 (k .listed) refl in
       rw (sack-is k h g) (sack-sound 0 v (omega (arith, long)) (omega (arith, long, a, b)))
 
-pub shutdown-passes : (point : ℕ) → Sound (framed 7 0 (be32 point))
-shutdown-passes point = shutdown-sound 0 (be32 point) (omega arith)
+pub shutdown-passes : (point : Tsn) → Sound (shutdownBytes point)
+shutdown-passes point = shutdown-sound 0 (be32 (point .0)) (omega arith)
 
 pub echo-passes : (c : List ℕ) → length c ≤ 256 → (length c ≡ 0 → ⊥) → Sound (cookieEchoBytes c)
 echo-passes c h n = rw (echo-is c h n) (plain-sound 10 0 c refl)
@@ -83,7 +85,7 @@ heartbeat-ack-passes v = plain-sound 5 0 v refl
 pub abort-passes : (f : ℕ) (v : List ℕ) → Sound (framed 6 f v)
 abort-passes f v = plain-sound 6 f v refl
 
-pub shutdown-ack-passes : Sound (framed 8 0 [])
+pub shutdown-ack-passes : Sound shutdownAckBytes
 shutdown-ack-passes = plain-sound 8 0 [] refl
 
 pub error-passes : (v : List ℕ) → Sound (framed 9 0 v)
@@ -92,5 +94,5 @@ error-passes v = plain-sound 9 0 v refl
 pub cookie-ack-passes : Sound (framed 11 0 [])
 cookie-ack-passes = plain-sound 11 0 [] refl
 
-pub shutdown-complete-passes : (f : ℕ) → Sound (framed 14 f [])
-shutdown-complete-passes f = plain-sound 14 f [] refl
+pub shutdown-complete-passes : (reflected : Bool) → Sound (completeBytes reflected)
+shutdown-complete-passes reflected = plain-sound 14 (weight reflected 1) [] refl

@@ -13,7 +13,6 @@ use Rattle.octets.specs.BytesLaws.{length-laid}
 use Rattle.octets.specs.Walk.{size, walk, overItems, joined}
 use Rattle.octets.specs.WalkLaws.{size-least, walk-on, over-on, over-end}
 use Rattle.octets.specs.WritingLaws.{first}
-use Rattle.chunks.specs.Frame.{weight}
 use Rattle.packets.specs.declared.header.Header.{Header}
 use Rattle.packets.specs.Header.{sealCount, sealBytes}
 use Rattle.packets.specs.HeaderLaws.{seal-done}
@@ -123,9 +122,9 @@ held-packed (apart w d) = sound-packed w
 closed : {w : Walked} {reply bs : List ℕ} → Held reply (w .due) → Closing w reply bs → Packed bs
 closed k (as-gathered e) = packed-as e (held-packed k)
 closed {w} {reply} (together v) (shut d e) =
-    packed-as e (shared-packed (shared-both v (shared-fitting (1460 - length reply) (shared-one (shutdown-shares (w .association .receiving .keeping .point .0))))))
+    packed-as e (shared-packed (shared-both v (shared-fitting (1460 - length reply) (shared-one (shutdown-shares (w .association .receiving .keeping .point))))))
 closed (apart v f) (shut d e) = clash (sym f ∙ d)
-closed k (displaced r e) = packed-as e (sound-packed (shutdown-complete-passes (weight r 1)))
+closed k (displaced r e) = packed-as e (sound-packed (shutdown-complete-passes r))
 
 -- ---- the packet
 

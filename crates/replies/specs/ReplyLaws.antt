@@ -8,10 +8,11 @@ use lib.Dec.{ltb}
 use lib.ListN.{length, take}
 use Rattle.scans.specs.Each.{All, all-map, clash}
 use Rattle.scans.specs.Upto.{pick-keeps}
-use Rattle.octets.specs.Bytes.{u8, be32}
+use Rattle.numbers.specs.declared.circle.Tsn.{Tsn}
+use Rattle.octets.specs.Bytes.{u8}
 use Rattle.octets.specs.Walk.{joined}
 use Rattle.octets.specs.Writing.{fitting, bothFitting}
-use Rattle.chunks.specs.Frame.{framed, ended}
+use Rattle.chunks.specs.Frame.{framed, bytesIn, ended}
 use Rattle.chunks.specs.Cause.{caused}
 use Rattle.chunks.specs.Kind.{kindOf}
 use Rattle.chunks.specs.declared.init.Init.{Init}
@@ -19,7 +20,8 @@ use Rattle.chunks.specs.declared.kind.Kind.the-variants as kinds
 use Rattle.chunks.specs.FrameLaws.{Carried}
 use Rattle.chunks.specs.FrameLaws.Carried.{none, whole}
 use Rattle.chunks.specs.KindLaws.{init-only}
-use Rattle.chunks.specs.CookieChunk.{cookieEchoBytes}
+use Rattle.chunks.specs.ShutdownChunk.{shutdownBytes}
+use Rattle.chunks.specs.CookieChunk.{longestCookie, cookieEchoBytes}
 use Rattle.chunks.specs.CookieLaws.{echo-carried}
 use Rattle.packets.specs.ShapeLaws.{not-alone}
 use Rattle.packets.specs.Body.{Sound, Together}
@@ -28,7 +30,6 @@ use Rattle.parameters.specs.Parameter.{NAME, paramsOf, valueOf}
 use Rattle.parameters.specs.Report.{ROOM, gatherAll, errorParametersBytes, initAckBytes}
 use Rattle.parameters.specs.ReportLaws.{init-ack-carried, error-carried}
 use Rattle.passing.specs.Passing.{shutdown-passes, init-ack-passes}
-use Rattle.steps.specs.Opening.{bytesOf}
 use Rattle.steps.specs.declared.verdict.Owed.{Owed}
 use Rattle.steps.specs.declared.verdict.Owed.the-variants.{Nothing}
 use Rattle.steps.specs.Replying.{Replying}
@@ -75,10 +76,10 @@ plain-shares k f v p n = record {
   beside = not-alone (framed k f v) (λ e. clash (sym (ap plain e) ∙ p)) (λ e. clash (sym (ap plain e) ∙ p)) n;
 }
 
-pub shutdown-shares : (point : ℕ) → Shareable (framed 7 0 (be32 point))
+pub shutdown-shares : (point : Tsn) → Shareable (shutdownBytes point)
 shutdown-shares point = record {
   sound = shutdown-passes point;
-  beside = not-alone (framed 7 0 (be32 point)) (λ e. omega (arith, e)) (λ e. omega (arith, e)) (λ e. omega (arith, e));
+  beside = not-alone (shutdownBytes point) (λ e. omega (arith, e)) (λ e. omega (arith, e)) (λ e. omega (arith, e));
 }
 
 carried-shares : {most : ℕ} {c bs x : List ℕ} → Carried most c bs x → Shareable bs → Shared x
@@ -97,14 +98,14 @@ both-share room {a} v w = shared-both (shared-fitting room v) (shared-fitting (r
 -- ---- every chunk's reply
 
 -- an INIT ACK, where its cookie has a length that it may have
-ack-fits : (v : Init) (c s : List ℕ) {o : Owed} {y : List ℕ} → kindOf (u8 s 0) ≡ kinds.Init → o ≡ Nothing → Carried 256 c y (initAckBytes v c s) → Fits s o (initAckBytes v c s)
+ack-fits : (v : Init) (c s : List ℕ) {o : Owed} {y : List ℕ} → kindOf (u8 s 0) ≡ kinds.Init → o ≡ Nothing → Carried longestCookie c y (initAckBytes v c s) → Fits s o (initAckBytes v c s)
 ack-fits v c s k o (none e) = several (shared-as e shared-none)
 ack-fits v c s k o (whole l n e) = single (init-only (u8 s 0) k) o (init-ack-passes v c s l n)
 
 pub reply-fits : {room : ℕ} {cookie s : List ℕ} {o : Owed} {bs : List ℕ} → Replying room cookie s o bs → Fits s o bs
 reply-fits (silent e) = several (shared-as e shared-none)
 reply-fits (heartbeat-ack v e) = several (shared-as e (shared-one (plain-shares 5 0 v refl (λ z. omega (arith, z)))))
-reply-fits {s = s} (abort e) = several (shared-as e (shared-one (plain-shares 6 0 (caused 5 (bytesOf (valueOf NAME 0 s) s)) refl (λ z. omega (arith, z)))))
+reply-fits {s = s} (abort e) = several (shared-as e (shared-one (plain-shares 6 0 (caused 5 (bytesIn s (valueOf NAME 0 s))) refl (λ z. omega (arith, z)))))
 reply-fits (shutdown-ack e) = several (shared-as e (shared-one (plain-shares 8 0 [] refl (λ z. omega (arith, z)))))
 reply-fits {s = s} (error e) = several (shared-as e (shared-one (plain-shares 9 0 (caused 6 (take (ended s) s)) refl (λ z. omega (arith, z)))))
 reply-fits (cookie-ack e) = several (shared-as e (shared-one (plain-shares 11 0 [] refl (λ z. omega (arith, z)))))

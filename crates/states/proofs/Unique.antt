@@ -1,7 +1,7 @@
 -- Each promise leaves one outcome: two results, and two contents of a lent buffer, that a contract allows are equal.
 -- Assumes nothing.
 use mathlib.Core.Path.{_≡_, sym, _∙_}
-use Rattle.states.proofs.calls.permits.Reads as permits-reads
+use Rattle.states.proofs.call.permits.Reads as permits-reads
 use Rattle.states.proofs.rows.row_for.Reads as row-for-reads
 use Rattle.states.proofs.state.State.tried_again.Reads as tried-again-reads
 use Rattle.states.proofs.state.State.is_closed.Reads as is-closed-reads

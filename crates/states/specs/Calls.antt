@@ -1,55 +1,45 @@
 -- Which calls are for which state; any other is answered 7.
-use mathlib.Core.Bool.{Bool, true, false}
+use mathlib.Core.Bool.{Bool, true, false, not}
 use Rattle.states.specs.declared.state.State.{State}
 use Rattle.states.specs.declared.state.State.the-variants.{Closed, CookieWait, CookieEchoed, Established, ShutdownPending, ShutdownSent, ShutdownReceived, ShutdownAckSent}
-use Rattle.states.specs.declared.calls.Call.{Call}
-use Rattle.states.specs.declared.calls.Call.the-variants.{Associate, HandIn, Transmit, Acknowledge, FirstTimer, SecondTimer, ThirdTimer, Shutdown, Abort, Heartbeat, Sample, TellStale}
+use Rattle.states.specs.declared.call.Call.{Call}
+use Rattle.states.specs.declared.call.Call.the-variants.{Associate, HandIn, Transmit, Acknowledge, FirstTimer, SecondTimer, ThirdTimer, Shutdown, Abort, Heartbeat, Sample, TellStale}
+use Rattle.states.specs.Tries.{isClosed}
 
--- section 5.1 A
-abbrev pub associateIn : State → Bool
-associateIn Closed = true
-associateIn (CookieWait n) = false
-associateIn (CookieEchoed n) = false
-associateIn Established = false
-associateIn ShutdownPending = false
-associateIn (ShutdownSent n) = false
-associateIn ShutdownReceived = false
-associateIn (ShutdownAckSent n) = false
+-- the state is ESTABLISHED
+abbrev pub isEstablished : State → Bool
+isEstablished Closed = false
+isEstablished (CookieWait n) = false
+isEstablished (CookieEchoed n) = false
+isEstablished Established = true
+isEstablished ShutdownPending = false
+isEstablished (ShutdownSent n) = false
+isEstablished ShutdownReceived = false
+isEstablished (ShutdownAckSent n) = false
 
--- "Messages are handed in in ESTABLISHED"
-abbrev pub handInIn : State → Bool
-handInIn Closed = false
-handInIn (CookieWait n) = false
-handInIn (CookieEchoed n) = false
-handInIn Established = true
-handInIn ShutdownPending = false
-handInIn (ShutdownSent n) = false
-handInIn ShutdownReceived = false
-handInIn (ShutdownAckSent n) = false
+-- "DATA is read in ESTABLISHED, SHUTDOWN-PENDING, SHUTDOWN-SENT"
+abbrev pub readsData : State → Bool
+readsData Closed = false
+readsData (CookieWait n) = false
+readsData (CookieEchoed n) = false
+readsData Established = true
+readsData ShutdownPending = true
+readsData (ShutdownSent n) = true
+readsData ShutdownReceived = false
+readsData (ShutdownAckSent n) = false
 
--- "sent where SACK is read"
-abbrev pub transmitIn : State → Bool
-transmitIn Closed = false
-transmitIn (CookieWait n) = false
-transmitIn (CookieEchoed n) = false
-transmitIn Established = true
-transmitIn ShutdownPending = true
-transmitIn (ShutdownSent n) = false
-transmitIn ShutdownReceived = true
-transmitIn (ShutdownAckSent n) = false
+-- "SACK in ESTABLISHED, SHUTDOWN-PENDING, SHUTDOWN-RECEIVED"
+abbrev pub readsSack : State → Bool
+readsSack Closed = false
+readsSack (CookieWait n) = false
+readsSack (CookieEchoed n) = false
+readsSack Established = true
+readsSack ShutdownPending = true
+readsSack (ShutdownSent n) = false
+readsSack ShutdownReceived = true
+readsSack (ShutdownAckSent n) = false
 
--- "Only the host's call builds it, where DATA is read": a SACK, and the ERROR for an unknown stream
-abbrev pub acknowledgeIn : State → Bool
-acknowledgeIn Closed = false
-acknowledgeIn (CookieWait n) = false
-acknowledgeIn (CookieEchoed n) = false
-acknowledgeIn Established = true
-acknowledgeIn ShutdownPending = true
-acknowledgeIn (ShutdownSent n) = true
-acknowledgeIn ShutdownReceived = false
-acknowledgeIn (ShutdownAckSent n) = false
-
--- T1 (section 5.1)
+-- T1 runs (section 5.1)
 abbrev pub firstTimerIn : State → Bool
 firstTimerIn Closed = false
 firstTimerIn (CookieWait n) = true
@@ -60,7 +50,7 @@ firstTimerIn (ShutdownSent n) = false
 firstTimerIn ShutdownReceived = false
 firstTimerIn (ShutdownAckSent n) = false
 
--- T2 (section 9.2)
+-- T2 runs (section 9.2)
 abbrev pub secondTimerIn : State → Bool
 secondTimerIn Closed = false
 secondTimerIn (CookieWait n) = false
@@ -71,83 +61,26 @@ secondTimerIn (ShutdownSent n) = true
 secondTimerIn ShutdownReceived = false
 secondTimerIn (ShutdownAckSent n) = true
 
--- T3 (section 6.3.3), where chunks are sent
-abbrev pub thirdTimerIn : State → Bool
-thirdTimerIn Closed = false
-thirdTimerIn (CookieWait n) = false
-thirdTimerIn (CookieEchoed n) = false
-thirdTimerIn Established = true
-thirdTimerIn ShutdownPending = true
-thirdTimerIn (ShutdownSent n) = false
-thirdTimerIn ShutdownReceived = true
-thirdTimerIn (ShutdownAckSent n) = false
-
--- section 9.2
-abbrev pub shutdownIn : State → Bool
-shutdownIn Closed = false
-shutdownIn (CookieWait n) = false
-shutdownIn (CookieEchoed n) = false
-shutdownIn Established = true
-shutdownIn ShutdownPending = false
-shutdownIn (ShutdownSent n) = false
-shutdownIn ShutdownReceived = false
-shutdownIn (ShutdownAckSent n) = false
-
--- section 9.1
-abbrev pub abortIn : State → Bool
-abortIn Closed = false
-abortIn (CookieWait n) = true
-abortIn (CookieEchoed n) = true
-abortIn Established = true
-abortIn ShutdownPending = true
-abortIn (ShutdownSent n) = true
-abortIn ShutdownReceived = true
-abortIn (ShutdownAckSent n) = true
-
--- section 8.3
-abbrev pub heartbeatIn : State → Bool
-heartbeatIn Closed = false
-heartbeatIn (CookieWait n) = false
-heartbeatIn (CookieEchoed n) = false
-heartbeatIn Established = true
-heartbeatIn ShutdownPending = true
-heartbeatIn (ShutdownSent n) = false
-heartbeatIn ShutdownReceived = true
-heartbeatIn (ShutdownAckSent n) = false
-
--- section 6.3.1: wherever a timer may run
-abbrev pub sampleIn : State → Bool
-sampleIn Closed = false
-sampleIn (CookieWait n) = true
-sampleIn (CookieEchoed n) = true
-sampleIn Established = true
-sampleIn ShutdownPending = true
-sampleIn (ShutdownSent n) = true
-sampleIn ShutdownReceived = true
-sampleIn (ShutdownAckSent n) = true
-
--- section 5.2.6: the ERROR for a stale cookie, which only CLOSED reads
-abbrev pub tellStaleIn : State → Bool
-tellStaleIn Closed = true
-tellStaleIn (CookieWait n) = false
-tellStaleIn (CookieEchoed n) = false
-tellStaleIn Established = false
-tellStaleIn ShutdownPending = false
-tellStaleIn (ShutdownSent n) = false
-tellStaleIn ShutdownReceived = false
-tellStaleIn (ShutdownAckSent n) = false
-
 -- every call but a take: messages are "taken in any state"
 unfoldable pub permitted : Call → State → Bool
-permitted Associate s = associateIn s
-permitted HandIn s = handInIn s
-permitted Transmit s = transmitIn s
-permitted Acknowledge s = acknowledgeIn s
+-- section 5.1 A
+permitted Associate s = isClosed s
+-- "Messages are handed in in ESTABLISHED, sent where SACK is read"
+permitted HandIn s = isEstablished s
+permitted Transmit s = readsSack s
+-- "Only the host's call builds it, where DATA is read": a SACK, and the ERROR for an unknown stream
+permitted Acknowledge s = readsData s
 permitted FirstTimer s = firstTimerIn s
 permitted SecondTimer s = secondTimerIn s
-permitted ThirdTimer s = thirdTimerIn s
-permitted Shutdown s = shutdownIn s
-permitted Abort s = abortIn s
-permitted Heartbeat s = heartbeatIn s
-permitted Sample s = sampleIn s
-permitted TellStale s = tellStaleIn s
+-- T3 (section 6.3.3), where chunks are sent
+permitted ThirdTimer s = readsSack s
+-- section 9.2
+permitted Shutdown s = isEstablished s
+-- section 9.1
+permitted Abort s = not (isClosed s)
+-- section 8.3
+permitted Heartbeat s = readsSack s
+-- section 6.3.1: wherever a timer may run
+permitted Sample s = not (isClosed s)
+-- section 5.2.6: the ERROR for a stale cookie, which only CLOSED reads
+permitted TellStale s = isClosed s

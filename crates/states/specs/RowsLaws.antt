@@ -10,9 +10,9 @@ use Rattle.states.specs.declared.state.State.{State}
 use Rattle.states.specs.declared.state.State.the-variants.{Closed, CookieWait, CookieEchoed, Established, ShutdownPending, ShutdownSent, ShutdownReceived, ShutdownAckSent}
 use Rattle.states.specs.declared.rows.Row.{Row}
 use Rattle.states.specs.declared.rows.Row.the-variants.{Refused, ReadData, ReadLateData, AnswerInit, TakeInitAck, ReadSack, ReadSackPending, ReadSackReceived, EchoHeartbeat, ClearTries, BecomeClosed, ReadShutdown, CrossShutdown, RepeatShutdownAck, ReflectComplete, SendComplete, PassError, ReadError, ReadEcho, BecomeEstablished, BecomeComplete, PassUnknown, TellUnknown}
-use Rattle.states.specs.declared.calls.Call.the-variants as call
+use Rattle.states.specs.declared.call.Call.the-variants as call
 use Rattle.states.specs.Rows.{dataRow, initRow, initAckRow, sackRow, heartbeatRow, heartbeatAckRow, abortRow, shutdownRow, shutdownAckRow, errorRow, cookieEchoRow, cookieAckRow, shutdownCompleteRow, unknownRow, rowOf}
-use Rattle.states.specs.Calls.{acknowledgeIn, permitted}
+use Rattle.states.specs.Calls.{readsData, permitted}
 
 -- what holds of each state holds of all
 pub each-state : (P : State → Type 0) → P Closed → ((n : ℕ) → P (CookieWait n)) → ((n : ℕ) → P (CookieEchoed n)) → P Established → P ShutdownPending
@@ -51,8 +51,8 @@ awaitsAck (ShutdownAckSent n) = false
 -- what a row finds of the state that it stands in: DATA is read in the three states, and a row that goes on to another state goes on from one that
 -- knows the peer
 abbrev pub finds : Row → State → Bool
-finds ReadData s = acknowledgeIn s
-finds ReadLateData s = acknowledgeIn s
+finds ReadData s = readsData s
+finds ReadLateData s = readsData s
 finds TakeInitAck s = awaitsAck s
 finds BecomeEstablished s = knowsPeer s
 finds ReadSackPending s = knowsPeer s
@@ -97,8 +97,8 @@ row-finds ShutdownComplete first s = each-state (Finds shutdownCompleteRow) refl
 row-finds (Unknown h) first s = each-state (Finds (unknownRow h)) refl (λ n. refl) (λ n. refl) refl refl (λ n. refl) refl (λ n. refl) s
 
 -- where DATA is read the peer is known
-pub reads-knows : (s : State) → acknowledgeIn s ≡ true → knowsPeer s ≡ true
-reads-knows = each-state (λ s. acknowledgeIn s ≡ true → knowsPeer s ≡ true) clash (λ n. clash) (λ n e. refl) (λ e. refl) (λ e. refl) (λ n e. refl) (λ e. refl) (λ n e. refl)
+pub reads-knows : (s : State) → readsData s ≡ true → knowsPeer s ≡ true
+reads-knows = each-state (λ s. readsData s ≡ true → knowsPeer s ≡ true) clash (λ n. clash) (λ n e. refl) (λ e. refl) (λ e. refl) (λ n e. refl) (λ e. refl) (λ n e. refl)
 
 -- and where the host may shut down
 pub shutdown-knows : (s : State) → permitted call.Shutdown s ≡ true → knowsPeer s ≡ true

@@ -11,16 +11,17 @@ use Rattle.numbers.specs.declared.keeping.Blocks.{Blocks}
 use Rattle.numbers.specs.Numbering.{ring}
 use Rattle.numbers.specs.Profile.{rail}
 use Rattle.path.specs.Sizes.{railSizes}
-use Rattle.chunks.specs.Frame.{framed, partFrom}
+use Rattle.chunks.specs.Frame.{framed, partFrom, bytesIn}
 use Rattle.chunks.specs.DataChunk.{dataOf}
 use Rattle.chunks.specs.SackChunk.{sackOf, blocksIn}
+use Rattle.chunks.specs.ShutdownChunk.{shutdownAckBytes}
 use Rattle.holding.specs.declared.held.Chunk.{Chunk}
 use Rattle.holding.specs.Held.{asHeld}
 use Rattle.delivery.specs.declared.arrival.Verdict.{Verdict}
 use Rattle.delivery.specs.declared.arrival.Verdict.the-variants.{Kept, Empty, Long, Duplicate, Wedged, Far, Stray}
 use Rattle.delivery.specs.declared.arrival.Arrival.{Arrival}
 use Rattle.delivery.specs.declared.receiving.Receiving.{Receiving}
-use Rattle.delivery.specs.Arrival.{arrived, areaAfter}
+use Rattle.delivery.specs.Arrival.{numberOf, arrived, areaAfter}
 use Rattle.sending.specs.declared.acknowledging.Answer.{Answer}
 use Rattle.sending.specs.declared.sending.Sending.{Sending}
 use Rattle.sending.specs.Acknowledge as sender
@@ -35,7 +36,6 @@ use Rattle.steps.specs.declared.verdict.Named.the-variants.{NoCall, Abor
 use Rattle.steps.specs.declared.verdict.Event.the-variants.{NoEvent}
 use Rattle.steps.specs.declared.verdict.Owed.the-variants.{Nothing, Shutdown}
 use Rattle.steps.specs.Verdict.{Step, accepted, owing, refused}
-use Rattle.steps.specs.Opening.{bytesOf}
 
 -- ---- DATA
 
@@ -53,7 +53,7 @@ chunkOf s = record {
 
 -- its payload: what follows the 16 bytes of its fields
 abbrev pub payloadOf : List ℕ → List ℕ
-payloadOf s = bytesOf (partFrom 16 s) s
+payloadOf s = bytesIn s (partFrom 16 s)
 
 -- the chunk is held
 abbrev pub isKept : Verdict → Bool
@@ -67,13 +67,7 @@ isKept Stray = false
 
 -- the numbers 9 to 14 are those of the receiving side
 abbrev pub fateOf : Verdict → Fate
-fateOf Kept = Accepted
-fateOf Empty = Refused 9
-fateOf Long = Refused 10
-fateOf Duplicate = Refused 11
-fateOf Wedged = Refused 12
-fateOf Far = Refused 13
-fateOf Stray = Refused 14
+fateOf v = pick (eqb (numberOf v) 0) Accepted (Refused (numberOf v))
 
 -- "9 calls for ABORT with cause 9, 12 … with cause 13, 14 for ERROR with cause 1"
 abbrev pub callOf : Verdict → Tsn → StreamId → Named
@@ -163,14 +157,14 @@ readSackPending a s =
 unfoldable pub readSackReceived : Association → List ℕ → Step
 readSackReceived a s =
     pick (isLast (heardSack a s))
-    (accepted (withState (withSending a (heardSack a s .sending)) (ShutdownAckSent 0)) NoEvent (framed 8 0 []))
+    (accepted (withState (withSending a (heardSack a s .sending)) (ShutdownAckSent 0)) NoEvent shutdownAckBytes)
     (sackRead a (heardSack a s))
 
 -- ---- HEARTBEAT
 
 -- answered by a HEARTBEAT ACK that carries what it carried (section 8.3)
 unfoldable pub echoHeartbeat : Association → List ℕ → Step
-echoHeartbeat a s = accepted a NoEvent (framed 5 0 (bytesOf (partFrom 4 s) s))
+echoHeartbeat a s = accepted a NoEvent (framed 5 0 (bytesIn s (partFrom 4 s)))
 
 -- HEARTBEAT ACK ends the count of tries (sections 8.1 and 8.3)
 unfoldable pub clearTries : Association → Step

@@ -4,8 +4,7 @@ use mathlib.Core.List.{List, []}
 use lib.Dec.{eqb}
 use Rattle.scans.specs.Scan.{pick}
 use Rattle.path.specs.Sizes.{railSizes}
-use Rattle.chunks.specs.Frame.{framed}
-use Rattle.chunks.specs.ShutdownChunk.{pointOf}
+use Rattle.chunks.specs.ShutdownChunk.{pointOf, shutdownAckBytes}
 use Rattle.parameters.specs.Stale.{staleIn}
 use Rattle.sending.specs.declared.acknowledging.Answer.{Answer}
 use Rattle.sending.specs.Acknowledge.{shutdownPoint}
@@ -33,7 +32,7 @@ heardShutdown a s = shutdownPoint railSizes (a .sending) (pointOf s)
 
 -- SHUTDOWN ACK goes out
 abbrev pub shutdownAcked : Association → State → Step
-shutdownAcked a state = accepted (withState a state) NoEvent (framed 8 0 [])
+shutdownAcked a state = accepted (withState a state) NoEvent shutdownAckBytes
 
 -- a false point is refused 16 and leaves the state; else what the point acknowledges is taken in, and the state goes on
 abbrev pub shutdownRead : Association → Answer → Step → Step
@@ -46,15 +45,10 @@ readShutdown a s =
     (shutdownAcked (withSending a (heardShutdown a s .sending)) (ShutdownAckSent 0))
     (shutdownRead a (heardShutdown a s) (accepted (withState (withSending a (heardShutdown a s .sending)) ShutdownReceived) NoEvent []))
 
--- SHUTDOWN in SHUTDOWN-SENT (section 9.2)
-unfoldable pub crossShutdown : Association → List ℕ → Step
-crossShutdown a s =
-    shutdownRead a (heardShutdown a s) (shutdownAcked (withSending a (heardShutdown a s .sending)) (ShutdownAckSent 0))
-
--- SHUTDOWN in SHUTDOWN-ACK-SENT: the tries stay
-unfoldable pub repeatShutdownAck : Association → List ℕ → Step
-repeatShutdownAck a s =
-    shutdownRead a (heardShutdown a s) (shutdownAcked (withSending a (heardShutdown a s .sending)) (a .state))
+-- SHUTDOWN in SHUTDOWN-SENT and SHUTDOWN-ACK-SENT (section 9.2): answered at once, in the state that it leads to
+unfoldable pub answerShutdown : Association → State → List ℕ → Step
+answerShutdown a state s =
+    shutdownRead a (heardShutdown a s) (shutdownAcked (withSending a (heardShutdown a s .sending)) state)
 
 -- SHUTDOWN ACK in COOKIE-WAIT and COOKIE-ECHOED: a SHUTDOWN COMPLETE with the T bit (section 8.5.1 E)
 abbrev pub reflectComplete : Association → Step

@@ -22,9 +22,11 @@ use Rattle.chunks.specs.Kind.{kindOf}
 use Rattle.parameters.specs.Parameter.{valueOf, isThere, COOKIE, NAME}
 use Rattle.parameters.specs.Stale.{staleIn}
 use Rattle.delivery.specs.Receiving.{fresh}
+use Rattle.states.specs.declared.state.State.{State}
+use Rattle.states.specs.declared.state.State.the-variants.{ShutdownAckSent}
 use Rattle.states.specs.declared.rows.Row.{Row}
 use Rattle.states.specs.declared.rows.Row.the-variants.{Refused, ReadData, ReadLateData, AnswerInit, TakeInitAck, ReadSack, ReadSackPending, ReadSackReceived, EchoHeartbeat, ClearTries, BecomeClosed, ReadShutdown, CrossShutdown, RepeatShutdownAck, ReflectComplete, SendComplete, PassError, ReadError, ReadEcho, BecomeEstablished, BecomeComplete, PassUnknown, TellUnknown}
-use Rattle.states.specs.Calls.{acknowledgeIn}
+use Rattle.states.specs.Calls.{readsData}
 use Rattle.states.specs.RowsLaws.{finds, row-finds}
 use Rattle.association.specs.declared.ends.Association.{Association}
 use Rattle.steps.specs.declared.chunk.Beside.{Beside}
@@ -33,7 +35,7 @@ use Rattle.steps.specs.declared.lent.Echoed.the-variants.{Bad, Stale, Go
 use Rattle.steps.specs.Verdict.{Step}
 use Rattle.steps.specs.Opening.{isPoor, isOdd, isPoorLent, answerInit, echoing, echoedBack, takeInitAck, established, readEcho}
 use Rattle.steps.specs.Carrying.{heardSack, isLast, readSack, readSackPending, readSackReceived, echoHeartbeat, clearTries}
-use Rattle.steps.specs.Closing.{heardShutdown, readError, readShutdown, crossShutdown, repeatShutdownAck}
+use Rattle.steps.specs.Closing.{heardShutdown, readError, readShutdown, answerShutdown}
 use Rattle.steps.specs.Unknown.{passUnknown, tellUnknown}
 use Rattle.steps.specs.Steps.{rowStep, rowArea, rowMet, stepOf, areaOf}
 
@@ -91,13 +93,9 @@ module _ (a : Association) where
     unfolding readShutdown
     shutdown-none = either-none (isLast (heardShutdown a s)) _ _ (inl refl) (either-none (eqb (heardShutdown a s .number) 0) _ _ (inl refl) (inl refl))
 
-    cross-none : HoldsNone a (crossShutdown a s)
-    unfolding crossShutdown
-    cross-none = either-none (eqb (heardShutdown a s .number) 0) _ _ (inl refl) (inl refl)
-
-    repeat-none : HoldsNone a (repeatShutdownAck a s)
-    unfolding repeatShutdownAck
-    repeat-none = either-none (eqb (heardShutdown a s .number) 0) _ _ (inl refl) (inl refl)
+    answered-none : (state : State) → HoldsNone a (answerShutdown a state s)
+    unfolding answerShutdown
+    answered-none state = either-none (eqb (heardShutdown a s .number) 0) _ _ (inl refl) (inl refl)
 
   pass-none : (h : Handling) → HoldsNone a (passUnknown a h)
   pass-none Stop = inl refl
@@ -111,7 +109,7 @@ module _ (a : Association) where
   tell-none Skip s = inl refl
   tell-none SkipAndReport s = inl refl
 
-  module _ (out : acknowledgeIn (a .state) ≡ false) (room : ℕ) (b : Beside) (cookie area s : List ℕ) where
+  module _ (out : readsData (a .state) ≡ false) (room : ℕ) (b : Beside) (cookie area s : List ℕ) where
     row-none : (r : Row) → finds r (a .state) ≡ true → HoldsNone a (rowStep room a b cookie s r) × (rowArea a area s r ≡ area)
     row-none ReadData e = clash (sym out ∙ e)
     row-none ReadLateData e = clash (sym out ∙ e)
@@ -129,8 +127,8 @@ module _ (a : Association) where
     row-none PassError e = (inl refl, refl)
     row-none ReadError e = (error-none s, refl)
     row-none ReadShutdown e = (shutdown-none s, refl)
-    row-none CrossShutdown e = (cross-none s, refl)
-    row-none RepeatShutdownAck e = (repeat-none s, refl)
+    row-none CrossShutdown e = (answered-none s (ShutdownAckSent 0), refl)
+    row-none RepeatShutdownAck e = (answered-none s (a .state), refl)
     row-none ReflectComplete e = (inl refl, refl)
     row-none SendComplete e = (inl refl, refl)
     row-none BecomeComplete e = (inl refl, refl)

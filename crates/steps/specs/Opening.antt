@@ -1,21 +1,20 @@
 -- The chunks that open an association: INIT, INIT ACK, COOKIE ECHO, COOKIE ACK (RFC 9260 section 5.1).
 use Prim.Native.Nat.{ℕ, _^_}
-use mathlib.Core.Bool.{Bool, true}
+use mathlib.Core.Bool.{Bool, true, not}
 use mathlib.Core.List.{List, []}
 use lib.Dec.{ltb, eqb}
-use lib.ListN.{length, take, drop, replicate}
+use lib.ListN.{length, replicate}
 use Rattle.scans.specs.Scan.{pick}
 use Rattle.scans.specs.Upto.{smaller}
 use Rattle.numbers.specs.Numbering.{ring}
 use Rattle.numbers.specs.Profile.{rail}
 use Rattle.octets.specs.Bytes.{laid}
 use Rattle.octets.specs.Writing.{bothFitting}
-use Rattle.chunks.specs.declared.frame.Part.{Part}
 use Rattle.chunks.specs.declared.init.Init.{Init}
-use Rattle.chunks.specs.Frame.{framed, partFrom}
+use Rattle.chunks.specs.Frame.{framed, partFrom, bytesIn}
 use Rattle.chunks.specs.InitChunk.{initOf}
 use Rattle.chunks.specs.Cause.{caused}
-use Rattle.chunks.specs.CookieChunk.{cookieEchoBytes}
+use Rattle.chunks.specs.CookieChunk.{longestCookie, isCookie, cookieEchoBytes}
 use Rattle.parameters.specs.Parameter.{valueOf, isThere, COOKIE, NAME}
 use Rattle.parameters.specs.Report.{initAckBytes, errorParametersBytes}
 use Rattle.delivery.specs.Receiving as receiver
@@ -33,17 +32,13 @@ use Rattle.steps.specs.declared.verdict.Reason.the-variants.{HostName}
 use Rattle.steps.specs.declared.verdict.Named.the-variants.{NoCall, ErrorStale}
 use Rattle.steps.specs.Verdict.{Step, accepted, refused, ending}
 
--- the bytes of a chunk that a part names
-abbrev pub bytesOf : Part → List ℕ → List ℕ
-bytesOf p s = take (p .len) (drop (p .at) s)
-
 -- 8: "INIT or INIT ACK: tag 0, no streams, window under 1,500"
 unfoldable pub isPoor : Init → Bool
 isPoor v = pick (eqb (v .tag) 0) true (pick (eqb (v .outs) 0) true (pick (eqb (v .ins) 0) true (ltb (v .window) 1500)))
 
 -- 8: "INIT ACK or COOKIE ECHO: cookie of 0 or over 256"
 abbrev pub isOdd : ℕ → Bool
-isOdd n = pick (ltb n 1) true (ltb 256 n)
+isOdd n = not (isCookie n)
 
 -- the same of what the host lends for its INIT ACK
 unfoldable pub isPoorLent : Lent → ℕ → Bool
@@ -61,7 +56,7 @@ ackOf l v = record {
 
 -- a Host Name parameter is answered by an ABORT with cause 5 that carries it (RFC 9260 section 3.3.2.1.4)
 abbrev pub nameRefused : List ℕ → List ℕ
-nameRefused s = framed 6 0 (caused 5 (bytesOf (valueOf NAME 0 s) s))
+nameRefused s = framed 6 0 (caused 5 (bytesIn s (valueOf NAME 0 s)))
 
 -- an INIT in CLOSED (section 5.1 B): the record stays
 unfoldable pub answerInit : Association → Lent → List ℕ → List ℕ → Step
@@ -73,7 +68,7 @@ answerInit a l cookie s =
 
 -- the cookie, kept for T1's resends
 abbrev pub kept : List ℕ → Cookie
-kept cookie = record { bytes = laid (replicate 256 0) 0 cookie; len = length cookie }
+kept cookie = record { bytes = laid (replicate longestCookie 0) 0 cookie; len = length cookie }
 
 -- the sending side with the window that the peer advertises
 abbrev pub withWindow : Sending → ℕ → Sending
@@ -115,7 +110,7 @@ takeInitAck room a s =
     pick (isPoor (initOf s)) (refused a 8 NoCall)
     (pick (isOdd (valueOf COOKIE 4 s .len)) (refused a 8 NoCall)
     (pick (isThere NAME s) (accepted (withState a Closed) (Down HostName) (nameRefused s))
-    (echoedBack room a (initOf s) (bytesOf (valueOf COOKIE 4 s) s) s)))
+    (echoedBack room a (initOf s) (bytesIn s (valueOf COOKIE 4 s)) s)))
 
 -- "A good echo … starts from a fresh record" (section 5.1.5)
 unfoldable pub established : Association → ℕ → Made → Association

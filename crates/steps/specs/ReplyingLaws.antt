@@ -10,11 +10,12 @@ use Rattle.chunks.specs.declared.kind.Kind.the-variants as kinds
 use Rattle.chunks.specs.declared.kind.Handling.{Handling}
 use Rattle.chunks.specs.declared.kind.Handling.the-variants.{Stop, StopAndReport, Skip, SkipAndReport}
 use Rattle.chunks.specs.Kind.{kindOf}
-use Rattle.chunks.specs.Frame.{partFrom}
+use Rattle.chunks.specs.Frame.{partFrom, bytesIn}
 use Rattle.chunks.specs.InitChunk.{initOf}
 use Rattle.parameters.specs.Parameter.{valueOf, isThere, COOKIE, NAME}
 use Rattle.parameters.specs.Report.{initAckBytes}
 use Rattle.sending.specs.declared.acknowledging.Answer.{Answer}
+use Rattle.states.specs.declared.state.State.{State}
 use Rattle.states.specs.declared.state.State.the-variants.{Closed, ShutdownReceived, ShutdownAckSent}
 use Rattle.states.specs.declared.rows.Row.{Row}
 use Rattle.states.specs.declared.rows.Row.the-variants.{Refused, ReadData, ReadLateData, AnswerInit, TakeInitAck, ReadSack, ReadSackPending, ReadSackReceived, EchoHeartbeat, ClearTries, BecomeClosed, ReadShutdown, CrossShutdown, RepeatShutdownAck, ReflectComplete, SendComplete, PassError, ReadError, ReadEcho, BecomeEstablished, BecomeComplete, PassUnknown, TellUnknown}
@@ -29,9 +30,9 @@ use Rattle.steps.specs.declared.verdict.Event.the-variants.{NoEvent, Dow
 use Rattle.steps.specs.declared.verdict.Reason.the-variants.{HostName}
 use Rattle.steps.specs.Verdict.{Step, accepted}
 use Rattle.steps.specs.VerdictLaws.{read-data-quiet, late-data-quiet, read-sack-quiet, pending-quiet, clear-quiet, error-quiet, pass-quiet}
-use Rattle.steps.specs.Opening.{bytesOf, isOdd, isPoor, isPoorLent, nameRefused, ackOf, answerInit, takeInitAck, echoedBack, readEchoed, readEcho}
+use Rattle.steps.specs.Opening.{isOdd, isPoor, isPoorLent, nameRefused, ackOf, answerInit, takeInitAck, echoedBack, readEchoed, readEcho}
 use Rattle.steps.specs.Carrying.{isLast, heardSack, sackRead, readSackReceived, echoHeartbeat}
-use Rattle.steps.specs.Closing.{heardShutdown, shutdownAcked, shutdownRead, readShutdown, crossShutdown, repeatShutdownAck}
+use Rattle.steps.specs.Closing.{heardShutdown, shutdownAcked, shutdownRead, readShutdown, answerShutdown}
 use Rattle.steps.specs.Unknown.{tellUnknown}
 use Rattle.steps.specs.Replying.{Replying}
 use Rattle.steps.specs.Replying.Replying.{silent, heartbeat-ack, abort, shutdown-ack, error, cookie-ack, cookie-echo, init-ack}
@@ -54,8 +55,8 @@ module _ (room : ℕ) (cookie s : List ℕ) where
     ack-replies =
         pick-keeps Replies (isPoor (initOf s)) _ _ (silent refl)
         (pick-keeps Replies (isOdd (valueOf COOKIE 4 s .len)) _ _ (silent refl)
-        (pick-keeps Replies (isThere NAME s) (accepted (withState a Closed) (Down HostName) (nameRefused s)) (echoedBack room a (initOf s) (bytesOf (valueOf COOKIE 4 s) s) s)
-        (abort refl) (cookie-echo (bytesOf (valueOf COOKIE 4 s) s) refl)))
+        (pick-keeps Replies (isThere NAME s) (accepted (withState a Closed) (Down HostName) (nameRefused s)) (echoedBack room a (initOf s) (bytesIn s (valueOf COOKIE 4 s)) s)
+        (abort refl) (cookie-echo (bytesIn s (valueOf COOKIE 4 s)) refl)))
 
     echoed-replies : (source : ℕ) (e : Echoed) → Replies (readEchoed a source e)
     echoed-replies source (Good m) = cookie-ack refl
@@ -75,7 +76,7 @@ module _ (room : ℕ) (cookie s : List ℕ) where
 
     heartbeat-replies : Replies (echoHeartbeat a s)
     unfolding echoHeartbeat
-    heartbeat-replies = heartbeat-ack (bytesOf (partFrom 4 s) s) refl
+    heartbeat-replies = heartbeat-ack (bytesIn s (partFrom 4 s)) refl
 
     point-replies : (o : Answer) (next : Step) → Replies next → Replies (shutdownRead a o next)
     point-replies o next p = pick-keeps Replies (eqb (o .number) 0) next _ p (silent refl)
@@ -86,13 +87,9 @@ module _ (room : ℕ) (cookie s : List ℕ) where
         pick-keeps Replies (isLast (heardShutdown a s)) _ _ (shutdown-ack refl)
         (point-replies (heardShutdown a s) (accepted (withState (withSending a (heardShutdown a s .sending)) ShutdownReceived) NoEvent []) (silent refl))
 
-    cross-replies : Replies (crossShutdown a s)
-    unfolding crossShutdown
-    cross-replies = point-replies (heardShutdown a s) (shutdownAcked (withSending a (heardShutdown a s .sending)) (ShutdownAckSent 0)) (shutdown-ack refl)
-
-    repeat-replies : Replies (repeatShutdownAck a s)
-    unfolding repeatShutdownAck
-    repeat-replies = point-replies (heardShutdown a s) (shutdownAcked (withSending a (heardShutdown a s .sending)) (a .state)) (shutdown-ack refl)
+    answered-replies : (state : State) → Replies (answerShutdown a state s)
+    unfolding answerShutdown
+    answered-replies state = point-replies (heardShutdown a s) (shutdownAcked (withSending a (heardShutdown a s .sending)) state) (shutdown-ack refl)
 
     tell-replies : (h : Handling) → Replies (tellUnknown a h s)
     tell-replies Stop = silent refl
@@ -117,8 +114,8 @@ module _ (room : ℕ) (cookie s : List ℕ) where
     row-replies b PassError k = silent refl
     row-replies b ReadError k = silent (error-quiet a s)
     row-replies b ReadShutdown k = shutdown-replies
-    row-replies b CrossShutdown k = cross-replies
-    row-replies b RepeatShutdownAck k = repeat-replies
+    row-replies b CrossShutdown k = answered-replies (ShutdownAckSent 0)
+    row-replies b RepeatShutdownAck k = answered-replies (a .state)
     row-replies b ReflectComplete k = silent refl
     row-replies b SendComplete k = silent refl
     row-replies b BecomeComplete k = silent refl

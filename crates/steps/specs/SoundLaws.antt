@@ -43,7 +43,7 @@ use Rattle.steps.specs.Verdict.{Step}
 use Rattle.steps.specs.Lent.{isMade, heeded}
 use Rattle.steps.specs.Opening.{isPoor, isOdd, isPoorLent, answerInit, established, readEcho}
 use Rattle.steps.specs.Carrying.{chunkOf, payloadOf, isKept, arrivalIn, arrivalOf, dataRead, readData, readLateData, blocksOf, heardBy, heardSack, sackRead, isLast, readSack, readSackPending, readSackReceived, echoHeartbeat, clearTries}
-use Rattle.steps.specs.Closing.{readError, heardShutdown, readShutdown, crossShutdown, repeatShutdownAck}
+use Rattle.steps.specs.Closing.{readError, heardShutdown, readShutdown, answerShutdown}
 use Rattle.steps.specs.Unknown.{passUnknown, tellUnknown}
 
 abbrev pub Keeps : Step → Type 0
@@ -144,8 +144,8 @@ module _ (a : Association) (k : Kept a) where
     unfolding readSack
     sack-keeps = sack-read-keeps
 
-    pub repeat-keeps : Keeps (repeatShutdownAck a s)
-    unfolding repeatShutdownAck
+    pub repeat-keeps : Keeps (answerShutdown a (a .state) s)
+    unfolding answerShutdown
     repeat-keeps = either-keeps (eqb (heardShutdown a s .number) 0) _ _ shutdown-kept k
 
     -- the rows that go on from a state that knows the peer
@@ -171,8 +171,8 @@ module _ (a : Association) (k : Kept a) where
           either-keeps (isLast (heardShutdown a s)) _ _ acked-kept
           (either-keeps (eqb (heardShutdown a s .number) 0) _ _ (kept-moved (withSending a (heardShutdown a s .sending)) shutdown-kept o ShutdownReceived refl refl) k)
 
-      pub cross-keeps : Keeps (crossShutdown a s)
-      unfolding crossShutdown
+      pub cross-keeps : Keeps (answerShutdown a (ShutdownAckSent 0) s)
+      unfolding answerShutdown
       cross-keeps = either-keeps (eqb (heardShutdown a s .number) 0) _ _ acked-kept k
 
   pub heartbeat-keeps : (s : List ℕ) → Keeps (echoHeartbeat a s)

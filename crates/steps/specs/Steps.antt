@@ -3,7 +3,7 @@ use Prim.Native.Nat.{ℕ}
 use mathlib.Core.List.{List, []}
 use Rattle.octets.specs.Bytes.{u8}
 use Rattle.chunks.specs.Kind.{kindOf}
-use Rattle.states.specs.declared.state.State.the-variants.{Established}
+use Rattle.states.specs.declared.state.State.the-variants.{Established, ShutdownAckSent}
 use Rattle.states.specs.declared.rows.Row.{Row}
 use Rattle.states.specs.declared.rows.Row.the-variants.{Refused, ReadData, ReadLateData, AnswerInit, TakeInitAck, ReadSack, ReadSackPending, ReadSackReceived, EchoHeartbeat, ClearTries, BecomeClosed, ReadShutdown, CrossShutdown, RepeatShutdownAck, ReflectComplete, SendComplete, PassError, ReadError, ReadEcho, BecomeEstablished, BecomeComplete, PassUnknown, TellUnknown}
 use Rattle.states.specs.Rows.{rowOf}
@@ -15,7 +15,7 @@ use Rattle.steps.specs.declared.verdict.Named.the-variants.{NoCall}
 use Rattle.steps.specs.Verdict.{Step, accepted, refused}
 use Rattle.steps.specs.Opening.{answerInit, takeInitAck, readEcho}
 use Rattle.steps.specs.Carrying.{readData, readLateData, areaData, readSack, readSackPending, readSackReceived, echoHeartbeat, clearTries}
-use Rattle.steps.specs.Closing.{becomeClosed, readError, readShutdown, crossShutdown, repeatShutdownAck, reflectComplete, sendComplete, becomeComplete}
+use Rattle.steps.specs.Closing.{becomeClosed, readError, readShutdown, answerShutdown, reflectComplete, sendComplete, becomeComplete}
 use Rattle.steps.specs.Unknown.{passUnknown, tellUnknown}
 
 -- what a row does to a record, for the chunk at the head of s; `room` is what is left of the reply
@@ -36,8 +36,9 @@ rowStep room a b cookie s BecomeClosed = becomeClosed a
 rowStep room a b cookie s PassError = accepted a NoEvent []
 rowStep room a b cookie s ReadError = readError a s
 rowStep room a b cookie s ReadShutdown = readShutdown a s
-rowStep room a b cookie s CrossShutdown = crossShutdown a s
-rowStep room a b cookie s RepeatShutdownAck = repeatShutdownAck a s
+rowStep room a b cookie s CrossShutdown = answerShutdown a (ShutdownAckSent 0) s
+-- the tries stay
+rowStep room a b cookie s RepeatShutdownAck = answerShutdown a (a .state) s
 rowStep room a b cookie s ReflectComplete = reflectComplete a
 rowStep room a b cookie s SendComplete = sendComplete a
 rowStep room a b cookie s BecomeComplete = becomeComplete a

@@ -17,6 +17,8 @@ use Rattle.numbers.specs.Profile.{rail}
 use Rattle.path.specs.Sizes.{railSizes}
 use Rattle.chunks.specs.declared.init.Init.{Init}
 use Rattle.chunks.specs.Again.{Octet}
+use Rattle.chunks.specs.Frame.{bytesIn}
+use Rattle.chunks.specs.FrameLaws.{one-to-is}
 use Rattle.chunks.specs.InitChunk.{initOf}
 use Rattle.chunks.specs.Kind.{kindOf}
 use Rattle.chunks.specs.ReadLaws.{init-tsn}
@@ -36,14 +38,15 @@ use Rattle.association.specs.declared.ends.Cookie.{Cookie}
 use Rattle.association.specs.declared.ends.Ends.{Ends}
 use Rattle.association.specs.Fresh.{withState}
 use Rattle.association.specs.Bounds.{areEnds, isHead}
-use Rattle.association.specs.BoundsLaws.{sound-parts, parts-sound, fewer-streams, streams-few, Ended, ended-ends, ends-ended}
+use Rattle.association.specs.BoundsLaws.{sound-parts, parts-sound, fewer-streams, Ended, ended-ends, ends-ended}
 use Rattle.association.specs.KeptLaws.{Kept, kept-sender, kept-closed, kept-moved, received-fresh}
 use Rattle.steps.specs.declared.chunk.Beside.{Beside}
 use Rattle.steps.specs.declared.verdict.Event.the-variants.{Down}
 use Rattle.steps.specs.declared.verdict.Reason.the-variants.{HostName}
 use Rattle.steps.specs.declared.verdict.Named.the-variants.{NoCall}
 use Rattle.steps.specs.Verdict.{accepted, refused}
-use Rattle.steps.specs.Opening.{bytesOf, isPoor, isOdd, nameRefused, kept, withWindow, echoing, echoedBack, takeInitAck}
+use Rattle.steps.specs.Opening.{isPoor, isOdd, nameRefused, kept, withWindow, echoing, echoedBack, takeInitAck}
+use Rattle.steps.specs.VerdictLaws.{not-odd}
 use Rattle.steps.specs.Steps.{rowStep, rowMet, stepOf}
 use Rattle.steps.specs.SoundLaws.{Keeps, Heeded, answer-keeps, echo-keeps, data-keeps, late-data-keeps, sack-keeps, pending-keeps, received-keeps, heartbeat-keeps, clear-keeps, error-keeps, shutdown-keeps, cross-keeps, repeat-keeps, pass-keeps, tell-keeps}
 
@@ -59,13 +62,6 @@ not-poor v e = go _ _ _ refl refl refl e
     go false true i p q r e = clash (sym e)
     go false false true p q r e = clash (sym e)
     go false false false p q r e = (p, omega (arith, eqb-false (v .outs) 0 q), omega (arith, eqb-false (v .ins) 0 r))
-
-not-odd : (n : ℕ) → isOdd n ≡ false → (1 ≤ n) × (n ≤ 256)
-not-odd n e = go (ltb n 1) refl e
-  where
-    go : (t : Bool) → ltb n 1 ≡ t → pick t true (ltb 256 n) ≡ false → (1 ≤ n) × (n ≤ 256)
-    go true q e = clash (sym e)
-    go false q e = (ltb-false n 1 q, ltb-false 256 n e)
 
 -- the window bears on no bound
 window-kept : (s : Sending) (w : ℕ) → sending.Kept railSizes rail s → sending.Kept railSizes rail (withWindow s w)
@@ -92,7 +88,7 @@ module _ (a : Association) (k : Kept a) where
   unfolding echoing
   echoing-kept v c e p t l =
       let n = not-poor v p in
-      let o = streams-few (a .ends .«streams_out») (e .outs) in
+      let o = one-to-is 128 (a .ends .«streams_out») (e .outs) in
       let r = received-fresh (v .tsn) t in
       let s = window-kept (a .sending) (v .window) (kept-sender a k) in
       record {
@@ -113,7 +109,7 @@ module _ (a : Association) (k : Kept a) where
 
   module _ (s : List ℕ) (w : All Octet s) where
     -- the cookie is as long as its parameter says
-    cookie-long : length (bytesOf (valueOf COOKIE 4 s) s) ≡ valueOf COOKIE 4 s .len
+    cookie-long : length (bytesIn s (valueOf COOKIE 4 s)) ≡ valueOf COOKIE 4 s .len
     cookie-long = length-take-le (valueOf COOKIE 4 s .len) (drop (valueOf COOKIE 4 s .at) s) (omega (arith, value-inside COOKIE 4 s, length-drop (valueOf COOKIE 4 s .at) s))
 
     pub ack-keeps : (room : ℕ) → awaitsAck (a .state) ≡ true → Keeps (takeInitAck room a s)
@@ -124,13 +120,13 @@ module _ (a : Association) (k : Kept a) where
         e = ends-ended (a .ends) false (awaits-ends (a .ends) (a .cookie) (a .state) o (sound-parts a (k .sound) .head))
 
         go : (p q n : Bool) → isPoor (initOf s) ≡ p → isOdd (valueOf COOKIE 4 s .len) ≡ q
-            → Keeps (pick p (refused a 8 NoCall) (pick q (refused a 8 NoCall) (pick n (accepted (withState a Closed) (Down HostName) (nameRefused s)) (echoedBack room a (initOf s) (bytesOf (valueOf COOKIE 4 s) s) s))))
+            → Keeps (pick p (refused a 8 NoCall) (pick q (refused a 8 NoCall) (pick n (accepted (withState a Closed) (Down HostName) (nameRefused s)) (echoedBack room a (initOf s) (bytesIn s (valueOf COOKIE 4 s)) s))))
         go true q n x y = k
         go false true n x y = k
         go false false true x y = kept-closed a k
         go false false false x y =
             let l = not-odd (valueOf COOKIE 4 s .len) y in
-            echoing-kept (initOf s) (kept (bytesOf (valueOf COOKIE 4 s) s)) e x (init-tsn s w) (omega (arith, cookie-long, l .0), omega (arith, cookie-long, l .1))
+            echoing-kept (initOf s) (kept (bytesIn s (valueOf COOKIE 4 s))) e x (init-tsn s w) (omega (arith, cookie-long, l .0), omega (arith, cookie-long, l .1))
 
 -- ---- one chunk
 

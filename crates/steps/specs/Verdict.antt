@@ -3,6 +3,8 @@ use Prim.Native.Nat.{ℕ}
 use mathlib.Core.Bool.{Bool, true, false}
 use mathlib.Core.List.{List, []}
 use Rattle.octets.specs.Writing.{wroteCount}
+use Rattle.chunks.specs.declared.cause.Cause.the-variants.{InvalidStream, StaleCookie, NoUserData, ProtocolViolation}
+use Rattle.chunks.specs.Cause.{code}
 use Rattle.association.specs.declared.ends.Association.{Association}
 use Rattle.steps.specs.declared.verdict.Fate.{Fate}
 use Rattle.steps.specs.declared.verdict.Fate.the-variants.{Accepted, Refused, Skipped, SkippedAndReported, Stopped, StoppedAndReported, Unread}
@@ -28,10 +30,10 @@ numberOf Unread = 0
 -- cause 3"
 abbrev pub causeOf : Named → ℕ
 causeOf NoCall = 0
-causeOf (AbortNoData t) = 9
-causeOf AbortViolation = 13
-causeOf (ErrorStream s) = 1
-causeOf ErrorStale = 3
+causeOf (AbortNoData t) = code (NoUserData t)
+causeOf AbortViolation = code ProtocolViolation
+causeOf (ErrorStream s) = code (InvalidStream s)
+causeOf ErrorStale = code (StaleCookie 0)
 
 -- a step: what `Done` says, with the bytes that the chunk asks to be added to the reply
 pub record Step : Type 0 where

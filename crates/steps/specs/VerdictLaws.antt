@@ -3,16 +3,19 @@ use Prim.Native.Nat.{ℕ, _+_, _-_, _≤_}
 use mathlib.Core.Path.{_≡_, refl, sym, ap, _∙_}
 use mathlib.Core.List.{List, []}
 use native.Mathlib.Omega.{arith}
-use borrow.Author.Tests.{ltb-false}
+use borrow.Author.Tests.{lt-ltb, le-ltb, leb-true, leb-false, not-false}
 use lib.ListN.{length, take, drop, length-take}
 use Rattle.octets.specs.Writing.{wroteCount, wroteBytes, Wrote}
 use Rattle.octets.specs.WritingLaws.{wrote-none, wrote-most}
 use Rattle.chunks.specs.declared.frame.Part.{Part}
-use mathlib.Core.Bool.{Bool, true, false}
-use lib.Dec.{eqb, ltb}
+use mathlib.Core.Bool.{Bool, true, false, not}
+use lib.Dec.{ltb, leb, eqb}
 use Rattle.scans.specs.Scan.{pick}
-use Rattle.chunks.specs.CookieChunk.{cookieEchoBytes}
+use Rattle.chunks.specs.Frame.{bytesIn}
+use Rattle.chunks.specs.FrameLaws.{one-to-is}
+use Rattle.chunks.specs.CookieChunk.{longestCookie, isCookie, cookieEchoBytes}
 use Rattle.chunks.specs.CookieLaws.{echo-within}
+use Rattle.parameters.specs.ParameterLaws.{lent}
 use Rattle.parameters.specs.Report.{errorParametersBytes}
 use Rattle.parameters.specs.ReportLaws.{error-within}
 use Rattle.chunks.specs.declared.kind.Handling.{Handling}
@@ -27,7 +30,7 @@ use Rattle.steps.specs.declared.verdict.Event.the-variants.{NoEvent, Dow
 use Rattle.steps.specs.declared.verdict.Reason.the-variants.{StaleCookie}
 use Rattle.steps.specs.declared.verdict.Owed.the-variants.{Shutdown}
 use Rattle.steps.specs.Verdict.{Step, doneWith, doneIn, accepted, owing, refused}
-use Rattle.steps.specs.Opening.{bytesOf, isOdd}
+use Rattle.steps.specs.Opening.{isOdd}
 use Rattle.steps.specs.Carrying.{isKept, arrivalOf, dataRead, readData, readLateData, heardSack, sackCall, sackRead, isLast, readSack, readSackPending, clearTries}
 use Rattle.steps.specs.Closing.{readError}
 use Rattle.steps.specs.Unknown.{passUnknown}
@@ -41,20 +44,22 @@ pub quiet-space : (space : List ℕ) (bs : List ℕ) → bs ≡ [] → space ≡
 quiet-space space bs e = wrote-none space .bytes ∙ ap (λ (l : List ℕ). wroteBytes space l) (sym e)
 
 -- a part of a slice, cut from where it starts to where it ends
-pub part-bytes : (p : Part) (s : List ℕ) → take (p .at + p .len - p .at) (drop (p .at) s) ≡ bytesOf p s
-part-bytes p s = let e : p .at + p .len - p .at ≡ p .len = omega arith in ap (λ (n : ℕ). take n (drop (p .at) s)) e
+pub part-bytes : (p : Part) (s : List ℕ) → take (p .at + p .len - p .at) (drop (p .at) s) ≡ bytesIn s p
+part-bytes p s = lent s p refl
+
+pub over-not : (most n : ℕ) → ltb most n ≡ not (leb n most)
+over-not most n = go (leb n most) refl
+  where
+    go : (t : Bool) → leb n most ≡ t → ltb most n ≡ not t
+    go true e = le-ltb most n (leb-true n most e)
+    go false e = lt-ltb most n (leb-false n most e)
+
+pub not-odd : (n : ℕ) → isOdd n ≡ false → (1 ≤ n) × (n ≤ longestCookie)
+not-odd n e = one-to-is longestCookie n (not-false (isCookie n) e)
 
 -- a part that is no odd cookie is short
-pub cookie-short : (p : Part) (s : List ℕ) → isOdd (p .len) ≡ false → length (take (p .at + p .len - p .at) (drop (p .at) s)) ≤ 256
-cookie-short p s h =
-    let e : length (take (p .at + p .len - p .at) (drop (p .at) s)) ≤ p .len = omega (arith, length-take (p .at + p .len - p .at) (drop (p .at) s)) in
-    go (ltb (p .len) 1) (ltb 256 (p .len)) refl h e
-  where
-    go : (t u : Bool) → ltb 256 (p .len) ≡ u → pick t true u ≡ false → length (take (p .at + p .len - p .at) (drop (p .at) s)) ≤ p .len
-        → length (take (p .at + p .len - p .at) (drop (p .at) s)) ≤ 256
-    go true u f k e = absurd (omega (arith, ap (λ (b : Bool). pick {A = ℕ} b 0 1) k))
-    go false true f k e = absurd (omega (arith, ap (λ (b : Bool). pick {A = ℕ} b 0 1) k))
-    go false false f k e = omega (arith, ltb-false 256 (p .len) f)
+pub cookie-short : (p : Part) (s : List ℕ) → isOdd (p .len) ≡ false → length (take (p .at + p .len - p .at) (drop (p .at) s)) ≤ longestCookie
+cookie-short p s h = omega (arith, length-take (p .at + p .len - p .at) (drop (p .at) s), not-odd (p .len) h .1)
 
 pub echo-few : (cookie : List ℕ) {xs ys : List ℕ} {n : ℕ} → Wrote xs (cookieEchoBytes cookie) n ys → n ≤ 260
 echo-few cookie w = omega (arith, wrote-most w, echo-within cookie)

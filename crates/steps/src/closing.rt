@@ -10,8 +10,9 @@ use states::State;
 ghost use mathlib.Core.Path.{_≡_};
 ghost use mathlib.Core.List.{[]};
 ghost use Rattle.octets.specs.Writing.{wroteBytes};
+ghost use Rattle.states.specs.declared.state.State.the-variants.{ShutdownAckSent};
 ghost use Rattle.steps.specs.Verdict.{doneIn, doneWith};
-ghost use Rattle.steps.specs.Closing.{becomeClosed, readError, heardShutdown, shutdownAcked, readShutdown, crossShutdown, repeatShutdownAck, reflectComplete, sendComplete, becomeComplete};
+ghost use Rattle.steps.specs.Closing.{becomeClosed, readError, heardShutdown, shutdownAcked, readShutdown, answerShutdown, reflectComplete, sendComplete, becomeComplete};
 
 // An ABORT: closed at once, and the rest of the packet is unread.
 pub fn become_closed(a: Association) -> Done
@@ -63,7 +64,7 @@ pub fn read_shutdown(mut a: Association, s: &[u8], space: &mut [u8]) -> Done
 
 // A SHUTDOWN that crosses ours.
 pub fn cross_shutdown(mut a: Association, s: &[u8], space: &mut [u8]) -> Done
-    ensures { λ r. ⌜ (r ≡ doneIn (now (space .entry)) (crossShutdown a (now (s .entry)))) × (now (space .exit) ≡ wroteBytes (now (space .entry)) (crossShutdown a (now (s .entry)) .reply)) ⌝ }
+    ensures { λ r. ⌜ (r ≡ doneIn (now (space .entry)) (answerShutdown a (ShutdownAckSent 0) (now (s .entry)))) × (now (space .exit) ≡ wroteBytes (now (space .entry)) (answerShutdown a (ShutdownAckSent 0) (now (s .entry)) .reply)) ⌝ }
 {
     let o = hear_shutdown(a, s);
     if o.number == 0 {
@@ -76,7 +77,7 @@ pub fn cross_shutdown(mut a: Association, s: &[u8], space: &mut [u8]) -> Done
 
 // A SHUTDOWN that comes again in SHUTDOWN-ACK-SENT: answered again, with the tries as they are.
 pub fn repeat_shutdown_ack(mut a: Association, s: &[u8], space: &mut [u8]) -> Done
-    ensures { λ r. ⌜ (r ≡ doneIn (now (space .entry)) (repeatShutdownAck a (now (s .entry)))) × (now (space .exit) ≡ wroteBytes (now (space .entry)) (repeatShutdownAck a (now (s .entry)) .reply)) ⌝ }
+    ensures { λ r. ⌜ (r ≡ doneIn (now (space .entry)) (answerShutdown a (a .state) (now (s .entry)))) × (now (space .exit) ≡ wroteBytes (now (space .entry)) (answerShutdown a (a .state) (now (s .entry)) .reply)) ⌝ }
 {
     let o = hear_shutdown(a, s);
     if o.number == 0 {

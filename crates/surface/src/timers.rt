@@ -4,7 +4,7 @@ use crate::answer::Answer;
 use crate::stored;
 use crate::stored::Stored;
 ghost use mathlib.Core.Path.{_≡_};
-ghost use Rattle.states.specs.declared.calls.Call.the-variants.{FirstTimer, SecondTimer};
+ghost use Rattle.states.specs.declared.call.Call.the-variants.{FirstTimer, SecondTimer};
 ghost use Rattle.calls.specs.Timers.{expiring, expiringThird, sampling};
 ghost use Rattle.surface.specs.Stored.{unpacked};
 ghost use Rattle.surface.specs.Answer.{Answered, AnsweredAlone};

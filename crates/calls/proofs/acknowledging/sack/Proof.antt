@@ -1,5 +1,5 @@
 use borrow.Author.Tests.{ne-eqb}
-use Rattle.states.specs.declared.calls.Call.the-variants.{Acknowledge}
+use Rattle.states.specs.declared.call.Call.the-variants.{Acknowledge}
 use Rattle.calls.specs.AnswerLaws.{roomy}
 use Rattle.calls.specs.Acknowledging.{acknowledged, acknowledgedOut}
 use Rattle.calls.specs.AcknowledgingLaws.{sack-done}

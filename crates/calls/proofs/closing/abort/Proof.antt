@@ -1,4 +1,4 @@
-use Rattle.states.specs.declared.calls.Call.the-variants.{Abort}
+use Rattle.states.specs.declared.call.Call.the-variants.{Abort}
 use Rattle.calls.specs.AnswerLaws.{roomy, done-refused, done-so}
 use Rattle.calls.specs.Closing.{aborting}
 use borrow.Author.Needs.{needs}

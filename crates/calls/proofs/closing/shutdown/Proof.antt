@@ -1,4 +1,4 @@
-use Rattle.states.specs.declared.calls.Call.the-variants.{Shutdown}
+use Rattle.states.specs.declared.call.Call.the-variants.{Shutdown}
 use Rattle.calls.specs.AnswerLaws.{roomy, told-as, done-quiet, done-sent, done-refused, done-so}
 use Rattle.calls.specs.Closing.{shutting}
 use borrow.Author.Needs.{needs}

@@ -1,7 +1,8 @@
 use mathlib.Core.Path.{sym, _∙_}
-use Rattle.states.specs.declared.calls.Call.the-variants.{Associate}
-use Rattle.calls.specs.Answer.{earlier}
-use Rattle.calls.specs.AnswerLaws.{roomy, earlier-none, done-sent, done-refused, done-so}
+use Rattle.states.specs.declared.call.Call.the-variants.{Associate}
+use Rattle.association.specs.Bounds.{earlier}
+use Rattle.association.specs.BoundsLaws.{earlier-none}
+use Rattle.calls.specs.AnswerLaws.{roomy, done-sent, done-refused, done-so}
 use Rattle.calls.specs.Opening.{associating}
 use borrow.Author.Needs.{needs}
 use Rattle.calls.proofs.opening.associate.Statement.{statement}
@@ -21,7 +22,7 @@ waiting-requires c κs = search needs
 
 send-init-requires : tie.Need-send-init-requires
 unfolding associating
-send-init-requires c κs = roomy (c .before .before .before .before .before .before .before .args .a) (c .before .before .before .before .before .before .before .args .out .now) Associate (c .before .before .before .before .before .bar .ensures) (earlier-none _ _ (sym (c .before .before .before .earlier .ensures) ∙ c .before .before .if1 .taken))
+send-init-requires c κs = roomy (c .before .before .before .before .before .before .before .args .a) (c .before .before .before .before .before .before .before .args .out .now) Associate (c .before .before .before .before .before .bar .ensures) (earlier-none _ _ (sym (c .before .before .before .earlier .ensures) ∙ c .before .before .if1 .taken) .0)
 
 told-requires : tie.Need-told-requires
 told-requires c κs = search needs

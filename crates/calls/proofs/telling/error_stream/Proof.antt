@@ -1,5 +1,5 @@
 use mathlib.Core.Path.{refl}
-use Rattle.states.specs.declared.calls.Call.the-variants.{Acknowledge}
+use Rattle.states.specs.declared.call.Call.the-variants.{Acknowledge}
 use Rattle.calls.specs.PacketLaws.{sent-as}
 use Rattle.calls.specs.AnswerLaws.{roomy, done-sent, done-refused, done-so}
 use Rattle.calls.specs.Telling.{tellingStream}

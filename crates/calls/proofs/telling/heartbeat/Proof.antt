@@ -1,4 +1,4 @@
-use Rattle.states.specs.declared.calls.Call.the-variants.{Heartbeat}
+use Rattle.states.specs.declared.call.Call.the-variants.{Heartbeat}
 use Rattle.calls.specs.AnswerLaws.{roomy, done-sent, done-refused, done-so}
 use Rattle.calls.specs.Telling.{beating}
 use borrow.Author.Needs.{needs}

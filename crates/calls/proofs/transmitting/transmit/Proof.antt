@@ -1,7 +1,7 @@
 use mathlib.Core.Path.{ap, _∙_}
 use mathlib.Core.Bool.{Bool}
 use borrow.Author.Tests.{ne-eqb}
-use Rattle.states.specs.declared.calls.Call.the-variants.{Transmit}
+use Rattle.states.specs.declared.call.Call.the-variants.{Transmit}
 use Rattle.calls.specs.Answer.{barred}
 use Rattle.calls.specs.Transmit.{transmitted, transmittedOut}
 use Rattle.calls.specs.TransmitLaws.{both-roomy, transmit-done}

@@ -1,6 +1,6 @@
 use borrow.Author.Tests.{eq-eqb, ne-eqb}
 use Rattle.octets.specs.WritingLaws.{wrote-none}
-use Rattle.steps.specs.Closing.{crossShutdown}
+use Rattle.steps.specs.Closing.{answerShutdown}
 use borrow.Author.Needs.{needs}
 use Rattle.steps.proofs.closing.cross_shutdown.Statement.{statement}
 use Rattle.steps.proofs.closing.cross_shutdown.Tie as tie
@@ -25,7 +25,7 @@ same-length c = search needs
 
 -- src/closing.rt:76:9
 returns : tie.Need-returns
-unfolding crossShutdown
+unfolding answerShutdown
 returns c = (rw (← c .before .before .before .before .before .before .before .hear-shutdown .ensures, eq-eqb _ _ (c .before .before .before .before .before .if1 .taken)) (c .before .before .acknowledge-shutdown .ensures .0), rw (← c .before .before .before .before .before .before .before .hear-shutdown .ensures, eq-eqb _ _ (c .before .before .before .before .before .if1 .taken)) (c .before .before .acknowledge-shutdown .ensures .1))
 
 -- src/closing.rt:78:32
@@ -38,7 +38,7 @@ refused-requires c κs = search needs
 
 -- src/closing.rt:69:1
 returns-2 : tie.Need-returns-2
-unfolding crossShutdown
+unfolding answerShutdown
 returns-2 c = (rw (← c .before .before .before .before .hear-shutdown .ensures, ne-eqb _ _ (c .before .before .if1 .left), ← c .before .sack-call .ensures, ← wrote-none (c .before .before .before .before .before .before .before .args .space .now) .count) (c .refused .ensures), rw (← c .before .before .before .before .hear-shutdown .ensures, ne-eqb _ _ (c .before .before .if1 .left)) (wrote-none (c .before .before .before .before .before .before .before .args .space .now) .bytes))
 
 pub cross-shutdown-spec : {M : Type 1} → statement M

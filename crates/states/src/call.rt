@@ -1,7 +1,9 @@
 // Which calls of the host are for which state.
 use crate::state::State;
 ghost use mathlib.Core.Path.{_≡_};
-ghost use Rattle.states.specs.Calls.{associateIn, handInIn, transmitIn, acknowledgeIn, firstTimerIn, secondTimerIn, thirdTimerIn, shutdownIn, abortIn, heartbeatIn, sampleIn, tellStaleIn, permitted};
+ghost use mathlib.Core.Bool.{not};
+ghost use Rattle.states.specs.Tries.{isClosed};
+ghost use Rattle.states.specs.Calls.{isEstablished, readsData, readsSack, firstTimerIn, secondTimerIn, permitted};
 
 // The calls that a state may refuse (7). `take` is for every state.
 pub enum Call {
@@ -20,7 +22,7 @@ pub enum Call {
 }
 
 fn associate_in(s: State) -> bool
-    ensures { λ r. ⌜ r ≡ associateIn s ⌝ }
+    ensures { λ r. ⌜ r ≡ isClosed s ⌝ }
 {
     match s {
         State::Closed => true,
@@ -35,7 +37,7 @@ fn associate_in(s: State) -> bool
 }
 
 fn hand_in_in(s: State) -> bool
-    ensures { λ r. ⌜ r ≡ handInIn s ⌝ }
+    ensures { λ r. ⌜ r ≡ isEstablished s ⌝ }
 {
     match s {
         State::Closed => false,
@@ -50,7 +52,7 @@ fn hand_in_in(s: State) -> bool
 }
 
 fn transmit_in(s: State) -> bool
-    ensures { λ r. ⌜ r ≡ transmitIn s ⌝ }
+    ensures { λ r. ⌜ r ≡ readsSack s ⌝ }
 {
     match s {
         State::Closed => false,
@@ -65,7 +67,7 @@ fn transmit_in(s: State) -> bool
 }
 
 fn acknowledge_in(s: State) -> bool
-    ensures { λ r. ⌜ r ≡ acknowledgeIn s ⌝ }
+    ensures { λ r. ⌜ r ≡ readsData s ⌝ }
 {
     match s {
         State::Closed => false,
@@ -110,7 +112,7 @@ fn second_timer_in(s: State) -> bool
 }
 
 fn third_timer_in(s: State) -> bool
-    ensures { λ r. ⌜ r ≡ thirdTimerIn s ⌝ }
+    ensures { λ r. ⌜ r ≡ readsSack s ⌝ }
 {
     match s {
         State::Closed => false,
@@ -125,7 +127,7 @@ fn third_timer_in(s: State) -> bool
 }
 
 fn shutdown_in(s: State) -> bool
-    ensures { λ r. ⌜ r ≡ shutdownIn s ⌝ }
+    ensures { λ r. ⌜ r ≡ isEstablished s ⌝ }
 {
     match s {
         State::Closed => false,
@@ -140,7 +142,7 @@ fn shutdown_in(s: State) -> bool
 }
 
 fn abort_in(s: State) -> bool
-    ensures { λ r. ⌜ r ≡ abortIn s ⌝ }
+    ensures { λ r. ⌜ r ≡ not (isClosed s) ⌝ }
 {
     match s {
         State::Closed => false,
@@ -155,7 +157,7 @@ fn abort_in(s: State) -> bool
 }
 
 fn heartbeat_in(s: State) -> bool
-    ensures { λ r. ⌜ r ≡ heartbeatIn s ⌝ }
+    ensures { λ r. ⌜ r ≡ readsSack s ⌝ }
 {
     match s {
         State::Closed => false,
@@ -170,7 +172,7 @@ fn heartbeat_in(s: State) -> bool
 }
 
 fn sample_in(s: State) -> bool
-    ensures { λ r. ⌜ r ≡ sampleIn s ⌝ }
+    ensures { λ r. ⌜ r ≡ not (isClosed s) ⌝ }
 {
     match s {
         State::Closed => false,
@@ -185,7 +187,7 @@ fn sample_in(s: State) -> bool
 }
 
 fn tell_stale_in(s: State) -> bool
-    ensures { λ r. ⌜ r ≡ tellStaleIn s ⌝ }
+    ensures { λ r. ⌜ r ≡ isClosed s ⌝ }
 {
     match s {
         State::Closed => true,
