@@ -6,11 +6,12 @@ use mathlib.Core.List.{List, [], _∷_, _++_}
 use native.Mathlib.Numerals.{add-one}
 use native.Mathlib.Omega.{arith}
 use native.Mathlib.Decide.{ℕ-discrete}
-use borrow.Author.Tests.{le-ltb, lt-leb, ltb-false, leb-false}
+use borrow.Author.Tests.{lt-ltb, le-ltb, lt-leb, ltb-false, leb-false}
 use lib.ListN.{length, take, drop, set, replicate, getD, length-replicate, length-set, take-append-drop}
 use lib.Seq.{take-suc, getD-set-same, getD-set-other, take-all}
 use lib.Dec.{ltb, leb, eqb}
 use Rattle.numbers.specs.declared.circle.Distance.{Distance}
+use Rattle.numbers.specs.declared.keeping.Keeping.{Keeping}
 use Rattle.numbers.specs.declared.circle.Distance.the-variants.{Ahead, Behind, Opposite}
 use Rattle.numbers.specs.Numbering.{Numbering, ring, on, far, on-far}
 use Rattle.numbers.specs.Profile.{Profile, isMisfit, misfit-fits, fits-misfit}
@@ -25,7 +26,7 @@ use Rattle.scans.specs.Upto.{anyUpto, Trying, try-start, try-yes, try-no, try-e
 use Rattle.holding.specs.declared.held.Held.{Held}
 use Rattle.holding.specs.Held.{noHeld, holds, holds-is, is-held, holds-unused, holds-other, count-holds}
 use Rattle.delivery.specs.declared.receiving.Receiving.{Receiving}
-use Rattle.delivery.specs.Receiving.{lowOf}
+use Rattle.delivery.specs.Receiving.{isLow, lowOf}
 use Rattle.delivery.specs.Bounds.{isUsed, numberIn, heldNumbers, Fit, Sound, isUnfit, isSecond, isTwice, isSound}
 
 -- ---- the numbers noted by their slot
@@ -174,6 +175,46 @@ module _ {n base : ℕ} {hs : List Held} {m : ℕ} {seen : List Bool} {i : ℕ} 
         noted = note-far (w .noted) (inside h) e l;
         tried = try-no (w .tried) h (second-far (w .noted) (inside h) u b ∙ q);
       }
+
+-- ---- one pass over the held chunks
+
+-- how many are low, and more than may be where one is unfit or a number is held twice
+abbrev pub weightOf : Numbering → Profile → Keeping → List Held → ℕ
+weightOf T P k hs = pick (any (isUnfit P) hs) (P .places + 1) (pick (isTwice hs) (P .places + 1) (count (isLow T k) hs))
+
+module _ (T : Numbering) (P : Profile) (k : Keeping) (hs : List Held) where
+  pub weight-unfit : true ≡ any (isUnfit P) hs → P .places + 1 ≡ weightOf T P k hs
+  weight-unfit e = rw (← e)
+
+  pub weight-twice : true ≡ isTwice hs → P .places + 1 ≡ weightOf T P k hs
+  weight-twice e = go (any (isUnfit P) hs)
+    where
+      go : (t : Bool) → P .places + 1 ≡ pick t (P .places + 1) (pick (isTwice hs) (P .places + 1) (count (isLow T k) hs))
+      go true = refl
+      go false = rw (← e)
+
+  pub weight-fit : false ≡ any (isUnfit P) hs → false ≡ isTwice hs → {n : ℕ} → n ≡ count (isLow T k) hs → n ≡ weightOf T P k hs
+  weight-fit e f g = rw (← e, ← f) g
+
+-- a record that weighs too much is outside its bounds
+pub sound-weighed : (T : Numbering) (P : Profile) (r : Receiving)
+    → isSound T P r ≡ pick (not (keepingSound P (r .keeping))) false (pick (ltb (P .places) (highestOf (r .keeping) + weightOf T P (r .keeping) (r .held))) false true)
+unfolding isSound lowOf
+sound-weighed T P r = ap (pick (not (keepingSound P (r .keeping))) false) (go (any (isUnfit P) (r .held)) (isTwice (r .held)))
+  where
+    over : (x : ℕ) → ltb (P .places) (x + (P .places + 1)) ≡ true
+    over x = lt-ltb (P .places) (x + (P .places + 1)) (omega arith)
+
+    never : (t : Bool) → pick t false false ≡ false
+    never true = refl
+    never false = refl
+
+    go : (a b : Bool)
+        → pick a false (pick (ltb (P .places) (highestOf (r .keeping) + count (isLow T (r .keeping)) (r .held))) false (not b))
+        ≡ pick (ltb (P .places) (highestOf (r .keeping) + pick a (P .places + 1) (pick b (P .places + 1) (count (isLow T (r .keeping)) (r .held))))) false true
+    go true b = rw (over (highestOf (r .keeping)))
+    go false true = rw (over (highestOf (r .keeping))) (never (ltb (P .places) (highestOf (r .keeping) + count (isLow T (r .keeping)) (r .held))))
+    go false false = refl
 
 -- ---- the test says what the bounds say
 

@@ -3,6 +3,7 @@ use crate::receiving;
 use crate::receiving::Receiving;
 use holding::Held;
 use numbers::Distance;
+use numbers::Keeping;
 use numbers::Rail;
 use numbers::Tsn;
 ghost use mathlib.Core.Path.{_≡_};
@@ -12,13 +13,16 @@ ghost use Rattle.numbers.specs.Numbering.{ring, far};
 ghost use Rattle.numbers.specs.Profile.{rail};
 ghost use Rattle.scans.specs.Scan.{any};
 ghost use Rattle.holding.specs.Held.{holds};
-ghost use Rattle.delivery.specs.Bounds.{isUnfit, isTwice, isSound};
-ghost use Rattle.delivery.specs.BoundsLaws.{slotOf};
+ghost use Rattle.delivery.specs.Bounds.{isUnfit, isSound};
+ghost use Rattle.delivery.specs.BoundsLaws.{slotOf, weightOf};
 
 // How far before the point a number may lie for the test to look at it once only, and how many numbers there are from there.
 const BEFORE: u32 = 4294967040;
 
 const NEAR: usize = 512;
+
+// More low chunks than there are places.
+const TOO_MANY: usize = 129;
 
 // A chunk is held here whose length or stream is outside the bounds.
 fn is_unfit(h: Held) -> bool
@@ -32,20 +36,6 @@ fn is_unfit(h: Held) -> bool
             return true;
         }
         return Rail::STREAMS <= h.stream.0 as usize;
-    }
-    false
-}
-
-fn has_unfit(held: [Held; Rail::PLACES]) -> bool
-    ensures { λ y. ⌜ y ≡ any (isUnfit rail) held ⌝ }
-{
-    let mut i: usize = 0;
-    while i < Rail::PLACES {
-        let h = held[i];
-        if is_unfit(h) {
-            return true;
-        }
-        i += 1;
     }
     false
 }
@@ -77,27 +67,34 @@ fn is_held_before(held: [Held; Rail::PLACES], place: usize, tsn: Tsn) -> bool
     false
 }
 
-// Whether a number is held twice. A number near the point is looked up where it was noted; only others are compared with all before them.
-fn has_twice(held: [Held; Rail::PLACES], point: Tsn) -> bool
-    ensures { λ y. ⌜ y ≡ isTwice held ⌝ }
+// How many held chunks are low; more than may be where one is unfit or a number is held twice. One pass: a pass for each would copy the held chunks
+// for each. A number near the point is looked up where it was noted; only others are compared with all before them.
+fn weight(keeping: Keeping, held: [Held; Rail::PLACES]) -> usize
+    ensures { λ n. ⌜ (n ≡ weightOf (ring (2 ^ 32)) rail keeping held) × (n ≤ 129) ⌝ }
 {
+    let point = keeping.point;
     let base = point.after(BEFORE);
+    let mut low: usize = 0;
     let mut seen = [false; NEAR];
     let mut i: usize = 0;
     while i < Rail::PLACES {
         let h = held[i];
+        if is_unfit(h) {
+            return TOO_MANY;
+        }
+        low += receiving::is_low(keeping, h) as usize;
         if h.used {
             let tsn = h.tsn;
             let d = slot(base, tsn);
             if d < NEAR {
                 if seen[d] {
-                    return true;
+                    return TOO_MANY;
                 }
                 seen[d] = true;
                 i += 1;
             } else {
                 if is_held_before(held, i, tsn) {
-                    return true;
+                    return TOO_MANY;
                 }
                 i += 1;
             }
@@ -105,7 +102,7 @@ fn has_twice(held: [Held; Rail::PLACES], point: Tsn) -> bool
             i += 1;
         }
     }
-    false
+    low
 }
 
 impl Receiving {
@@ -113,17 +110,14 @@ impl Receiving {
         ensures { λ y. ⌜ y ≡ isSound (ring (2 ^ 32)) rail self ⌝ }
     {
         let keeping = self.keeping;
-        let held = self.held;
         if !keeping.within_bounds() {
             return false;
         }
-        if has_unfit(held) {
+        let held = self.held;
+        let n = weight(keeping, held);
+        if Rail::PLACES < keeping.highest() + n {
             return false;
         }
-        if Rail::PLACES < keeping.highest() + receiving::low(keeping, held) {
-            return false;
-        }
-        let point = keeping.point;
-        !has_twice(held, point)
+        true
     }
 }

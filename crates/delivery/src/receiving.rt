@@ -27,7 +27,7 @@ pub struct Taken {
 }
 
 // Whether the place holds a chunk whose offset is not marked come.
-fn is_low(keeping: Keeping, h: Held) -> bool
+pub(crate) fn is_low(keeping: Keeping, h: Held) -> bool
     ensures { λ y. ⌜ y ≡ isLow (ring (2 ^ 32)) keeping h ⌝ }
 {
     if h.used {

@@ -6,7 +6,6 @@ use Rattle.places.proofs.all.missed_all.Reads as missed-all-reads
 use Rattle.places.proofs.all.tallied.Reads as tallied-reads
 use Rattle.places.proofs.all.marked_all.Reads as marked-all-reads
 use Rattle.places.proofs.all.having.Reads as having-reads
-use Rattle.places.proofs.all.sent.Reads as sent-reads
 use Rattle.places.proofs.all.is_empty.Reads as is-empty-reads
 use Rattle.places.proofs.blocks.is_blocked.Reads as is-blocked-reads
 use Rattle.places.proofs.blocks.any_ill.Reads as any-ill-reads
@@ -42,9 +41,6 @@ marked-all-unique κs a r q s t x y = x ∙ sym y
 
 pub having-unique : (κs : _) (a : _) (r q : _) (s t : _) → having-reads.Post κs a r s → having-reads.Post κs a q t → r ≡ q
 having-unique κs a r q s t x y = x .0 ∙ sym (y .0)
-
-pub sent-unique : (κs : _) (a : _) (r q : _) (s t : _) → sent-reads.Post κs a r s → sent-reads.Post κs a q t → r ≡ q
-sent-unique κs a r q s t x y = x .0 ∙ sym (y .0)
 
 pub is-empty-unique : (κs : _) (a : _) (r q : _) (s t : _) → is-empty-reads.Post κs a r s → is-empty-reads.Post κs a q t → r ≡ q
 is-empty-unique κs a r q s t x y = x ∙ sym y

@@ -7,7 +7,7 @@ ghost use mathlib.Core.Path.{_≡_};
 ghost use mathlib.Core.List.{map};
 ghost use Prim.Native.Nat.{_≤_};
 ghost use Rattle.scans.specs.Scan.{either, count};
-ghost use Rattle.places.specs.Places.{marked, hasStatus, isSent, tallied, missedAll, isEmpty};
+ghost use Rattle.places.specs.Places.{marked, hasStatus, tallied, missedAll, isEmpty};
 ghost use Rattle.places.specs.Sack.{takenIn};
 
 // What a SACK takes in: the places after it, the bytes newly acknowledged, and the offset of the highest of them.
@@ -123,24 +123,6 @@ pub fn having(places: [Place; Rail::PLACES], status: u8) -> usize
     while i < Rail::PLACES {
         let p = places[i];
         if p.status == status {
-            n += 1;
-            i += 1;
-        } else {
-            i += 1;
-        }
-    }
-    n
-}
-
-// How many are sent.
-pub fn sent(places: [Place; Rail::PLACES]) -> usize
-    ensures { λ r. ⌜ (r ≡ count isSent places) × (r ≤ 128) ⌝ }
-{
-    let mut n: usize = 0;
-    let mut i: usize = 0;
-    while i < Rail::PLACES {
-        let p = places[i];
-        if p.is_sent() {
             n += 1;
             i += 1;
         } else {

@@ -72,7 +72,7 @@ module _ (P : Profile) where
       go (no a) (no b) = noted seen k j l h (omega arith) (omega arith)
 
   module _ (sent : Bool) (acked : Tsn) (oldest : ℕ) where
-    abbrev noting : List Bool → ℕ → Place → List Bool
+    abbrev pub noting : List Bool → ℕ → Place → List Bool
     noting seen i p = markedBy P seen (keyOf sent acked oldest p)
 
     seen-long : (seen : List Bool) (i : ℕ) (ps : List Place) → length (foldFrom noting seen i ps) ≡ length seen

@@ -11,6 +11,7 @@ pub mod Bounds
 pub mod Laws
 pub mod ChooseLaws
 pub mod BoundsLaws
+pub mod Survey
 pub mod SoundLaws
 pub mod AcknowledgeLaws
 pub mod ChooseSound

@@ -1,15 +1,30 @@
-// The bounds of a sending record, tested in one pass for each.
+// The bounds of a sending record, tested in one pass over its places.
 use crate::sending::Sending;
 use numbers::Rail;
 use numbers::Tsn;
 use places::Place;
 ghost use mathlib.Core.Path.{_≡_};
-ghost use mathlib.Core.Bool.{not};
+ghost use mathlib.Core.Bool.{false, not};
 ghost use Prim.Native.Nat.{_≤_};
-ghost use Rattle.scans.specs.Scan.{any, pick};
+ghost use lib.Dec.{eqb};
+ghost use Rattle.scans.specs.Scan.{either, pick};
 ghost use Rattle.path.specs.Sizes.{railSizes};
 ghost use Rattle.numbers.specs.Profile.{rail};
-ghost use Rattle.sending.specs.Bounds.{isOdd, keyOf, spotOf, seenOf, isGap, hasGap, membersOf, isSuccessive, isWithin};
+ghost use Rattle.sending.specs.Bounds.{isOdd, keyOf, spotOf, hasGap, isWithin};
+ghost use Rattle.sending.specs.Survey.{Surveyed};
+
+// The numbers 1 to 128, and one spot for all others.
+const SPOTS: usize = 129;
+
+// The flight, whether a place is outside its bounds, how many are sent and how many wait, and which of the numbers from 1 on each of the two have.
+struct Survey {
+    flight: u32,
+    odd: bool,
+    sent: usize,
+    waiting: usize,
+    seen_sent: [bool; SPOTS],
+    seen_waiting: [bool; SPOTS],
+}
 
 // Whether a place is outside its bounds.
 fn is_odd(p: Place) -> bool
@@ -34,18 +49,14 @@ fn is_odd(p: Place) -> bool
     Rail::STREAMS <= stream.0 as usize
 }
 
-fn any_odd(places: [Place; Rail::PLACES]) -> bool
-    ensures { λ r. ⌜ r ≡ any (isOdd rail) places ⌝ }
+// Whether one was, or this one is.
+fn or_odd(odd: bool, p: Place) -> bool
+    ensures { λ r. ⌜ r ≡ either odd (isOdd rail p) ⌝ }
 {
-    let mut i: usize = 0;
-    while i < Rail::PLACES {
-        let p = places[i];
-        if is_odd(p) {
-            return true;
-        }
-        i += 1;
+    if odd {
+        return true;
     }
-    false
+    is_odd(p)
 }
 
 // Which one a chunk is, counted from 1: of those sent, from our point on; of those that wait, from the one that waits longest.
@@ -64,9 +75,9 @@ fn key_of(p: Place, sent: bool, acked: Tsn, oldest: u32) -> u64
     0
 }
 
-// Where the number k is noted: nowhere, if there is no such place.
+// Where the number k is noted: at the last spot, which is no place's, if there is no such place.
 fn spot_of(k: u64) -> usize
-    ensures { λ r. ⌜ r ≡ spotOf rail k ⌝ }
+    ensures { λ r. ⌜ (r ≡ spotOf rail k) × (r ≤ 128) ⌝ }
 {
     if k < 1 {
         return Rail::PLACES;
@@ -77,33 +88,41 @@ fn spot_of(k: u64) -> usize
     (k - 1) as usize
 }
 
-// Which of the numbers from 1 on are there.
-fn seen_of(
-    places: [Place; Rail::PLACES],
-    sent: bool,
-    acked: Tsn,
-    oldest: u32,
-) -> [bool; Rail::PLACES]
-    ensures { λ r. ⌜ r ≡ seenOf rail sent acked oldest places ⌝ }
+// What one pass finds: a pass for each test would copy the places for each.
+fn survey_of(places: [Place; Rail::PLACES], acked: Tsn, oldest: u32) -> Survey
+    ensures { λ r. ⌜ Surveyed rail acked oldest places r ⌝ }
 {
-    let mut seen = [false; Rail::PLACES];
+    let mut flight: u32 = 0;
+    let mut odd = false;
+    let mut sent: usize = 0;
+    let mut waiting: usize = 0;
+    let mut seen_sent = [false; SPOTS];
+    let mut seen_waiting = [false; SPOTS];
     let mut i: usize = 0;
     while i < Rail::PLACES {
         let p = places[i];
-        let k = key_of(p, sent, acked, oldest);
-        let j = spot_of(k);
-        if j < Rail::PLACES {
-            seen[j] = true;
-            i += 1;
-        } else {
-            i += 1;
-        }
+        flight += p.flight();
+        odd = or_odd(odd, p);
+        sent += p.is_sent() as usize;
+        waiting += (p.status == Place::WAITING) as usize;
+        let j = spot_of(key_of(p, true, acked, oldest));
+        seen_sent[j] = true;
+        let k = spot_of(key_of(p, false, acked, oldest));
+        seen_waiting[k] = true;
+        i += 1;
     }
-    seen
+    Survey {
+        flight: flight,
+        odd: odd,
+        sent: sent,
+        waiting: waiting,
+        seen_sent: seen_sent,
+        seen_waiting: seen_waiting,
+    }
 }
 
 // Whether one of the first n is missing.
-fn has_gap(seen: [bool; Rail::PLACES], n: usize) -> bool
+fn has_gap(seen: [bool; SPOTS], n: usize) -> bool
     requires { ⌜ n ≤ 128 ⌝ }
     ensures { λ r. ⌜ r ≡ hasGap seen n ⌝ }
 {
@@ -118,24 +137,13 @@ fn has_gap(seen: [bool; Rail::PLACES], n: usize) -> bool
     false
 }
 
-fn members(places: [Place; Rail::PLACES], sent: bool) -> usize
-    ensures { λ r. ⌜ (r ≡ membersOf sent places) × (r ≤ 128) ⌝ }
-{
-    if sent {
-        return places::all::sent(places);
-    }
-    places::all::having(places, Place::WAITING)
-}
-
 // Whether there are n, and each of the numbers 1 to n is among theirs.
-fn is_successive(s: Sending, sent: bool, n: u32) -> bool
-    ensures { λ r. ⌜ r ≡ isSuccessive rail s sent n ⌝ }
+fn is_successive(seen: [bool; SPOTS], many: usize, n: u32) -> bool
+    requires { ⌜ many ≤ 128 ⌝ }
+    ensures { λ r. ⌜ r ≡ pick (eqb many n) (not (hasGap seen n)) false ⌝ }
 {
-    let ps = s.places;
-    let m = members(ps, sent);
-    if m == n as usize {
-        let seen = seen_of(ps, sent, s.acked, s.oldest);
-        return !has_gap(seen, m);
+    if many == n as usize {
+        return !has_gap(seen, many);
     }
     false
 }
@@ -145,20 +153,21 @@ pub fn is_within(s: Sending) -> bool
     ensures { λ r. ⌜ r ≡ isWithin railSizes rail s ⌝ }
 {
     let p = s.path;
-    let ps = s.places;
     if p.is_within() {
-        let w = places::all::tallied(ps, s.acked);
-        if w.flight == p.flight {
-            if any_odd(ps) {
+        let ps = s.places;
+        let v = survey_of(ps, s.acked, s.oldest);
+        if v.flight == p.flight {
+            if v.odd {
                 return false;
             }
             let d = places::place::ahead(s.acked, s.next_tsn);
             if d < 1 {
                 return false;
             }
-            if is_successive(s, true, s.room()) {
-                let waiting = members(ps, false);
-                return is_successive(s, false, waiting as u32);
+            let sent = v.seen_sent;
+            if is_successive(sent, v.sent, s.room()) {
+                let waiting = v.seen_waiting;
+                return is_successive(waiting, v.waiting, v.waiting as u32);
             }
             return false;
         }
