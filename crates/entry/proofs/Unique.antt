@@ -10,16 +10,12 @@ use ghost.Atoms.{Atoms}
 use contract.Monad.{Fun, conj, fact, factI, fact-use}
 use denote.Laws.{both-say}
 use denote.Ref.{now}
-use Rattle.entry.specs.Event.{eventOf}
+use Rattle.events.specs.Event.{eventOf}
 use Rattle.entry.specs.Happening.{Left, lent, happened}
 use Rattle.entry.specs.HappeningLaws.{Served, served-one}
-use Rattle.entry.proofs.event.Event.of.Reads as of-reads
 use Rattle.entry.proofs.happening.happen as happen
 use Rattle.entry.proofs.running.run.Reads as run-reads
 use Rattle.entry.proofs.running.run_coded.Reads as run-coded-reads
-
-pub of-unique : (κs : _) (a : _) (r q : _) (s t : _) → of-reads.Post κs a r s → of-reads.Post κs a q t → r ≡ q
-of-unique κs a r q s t x y = x ∙ sym y
 
 pub run-unique : (κs : _) (a : _) (r q : _) (s t : _) → run-reads.Post κs a r s → run-reads.Post κs a q t → (r ≡ q) × (now (s .1 .1 .0) ≡ now (t .1 .1 .0)) × (now (s .1 .1 .1 .0) ≡ now (t .1 .1 .1 .0)) × (now (s .1 .1 .1 .1 .1 .1 .0) ≡ now (t .1 .1 .1 .1 .1 .1 .0))
 run-unique κs a r q s t x y = (x .0 ∙ sym (y .0), x .1 .0 ∙ sym (y .1 .0), x .1 .1 .0 ∙ sym (y .1 .1 .0), x .1 .1 .1 ∙ sym (y .1 .1 .1))

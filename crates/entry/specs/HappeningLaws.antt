@@ -5,9 +5,9 @@ use mathlib.Core.List.{List, []}
 use Rattle.association.specs.declared.ends.Association.{Association}
 use Rattle.calls.specs.declared.answer.Answer.{Answer}
 use Rattle.calls.specs.Answer.{Plan, answerOf, outOf, Done, Kept}
-use Rattle.entry.specs.declared.told.Told.{Told}
-use Rattle.entry.specs.declared.told.Ran.{Ran}
-use Rattle.entry.specs.Told.{ofAnswer}
+use Rattle.events.specs.declared.told.Told.{Told}
+use Rattle.events.specs.declared.told.Ran.{Ran}
+use Rattle.events.specs.Told.{ofAnswer}
 use Rattle.entry.specs.Happening.{Left}
 
 -- a call goes as planned, and its answer is told

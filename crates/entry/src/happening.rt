@@ -1,8 +1,8 @@
 // The thin entry. Its proof is a walk over its MIR, which `tools/gen_entry` writes from `tools/entry.json`.
 use crate::running;
-use crate::told::Told;
 use association::Association;
-ghost use Rattle.entry.specs.Event.{eventOf};
+use events::Told;
+ghost use Rattle.events.specs.Event.{eventOf};
 ghost use Rattle.entry.specs.Happening.{lent, happened};
 ghost use Rattle.entry.specs.HappeningLaws.{Served};
 

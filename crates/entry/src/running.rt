@@ -1,9 +1,9 @@
 // The by-value step: any event, by the call that serves it.
-use crate::event::Event;
-use crate::told;
-use crate::told::Ran;
 use association::Association;
 use calls::Reason;
+use events::Event;
+use events::Ran;
+use events::told;
 use numbers::StreamId;
 use numbers::Tsn;
 use steps::Echoed;
@@ -22,8 +22,8 @@ ghost use Rattle.calls.specs.Acknowledging.{acknowledged, acknowledgedOut};
 ghost use Rattle.calls.specs.Timers.{expiring, expiringThird, sampling};
 ghost use Rattle.calls.specs.Closing.{shutting, aborting};
 ghost use Rattle.calls.specs.Telling.{tellingStream, tellingStale, beating};
-ghost use Rattle.entry.specs.Event.{eventOf};
-ghost use Rattle.entry.specs.Told.{plainly, ofAnswer, ofHandedIn, ofTransmitted, ofAcknowledged, ofDelivered, ofArrived};
+ghost use Rattle.events.specs.Event.{eventOf};
+ghost use Rattle.events.specs.Told.{plainly, ofAnswer, ofHandedIn, ofTransmitted, ofAcknowledged, ofDelivered, ofArrived};
 ghost use Rattle.entry.specs.Happening.{lent, halves, unknownNumber, happened};
 ghost use Rattle.entry.specs.HappeningLaws.{Followed};
 

@@ -5,16 +5,16 @@ use mathlib.Core.Path.{_≡_, refl}
 use mathlib.Core.List.{List, [], _∷_}
 use mir.Syntax.{Ty, tyInt, tyBool, tyFloat, tyPtr, tyRef, tyArray, tyUnit, tyStruct, tyEnum, tyNamed, Tys, tnil, tcons}
 use prog.Memory.{align, size, up}
-use Rattle.surface.proofs.stored.Stored.Laws as S′
-use Rattle.surface.proofs.answer.Answer.Laws as A′
-use Rattle.surface.proofs.peeking.Peeked.Laws as P′
+use Rattle.stored.proofs.kept.Stored.Laws as S′
+use Rattle.stored.proofs.answer.Answer.Laws as A′
+use Rattle.stored.proofs.seen.Peeked.Laws as P′
 use Rattle.surface.proofs.messages.HandedIn.Laws as H′
 use Rattle.surface.proofs.messages.Delivered.Laws as D′
 use Rattle.surface.proofs.transmitting.Transmitted.Laws as T′
 use Rattle.surface.proofs.acknowledging.Acknowledged.Laws as K′
 use Rattle.surface.proofs.telling.Value.Laws as V′
 use Rattle.surface.proofs.arrival.Arrived.Laws as R′
-use Rattle.surface.proofs.arrival.Word.Laws as W′
+use Rattle.stored.proofs.word.Word.Laws as W′
 use Rattle.steps.proofs.lent.Lent.Laws as L′
 
 -- the fields of a struct; of an array, its element

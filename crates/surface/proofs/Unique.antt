@@ -1,10 +1,7 @@
 -- Each promise leaves one outcome: two results, and two contents of a lent buffer, that a contract allows are equal. Assumes nothing.
 use mathlib.Core.Path.{_≡_, sym, _∙_}
 use denote.Ref.{now}
-use Rattle.surface.specs.AnswerLaws.{answered-one, alone-one}
-use Rattle.surface.proofs.stored.is_named.Reads as is-named-reads
-use Rattle.surface.proofs.stored.unpack.Reads as unpack-reads
-use Rattle.surface.proofs.stored.pack.Reads as pack-reads
+use Rattle.stored.specs.AnswerLaws.{answered-one, alone-one}
 use Rattle.surface.proofs.opening.ow_closed.Reads as closed-reads
 use Rattle.surface.proofs.opening.ow_associate.Reads as associate-reads
 use Rattle.surface.proofs.peeking.ow_peek.Reads as peek-reads
@@ -22,15 +19,6 @@ use Rattle.surface.proofs.closing.ow_abort.Reads as abort-reads
 use Rattle.surface.proofs.telling.ow_error_stream.Reads as error-stream-reads
 use Rattle.surface.proofs.telling.ow_error_stale.Reads as error-stale-reads
 use Rattle.surface.proofs.telling.ow_heartbeat.Reads as heartbeat-reads
-
-pub is-named-unique : (κs : _) (a : _) (r q : _) (s t : _) → is-named-reads.Post κs a r s → is-named-reads.Post κs a q t → r ≡ q
-is-named-unique κs a r q s t x y = x ∙ sym y
-
-pub unpack-unique : (κs : _) (a : _) (r q : _) (s t : _) → unpack-reads.Post κs a r s → unpack-reads.Post κs a q t → r ≡ q
-unpack-unique κs a r q s t x y = x ∙ sym y
-
-pub pack-unique : (κs : _) (a : _) (r q : _) (s t : _) → pack-reads.Post κs a r s → pack-reads.Post κs a q t → r ≡ q
-pack-unique κs a r q s t x y = x ∙ sym y
 
 pub closed-unique : (κs : _) (a : _) (r q : _) (s t : _) → closed-reads.Post κs a r s → closed-reads.Post κs a q t → r ≡ q
 closed-unique κs a r q s t x y = x ∙ sym y

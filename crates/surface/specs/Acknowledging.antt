@@ -1,9 +1,9 @@
 -- What the call that builds a SACK answers.
 use Rattle.calls.specs.declared.acknowledging.Acknowledged as call
 use Rattle.calls.specs.Acknowledging.{noSack}
-use Rattle.surface.specs.declared.stored.Stored.{Stored}
+use Rattle.stored.specs.declared.kept.Stored.{Stored}
 use Rattle.surface.specs.declared.acknowledging.Acknowledged.{Acknowledged}
-use Rattle.surface.specs.Stored.{packed}
+use Rattle.stored.specs.Stored.{packed}
 
 -- with the record packed; and 1 where the record names no state
 abbrev pub packedAcknowledged : call.Acknowledged → Acknowledged

@@ -1,21 +1,12 @@
--- What the arrival of a packet answers, and the host's word on an echoed cookie as a number.
-use Prim.Native.Nat.{ℕ}
-use lib.Dec.{eqb}
+-- What the arrival of a packet answers.
 use lib.ListN.{replicate}
-use Rattle.scans.specs.Scan.{pick}
-use Rattle.steps.specs.declared.lent.Made.{Made}
-use Rattle.steps.specs.declared.lent.Echoed.{Echoed}
-use Rattle.steps.specs.declared.lent.Echoed.the-variants.{Bad, Stale, Good}
 use Rattle.arriving.specs.declared.arrival.Arrived as call
 use Rattle.arriving.specs.Verdict.{unreadAt}
-use Rattle.surface.specs.declared.stored.Stored.{Stored}
+use Rattle.stored.specs.declared.kept.Stored.{Stored}
 use Rattle.surface.specs.declared.arrival.Arrived.{Arrived}
-use Rattle.surface.specs.Stored.{packed}
+use Rattle.stored.specs.Stored.{packed}
 
--- "reports an echoed one as bad, or as stale or good with the tags, streams, initial TSNs and window it was made from"
-unfoldable pub echoedOf : ℕ → Made → Echoed
-echoedOf word made = pick (eqb word 1) (Stale made) (pick (eqb word 2) (Good made) Bad)
-
+-- with the record packed; and 1 where the record names no state
 abbrev pub packedArrived : call.Arrived → Arrived
 packedArrived r = record {
   number = r .number;

@@ -1,11 +1,5 @@
 -- The calls over a record without an enum: what each answers is what crate `calls` answers, packed, or 1 where the record names no state.
-pub mod Stored
-pub mod StoredLaws
-pub mod Answer
-pub mod AnswerLaws
 pub mod Arrival
-pub mod Closing
-pub mod Peek
 pub mod Messages
 pub mod Transmit
 pub mod Acknowledging

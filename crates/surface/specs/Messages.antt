@@ -2,10 +2,10 @@
 use mathlib.Core.Bool.{false}
 use Rattle.calls.specs.declared.messages.HandedIn as handing
 use Rattle.calls.specs.declared.messages.Delivered as taking
-use Rattle.surface.specs.declared.stored.Stored.{Stored}
+use Rattle.stored.specs.declared.kept.Stored.{Stored}
 use Rattle.surface.specs.declared.messages.HandedIn.{HandedIn}
 use Rattle.surface.specs.declared.messages.Delivered.{Delivered}
-use Rattle.surface.specs.Stored.{packed}
+use Rattle.stored.specs.Stored.{packed}
 
 -- handing in: with the record packed; and 1 where the record names no state
 abbrev pub packedHandedIn : handing.HandedIn → HandedIn

@@ -1,9 +1,9 @@
 -- What the call that fills a packet answers.
 use mathlib.Core.Bool.{false}
 use Rattle.calls.specs.declared.transmitting.Transmitted as call
-use Rattle.surface.specs.declared.stored.Stored.{Stored}
+use Rattle.stored.specs.declared.kept.Stored.{Stored}
 use Rattle.surface.specs.declared.transmitting.Transmitted.{Transmitted}
-use Rattle.surface.specs.Stored.{packed}
+use Rattle.stored.specs.Stored.{packed}
 
 -- with the record packed; and 1 where the record names no state
 abbrev pub packedTransmitted : call.Transmitted → Transmitted

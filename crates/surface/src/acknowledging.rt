@@ -1,10 +1,9 @@
 // A SACK goes out.
-use crate::stored;
-use crate::stored::Stored;
 use chunks::sack::Sack;
+use stored::Stored;
 ghost use mathlib.Core.Path.{_≡_};
 ghost use Rattle.calls.specs.Acknowledging.{acknowledged, acknowledgedOut};
-ghost use Rattle.surface.specs.Stored.{named, unpacked};
+ghost use Rattle.stored.specs.Stored.{named, unpacked};
 ghost use Rattle.surface.specs.Acknowledging.{packedAcknowledged, unnamedAcknowledged};
 
 // The number, 0 if none; the bytes of the packet; what it says; the record.

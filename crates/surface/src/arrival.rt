@@ -1,22 +1,15 @@
 // A packet arrives.
-use crate::stored;
-use crate::stored::Stored;
 use arriving::Verdict;
 use arriving::walk::CHUNKS;
-use steps::Echoed;
 use steps::Lent;
-use steps::Made;
+use stored::Stored;
+use stored::Word;
+use stored::word;
 ghost use mathlib.Core.Path.{_≡_};
 ghost use Rattle.arriving.specs.Arrival.{arrivedOf, areaOf, outOf};
-ghost use Rattle.surface.specs.Stored.{named, unpacked};
-ghost use Rattle.surface.specs.Arrival.{echoedOf, packedArrived, unnamedArrived};
-
-// The host's word on an echoed cookie: 1 stale, 2 good, any other number bad.
-#[repr(C)]
-pub struct Word {
-    pub word: u8,
-    pub made: Made,
-}
+ghost use Rattle.stored.specs.Stored.{named, unpacked};
+ghost use Rattle.stored.specs.Word.{echoedOf};
+ghost use Rattle.surface.specs.Arrival.{packedArrived, unnamedArrived};
 
 // The number of the packet, 0 if it was let in; then the verdicts of its chunks, the length of the reply, and the record.
 #[repr(C)]
@@ -26,16 +19,6 @@ pub struct Arrived {
     pub verdicts: [Verdict; CHUNKS],
     pub length: usize,
     pub association: Stored,
-}
-
-fn echoed_of(word: u8, made: Made) -> Echoed
-    ensures { λ r. ⌜ r ≡ echoedOf word made ⌝ }
-{
-    match word {
-        1 => Echoed::Stale(made),
-        2 => Echoed::Good(made),
-        _ => Echoed::Bad,
-    }
 }
 
 fn judged(r: arriving::Arrived) -> Arrived
@@ -82,7 +65,7 @@ pub extern "C" fn ow_arrive(
     if stored::is_named(s.state, s.tries) {
         let a = stored::unpack(s);
         let made = echoed.made;
-        let e = echoed_of(echoed.word, made);
+        let e = word::echoed_of(echoed.word, made);
         let r = arriving::arrive(a, area, packet, lent, cookie, e, out);
         return judged(r);
     }

@@ -1,13 +1,12 @@
 // Messages are handed in and taken.
-use crate::stored;
-use crate::stored::Stored;
 use holding::taking::Message;
 use numbers::Ssn;
 use numbers::StreamId;
+use stored::Stored;
 ghost use mathlib.Core.Path.{_≡_};
 ghost use lib.ListN.{length};
 ghost use Rattle.calls.specs.Messages.{handedIn, handedArea, delivered, deliveredOut};
-ghost use Rattle.surface.specs.Stored.{named, unpacked};
+ghost use Rattle.stored.specs.Stored.{named, unpacked};
 ghost use Rattle.surface.specs.Messages.{packedHandedIn, unnamedHandedIn, packedDelivered, unnamedDelivered};
 
 // The number, 0 if none; into how many chunks the message was cut; the record.

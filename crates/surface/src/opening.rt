@@ -1,15 +1,14 @@
 // A record to start from, and our own INIT.
-use crate::answer;
-use crate::answer::Answer;
-use crate::stored;
-use crate::stored::Stored;
 use association::Association;
 use numbers::Tsn;
+use stored::Answer;
+use stored::Stored;
+use stored::answer;
 ghost use mathlib.Core.Path.{_≡_};
 ghost use Rattle.association.specs.Fresh.{closedAt};
 ghost use Rattle.calls.specs.Opening.{associating};
-ghost use Rattle.surface.specs.Stored.{unpacked, packed};
-ghost use Rattle.surface.specs.Answer.{Answered};
+ghost use Rattle.stored.specs.Stored.{unpacked, packed};
+ghost use Rattle.stored.specs.Answer.{Answered};
 
 #[no_mangle]
 pub extern "C" fn ow_closed(port: u16) -> Stored

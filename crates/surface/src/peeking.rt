@@ -1,81 +1,14 @@
 // What the host must know of a packet before it arrives.
-use numbers::Tsn;
+use stored::Peeked;
+use stored::seen;
 ghost use mathlib.Core.Path.{_≡_};
 ghost use Rattle.calls.specs.Peek.{peeked};
-ghost use Rattle.surface.specs.Peek.{unseen, packedPeek};
-
-// `kind` is 1 for an INIT, with the port that it came from, 2 for a COOKIE ECHO, whose cookie stands at `at`, and else 0.
-#[repr(C)]
-pub struct Peeked {
-    pub number: u8,
-    pub kind: u8,
-    pub source: u16,
-    pub tag: u32,
-    pub window: u32,
-    pub outs: u16,
-    pub ins: u16,
-    pub tsn: Tsn,
-    pub at: usize,
-    pub len: usize,
-}
-
-fn nothing(number: u8) -> Peeked
-    ensures { λ r. ⌜ r ≡ unseen number ⌝ }
-{
-    Peeked {
-        number,
-        kind: 0,
-        source: 0,
-        tag: 0,
-        window: 0,
-        outs: 0,
-        ins: 0,
-        tsn: Tsn(0),
-        at: 0,
-        len: 0,
-    }
-}
-
-fn packed(p: calls::Peeked) -> Peeked
-    ensures { λ r. ⌜ r ≡ packedPeek p ⌝ }
-{
-    match p {
-        calls::Peeked::Refused(n) => nothing(n),
-        calls::Peeked::Nothing => nothing(0),
-        calls::Peeked::Init(v, source) => {
-            let tsn = v.tsn;
-            Peeked {
-                number: 0,
-                kind: 1,
-                source,
-                tag: v.tag,
-                window: v.window,
-                outs: v.outs,
-                ins: v.ins,
-                tsn,
-                at: 0,
-                len: 0,
-            }
-        }
-        calls::Peeked::Echo(at, len) => Peeked {
-            number: 0,
-            kind: 2,
-            source: 0,
-            tag: 0,
-            window: 0,
-            outs: 0,
-            ins: 0,
-            tsn: Tsn(0),
-            at,
-            len,
-        },
-    }
-}
+ghost use Rattle.stored.specs.Peek.{packedPeek};
 
 #[no_mangle]
 pub extern "C" fn ow_peek(packet: &[u8]) -> Peeked
     ensures { λ r. ⌜ r ≡ packedPeek (peeked (now (packet .entry))) ⌝ }
 {
     let p = calls::peek(packet);
-    packed(p)
+    seen::packed(p)
 }

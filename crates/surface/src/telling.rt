@@ -1,13 +1,12 @@
 // ERROR and HEARTBEAT.
-use crate::answer;
-use crate::answer::Answer;
-use crate::stored;
-use crate::stored::Stored;
 use numbers::StreamId;
+use stored::Answer;
+use stored::Stored;
+use stored::answer;
 ghost use mathlib.Core.Path.{_≡_};
 ghost use Rattle.calls.specs.Telling.{tellingStream, tellingStale, beating};
-ghost use Rattle.surface.specs.Stored.{unpacked};
-ghost use Rattle.surface.specs.Answer.{Answered};
+ghost use Rattle.stored.specs.Stored.{unpacked};
+ghost use Rattle.stored.specs.Answer.{Answered};
 
 // A value of the host: C hands over no array but in a struct.
 #[repr(C)]

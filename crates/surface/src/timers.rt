@@ -1,13 +1,12 @@
 // Timers expire, and a round trip is measured.
-use crate::answer;
-use crate::answer::Answer;
-use crate::stored;
-use crate::stored::Stored;
+use stored::Answer;
+use stored::Stored;
+use stored::answer;
 ghost use mathlib.Core.Path.{_≡_};
 ghost use Rattle.states.specs.declared.call.Call.the-variants.{FirstTimer, SecondTimer};
 ghost use Rattle.calls.specs.Timers.{expiring, expiringThird, sampling};
-ghost use Rattle.surface.specs.Stored.{unpacked};
-ghost use Rattle.surface.specs.Answer.{Answered, AnsweredAlone};
+ghost use Rattle.stored.specs.Stored.{unpacked};
+ghost use Rattle.stored.specs.Answer.{Answered, AnsweredAlone};
 
 #[no_mangle]
 pub extern "C" fn ow_t1(s: Stored, out: &mut [u8]) -> Answer

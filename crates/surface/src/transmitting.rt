@@ -1,10 +1,9 @@
 // A packet of DATA chunks goes out.
-use crate::stored;
-use crate::stored::Stored;
 use numbers::Tsn;
+use stored::Stored;
 ghost use mathlib.Core.Path.{_≡_};
 ghost use Rattle.calls.specs.Transmit.{transmitted, transmittedOut};
-ghost use Rattle.surface.specs.Stored.{named, unpacked};
+ghost use Rattle.stored.specs.Stored.{named, unpacked};
 ghost use Rattle.surface.specs.Transmit.{packedTransmitted, unnamedTransmitted};
 
 // The number, 0 if none; the bytes of the packet, 0 if nothing goes; whether one of its chunks is sent again, its first and last TSN; the record.

@@ -46,16 +46,16 @@ use denote.Triple.Spec.{Meets, tripleOf}
 use denote.Triple.Table.{entered, cited}
 use denote.Triple.Walked.{says, Stays, stay-ref, stay-none, stay-none-slice, gave-slice, walkOf, AllGo, goes-ref, goes-none, goes-none-slice, goes-gave-slice, Walks, ends-at, walked, walk-meets}
 use denote.Exit.{yes}
-use Rattle.entry.specs.Event.{eventOf}
+use Rattle.events.specs.Event.{eventOf}
 use Rattle.entry.specs.Happening.{lent, happened}
 use Rattle.association.specs.declared.ends.Association.{Association}
-use Rattle.entry.specs.declared.told.Ran.{Ran}
+use Rattle.events.specs.declared.told.Ran.{Ran}
 use Rattle.association.proofs.ends.Association as T
 use Rattle.association.proofs.ends.Association.Laws as T′
-use Rattle.entry.proofs.told.Ran as O
-use Rattle.entry.proofs.told.Ran.Laws as O′
-use Rattle.entry.proofs.told.Told as R
-use Rattle.entry.proofs.told.Told.Laws as R′
+use Rattle.events.proofs.told.Ran as O
+use Rattle.events.proofs.told.Ran.Laws as O′
+use Rattle.events.proofs.told.Told as R
+use Rattle.events.proofs.told.Told.Laws as R′
 use Rattle.entry.proofs.running.run_coded as step
 use Rattle.entry.proofs.running.run_coded.Symbol as step-def
 use Rattle.entry.proofs.running.run_coded.Symbol.{name as #entry·running·run-coded}
@@ -86,7 +86,7 @@ unfoldable ans-ty : S.Ty
 ans-ty = R′.mir
 
 abbrev out-ty : S.Ty
-out-ty = S.tyStruct (101 ∷ 110 ∷ 116 ∷ 114 ∷ 121 ∷ 58 ∷ 58 ∷ 116 ∷ 111 ∷ 108 ∷ 100 ∷ 58 ∷ 58 ∷ 82 ∷ 97 ∷ 110 ∷ []) (S.tcons ans-ty (S.tcons rec-ty S.tnil))
+out-ty = S.tyStruct (101 ∷ 118 ∷ 101 ∷ 110 ∷ 116 ∷ 115 ∷ 58 ∷ 58 ∷ 116 ∷ 111 ∷ 108 ∷ 100 ∷ 58 ∷ 58 ∷ 82 ∷ 97 ∷ 110 ∷ []) (S.tcons ans-ty (S.tcons rec-ty S.tnil))
 
 abbrev shut : S.Fn
 shut = record {

@@ -1,4 +1,4 @@
-use Rattle.surface.specs.AnswerLaws.{answered, unnamed}
+use Rattle.stored.specs.AnswerLaws.{answered, unnamed}
 use borrow.Author.Needs.{needs}
 use Rattle.surface.proofs.opening.ow_associate.Statement.{statement}
 use Rattle.surface.proofs.opening.ow_associate.Tie as tie

@@ -1,6 +1,6 @@
 use mathlib.Core.Path.{ap, _∙_}
 use Rattle.association.specs.declared.ends.Association.{Association}
-use Rattle.surface.specs.Stored.{packed}
+use Rattle.stored.specs.Stored.{packed}
 use borrow.Author.Needs.{needs}
 use Rattle.surface.proofs.opening.ow_closed.Statement.{statement}
 use Rattle.surface.proofs.opening.ow_closed.Tie as tie

@@ -1,4 +1,4 @@
-use Rattle.surface.specs.Stored.{packed}
+use Rattle.stored.specs.Stored.{packed}
 use borrow.Author.Needs.{needs}
 use Rattle.surface.proofs.peeking.ow_peek.Statement.{statement}
 use Rattle.surface.proofs.peeking.ow_peek.Tie as tie

@@ -1,4 +1,4 @@
-use Rattle.surface.specs.AnswerLaws.{answered, answered-alone, unnamed, unnamed-alone}
+use Rattle.stored.specs.AnswerLaws.{answered, answered-alone, unnamed, unnamed-alone}
 use borrow.Author.Needs.{needs}
 use Rattle.surface.proofs.timers.ow_rtt.Statement.{statement}
 use Rattle.surface.proofs.timers.ow_rtt.Tie as tie

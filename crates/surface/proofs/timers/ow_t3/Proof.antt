@@ -1,4 +1,4 @@
-use Rattle.surface.specs.AnswerLaws.{answered, answered-alone, unnamed, unnamed-alone}
+use Rattle.stored.specs.AnswerLaws.{answered, answered-alone, unnamed, unnamed-alone}
 use borrow.Author.Needs.{needs}
 use Rattle.surface.proofs.timers.ow_t3.Statement.{statement}
 use Rattle.surface.proofs.timers.ow_t3.Tie as tie

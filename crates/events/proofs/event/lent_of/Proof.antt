@@ -1,0 +1,18 @@
+use borrow.Author.Needs.{needs}
+use Rattle.events.proofs.event.lent_of.Statement.{statement}
+use Rattle.events.proofs.event.lent_of.Tie as tie
+
+value-requires : tie.Need-value-requires
+value-requires c κs = search needs
+
+tsn-requires : tie.Need-tsn-requires
+tsn-requires c κs = search needs
+
+short-requires : tie.Need-short-requires
+short-requires c κs = search needs
+
+returns : tie.Need-returns
+returns c = rw (c .before .before .value .ensures, c .before .tsn .ensures, c .short .ensures)
+
+pub lent-of-spec : {M : Type 1} → statement M
+lent-of-spec = tie.close (tie.spec value-requires tsn-requires short-requires returns)

@@ -1,0 +1,28 @@
+use borrow.Author.Needs.{needs}
+use Rattle.events.proofs.told.of_acknowledged.Statement.{statement}
+use Rattle.events.proofs.told.of_acknowledged.Tie as tie
+
+none-went-requires : tie.Need-none-went-requires
+none-went-requires c κs = search needs
+
+no-message-requires : tie.Need-no-message-requires
+no-message-requires c κs = search needs
+
+none-seen-requires : tie.Need-none-seen-requires
+none-seen-requires c κs = search needs
+
+telling-requires : tie.Need-telling-requires
+telling-requires c κs = search needs
+
+returns : tie.Need-returns
+returns c = rw (c .telling .ensures, c .before .none-seen .ensures, c .before .before .no-message .ensures, c .before .before .before .none-went .ensures)
+
+pub of-acknowledged-spec : {M : Type 1} → statement M
+of-acknowledged-spec =
+    tie.close
+    (tie.spec
+    none-went-requires
+    no-message-requires
+    none-seen-requires
+    telling-requires
+    returns)

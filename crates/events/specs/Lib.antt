@@ -1,0 +1,3 @@
+-- What can happen to an association, and what the host is told of it.
+pub mod Event
+pub mod Told

@@ -1,0 +1,147 @@
+// What can happen to an association: every call of the host, with what the host says beside the lent buffers.
+use calls::Reason;
+use numbers::StreamId;
+use numbers::Tsn;
+use steps::Echoed;
+use steps::Lent;
+use steps::Made;
+ghost use mathlib.Core.Path.{_≡_};
+ghost use mathlib.Core.Bool.{false, true};
+ghost use Prim.Native.Nat.{_%_};
+ghost use lib.ListN.{getD};
+ghost use Rattle.events.specs.Event.{at, tsnAt, streamAt, shortAt, lentOf, madeOf, associateOf, handInOf, staleOf, eventOf};
+
+pub enum Event {
+    // A packet arrives, with what is lent for an INIT and the word on an echoed cookie.
+    Packet(Lent, Echoed),
+    // Our tag, our first TSN, the peer's port, the streams wanted.
+    Associate(u32, Tsn, u16, u16),
+    // The stream, whether unordered, the payload protocol identifier.
+    HandIn(StreamId, bool, u32),
+    Transmit,
+    Take,
+    Acknowledge,
+    T1,
+    T2,
+    T3,
+    Shutdown,
+    Abort(Reason),
+    ErrorStream(StreamId),
+    // The port and tag of the cookie's peer, and how late the cookie was.
+    ErrorStale(u16, u32, u32),
+    // The value, in two halves.
+    Heartbeat(u32, u32),
+    Sample(u32),
+    // A number that names no event.
+    Unknown,
+}
+
+// A value past the end is 0.
+fn value(values: &[u32], i: usize) -> u32
+    ensures { λ r. ⌜ r ≡ at (now (values .entry)) i ⌝ }
+{
+    if i < values.len() { values[i] } else { 0 }
+}
+
+// The low 16 bits.
+fn low(x: u32) -> u16
+    ensures { λ r. ⌜ r ≡ x % 65536 ⌝ }
+{
+    (x % 65536) as u16
+}
+
+fn short(values: &[u32], i: usize) -> u16
+    ensures { λ r. ⌜ r ≡ shortAt (now (values .entry)) i ⌝ }
+{
+    low(value(values, i))
+}
+
+fn tsn(values: &[u32], i: usize) -> Tsn
+    ensures { λ r. ⌜ r ≡ tsnAt (now (values .entry)) i ⌝ }
+{
+    Tsn(value(values, i))
+}
+
+fn stream(values: &[u32], i: usize) -> StreamId
+    ensures { λ r. ⌜ r ≡ streamAt (now (values .entry)) i ⌝ }
+{
+    StreamId(short(values, i))
+}
+
+fn lent_of(values: &[u32]) -> Lent
+    ensures { λ r. ⌜ r ≡ lentOf (now (values .entry)) ⌝ }
+{
+    Lent {
+        tag: value(values, 0),
+        tsn: tsn(values, 1),
+        streams: short(values, 2),
+    }
+}
+
+fn made_of(values: &[u32]) -> Made
+    ensures { λ r. ⌜ r ≡ madeOf (now (values .entry)) ⌝ }
+{
+    Made {
+        my_tag: value(values, 3),
+        peer_tag: value(values, 4),
+        streams_in: short(values, 5),
+        streams_out: short(values, 6),
+        my_tsn: tsn(values, 7),
+        peer_tsn: tsn(values, 8),
+        window: value(values, 9),
+    }
+}
+
+fn associate_of(values: &[u32]) -> Event
+    ensures { λ r. ⌜ r ≡ associateOf (now (values .entry)) ⌝ }
+{
+    Event::Associate(
+        value(values, 0),
+        tsn(values, 1),
+        short(values, 2),
+        short(values, 3),
+    )
+}
+
+fn hand_in_of(values: &[u32], unordered: bool) -> Event
+    ensures { λ r. ⌜ r ≡ handInOf (now (values .entry)) unordered ⌝ }
+{
+    Event::HandIn(stream(values, 0), unordered, value(values, 1))
+}
+
+fn stale_of(values: &[u32]) -> Event
+    ensures { λ r. ⌜ r ≡ staleOf (now (values .entry)) ⌝ }
+{
+    Event::ErrorStale(short(values, 0), value(values, 1), value(values, 2))
+}
+
+impl Event {
+    // An event by its number and its values.
+    pub fn of(code: u8, values: &[u32]) -> Event
+        ensures { λ r. ⌜ r ≡ eventOf code (now (values .entry)) ⌝ }
+    {
+        match code {
+            0 => Event::Packet(lent_of(values), Echoed::Bad),
+            1 => Event::Packet(lent_of(values), Echoed::Stale(made_of(values))),
+            2 => Event::Packet(lent_of(values), Echoed::Good(made_of(values))),
+            3 => associate_of(values),
+            4 => hand_in_of(values, false),
+            5 => hand_in_of(values, true),
+            6 => Event::Transmit,
+            7 => Event::Take,
+            8 => Event::Acknowledge,
+            9 => Event::T1,
+            10 => Event::T2,
+            11 => Event::T3,
+            12 => Event::Shutdown,
+            13 => Event::Abort(Reason::User),
+            14 => Event::Abort(Reason::NoData(tsn(values, 0))),
+            15 => Event::Abort(Reason::Violation),
+            16 => Event::ErrorStream(stream(values, 0)),
+            17 => stale_of(values),
+            18 => Event::Heartbeat(value(values, 0), value(values, 1)),
+            19 => Event::Sample(value(values, 0)),
+            _ => Event::Unknown,
+        }
+    }
+}

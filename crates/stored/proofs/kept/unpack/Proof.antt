@@ -1,0 +1,14 @@
+use Rattle.stored.specs.Stored.{unpacked}
+use borrow.Author.Needs.{needs}
+use Rattle.stored.proofs.kept.unpack.Statement.{statement}
+use Rattle.stored.proofs.kept.unpack.Tie as tie
+
+state-of-requires : tie.Need-state-of-requires
+state-of-requires c κs = search needs
+
+returns : tie.Need-returns
+unfolding unpacked
+returns c = rw (c .before .before .before .before .state-of .ensures)
+
+pub unpack-spec : {M : Type 1} → statement M
+unpack-spec = tie.close (tie.spec state-of-requires returns)

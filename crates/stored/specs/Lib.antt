@@ -1,0 +1,8 @@
+-- What a host keeps, hands over and gets, without an enum.
+pub mod Stored
+pub mod StoredLaws
+pub mod Answer
+pub mod AnswerLaws
+pub mod Word
+pub mod Cause
+pub mod Peek
