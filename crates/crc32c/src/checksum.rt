@@ -24,13 +24,14 @@ fn one(c: u32, b: u8) -> u32
     after_4(after_4(c ^ b as u32))
 }
 
-// Each table is looked into at one place only: there it becomes part of the loop, and is not called.
+// The register x after 32 bits. Each of the eight tables is looked into at one place only: so it becomes part of the loop, and is not called.
 fn near(x: u32) -> u32
     ensures { λ r. ⌜ r ≡ bits 32 x ⌝ }
 {
     after_8(low(x >> 24)) ^ after_16(low(x >> 16)) ^ after_24(low(x >> 8)) ^ after_32(low(x))
 }
 
+// The register x after 64 bits.
 fn far(x: u32) -> u32
     ensures { λ r. ⌜ r ≡ bits 64 x ⌝ }
 {
@@ -48,9 +49,10 @@ fn eight(c: u32, b0: u8, b1: u8, b2: u8, b3: u8, b4: u8, b5: u8, b6: u8, b7: u8)
 fn update(c: u32, s: &[u8]) -> u32
     ensures { λ r. ⌜ r ≡ crcFrom c (now (s .entry)) ⌝ }
 {
+    let whole = s.len() / 8 * 8;
     let mut r = c;
     let mut i = 0;
-    while i + 8 <= s.len() {
+    while i < whole {
         r = eight(
             r,
             s[i],

@@ -1,13 +1,17 @@
--- The CRC32c of RFC 9260, Appendix A, a bit at a time: the polynomial 0x1EDC6F41 with its bits reversed, so that the bit which is
--- sent first is the lowest, a register that starts with 32 ones, and a result that is the register with its bits flipped.
+-- The CRC32c of RFC 9260, Appendix A, a bit at a time: a polynomial with its bits reversed, so that the bit which is sent first
+-- is the lowest, a register that starts with 32 ones, and a result that is the register with its bits flipped.
 -- Assumes nothing.
 use Prim.Native.Nat.{ℕ, zero, suc, _+_, _*_, _/_, _%_}
 use mathlib.Core.List.{List, [], _∷_}
 use lib.Bits.{bitXor}
 
+-- the polynomial, 0x1EDC6F41, with its bits reversed
+abbrev pub polynomial : ℕ
+polynomial = 0x82F6_3B78
+
 -- one bit: the lowest bit is shifted out of the register, and the polynomial is added (xor) where that bit was 1
 unfoldable pub bit : ℕ → ℕ
-bit x = bitXor (x % 2 * 0x82F6_3B78) (x / 2)
+bit x = bitXor (x % 2 * polynomial) (x / 2)
 
 -- n bits, one after the other
 unfoldable pub bits : ℕ → ℕ → ℕ

@@ -12,7 +12,7 @@ use lib.Arith.{bin-ind, digits-mod}
 use lib.Pow.{pow-pos, split, shr-shr}
 use lib.Bits.{bitXor, differ, xor-step, xor-self, xor-comm, xor-shr, xor-shifted, shifted-half, shifted-even}
 use lib.Dec.{lit<}
-use Rattle.remainders.specs.Register.{bit, bits, crcFrom, crcOf, word}
+use Rattle.remainders.specs.Register.{polynomial, bit, bits, crcFrom, crcOf, word}
 
 absurd2 : {ℓ : ℕ} {A : Type 0} → suc (suc ℓ) < 2 → A
 absurd2 h = absurd (not-suc-le-zero (le-of-suc-le-suc (le-of-suc-le-suc h)))
@@ -64,7 +64,7 @@ xor-swap a b c d =
     ∙ sym (xor-assoc a c (bitXor b d))
 
 -- ---- a bit's step goes over xor
-scaled : (p q : ℕ) → p < 2 → q < 2 → differ p q * 0x82F6_3B78 ≡ bitXor (p * 0x82F6_3B78) (q * 0x82F6_3B78)
+scaled : (p q : ℕ) → p < 2 → q < 2 → differ p q * polynomial ≡ bitXor (p * polynomial) (q * polynomial)
 scaled zero q hp hq = refl
 scaled (suc zero) zero hp hq = refl
 scaled (suc zero) (suc zero) hp hq = refl
@@ -74,9 +74,9 @@ scaled (suc (suc p)) q hp hq = absurd2 hp
 bit-xor : (x y : ℕ) → bit (bitXor x y) ≡ bitXor (bit x) (bit y)
 unfolding bit
 bit-xor x y =
-    ap₂ (λ (p h : ℕ). bitXor (p * 0x82F6_3B78) h) (xor-digit x y) (xor-half x y)
+    ap₂ (λ (p h : ℕ). bitXor (p * polynomial) h) (xor-digit x y) (xor-half x y)
     ∙ ap (λ (p : ℕ). bitXor p (bitXor (x / 2) (y / 2))) (scaled (x % 2) (y % 2) (mod-lt x two-pos) (mod-lt y two-pos))
-    ∙ xor-swap (x % 2 * 0x82F6_3B78) (y % 2 * 0x82F6_3B78) (x / 2) (y / 2)
+    ∙ xor-swap (x % 2 * polynomial) (y % 2 * polynomial) (x / 2) (y / 2)
 
 pub bits-xor : (n x y : ℕ) → bits n (bitXor x y) ≡ bitXor (bits n x) (bits n y)
 unfolding bits
@@ -88,7 +88,7 @@ bits-shift : (n a : ℕ) → bits n (a * 2 ^ n) ≡ a
 unfolding bits bit
 bits-shift zero a = mul-one a
 bits-shift (suc n) a =
-    ap₂ (λ (p h : ℕ). bits n (bitXor (p * 0x82F6_3B78) h)) (shifted-even a n) (shifted-half a n) ∙ bits-shift n a
+    ap₂ (λ (p h : ℕ). bits n (bitXor (p * polynomial) h)) (shifted-even a n) (shifted-half a n) ∙ bits-shift n a
 
 -- the n low bits and the others apart
 pub bits-split : (n x : ℕ) → bits n x ≡ bitXor (bits n (x % 2 ^ n)) (x / 2 ^ n)
