@@ -1,10 +1,11 @@
 -- The checksum field: bytes 8 to 11 of a packet. Appendix A sends the register's low byte first.
-use Prim.Native.Nat.{ℕ, _+_, _*_, _/_, _%_}
+use Prim.Native.Nat.{ℕ, _/_, _%_}
 use mathlib.Core.Bool.{Bool}
 use mathlib.Core.List.{List, [], _∷_, _++_}
 use lib.Dec.{ltb, eqb}
 use lib.ListN.{length, take, drop, getD}
 use Rattle.scans.specs.Scan.{pick}
+use Rattle.remainders.specs.Register.{word}
 use Rattle.crc32c.specs.Crc.{packetCrc}
 
 -- the four bytes of a register
@@ -15,7 +16,7 @@ lowFirst c = c % 256 ∷ c / 256 % 256 ∷ c / 65536 % 256 ∷ c / 16777216 ∷ 
 unfoldable pub fieldOf : List ℕ → ℕ
 fieldOf s =
     pick (ltb (length s) 12) 0
-    (getD s 8 0 + 256 * getD s 9 0 + 65536 * getD s 10 0 + 16777216 * getD s 11 0)
+    (word (getD s 8 0) (getD s 9 0) (getD s 10 0) (getD s 11 0))
 
 -- the packet with c in its field; the same bytes where there is none
 unfoldable pub withField : List ℕ → ℕ → List ℕ

@@ -1,0 +1,3 @@
+mod Examples
+pub mod Arms
+pub mod Unique

@@ -1,0 +1,39 @@
+-- Each promise leaves one outcome: two results that a contract allows are equal.
+-- Assumes nothing.
+use mathlib.Core.Path.{_≡_, sym, _∙_}
+use Rattle.remainders.proofs.half.after_4.Reads as after-4-reads
+use Rattle.remainders.proofs.tables.after_8.Reads as after-8-reads
+use Rattle.remainders.proofs.tables.after_16.Reads as after-16-reads
+use Rattle.remainders.proofs.tables.after_24.Reads as after-24-reads
+use Rattle.remainders.proofs.tables.after_32.Reads as after-32-reads
+use Rattle.remainders.proofs.tables.after_40.Reads as after-40-reads
+use Rattle.remainders.proofs.tables.after_48.Reads as after-48-reads
+use Rattle.remainders.proofs.tables.after_56.Reads as after-56-reads
+use Rattle.remainders.proofs.tables.after_64.Reads as after-64-reads
+
+pub after-4-unique : (κs : _) (a : _) (r q : _) (s t : _) → after-4-reads.Post κs a r s → after-4-reads.Post κs a q t → r ≡ q
+after-4-unique κs a r q s t x y = x ∙ sym y
+
+pub after-8-unique : (κs : _) (a : _) (r q : _) (s t : _) → after-8-reads.Post κs a r s → after-8-reads.Post κs a q t → r ≡ q
+after-8-unique κs a r q s t x y = x ∙ sym y
+
+pub after-16-unique : (κs : _) (a : _) (r q : _) (s t : _) → after-16-reads.Post κs a r s → after-16-reads.Post κs a q t → r ≡ q
+after-16-unique κs a r q s t x y = x ∙ sym y
+
+pub after-24-unique : (κs : _) (a : _) (r q : _) (s t : _) → after-24-reads.Post κs a r s → after-24-reads.Post κs a q t → r ≡ q
+after-24-unique κs a r q s t x y = x ∙ sym y
+
+pub after-32-unique : (κs : _) (a : _) (r q : _) (s t : _) → after-32-reads.Post κs a r s → after-32-reads.Post κs a q t → r ≡ q
+after-32-unique κs a r q s t x y = x ∙ sym y
+
+pub after-40-unique : (κs : _) (a : _) (r q : _) (s t : _) → after-40-reads.Post κs a r s → after-40-reads.Post κs a q t → r ≡ q
+after-40-unique κs a r q s t x y = x ∙ sym y
+
+pub after-48-unique : (κs : _) (a : _) (r q : _) (s t : _) → after-48-reads.Post κs a r s → after-48-reads.Post κs a q t → r ≡ q
+after-48-unique κs a r q s t x y = x ∙ sym y
+
+pub after-56-unique : (κs : _) (a : _) (r q : _) (s t : _) → after-56-reads.Post κs a r s → after-56-reads.Post κs a q t → r ≡ q
+after-56-unique κs a r q s t x y = x ∙ sym y
+
+pub after-64-unique : (κs : _) (a : _) (r q : _) (s t : _) → after-64-reads.Post κs a r s → after-64-reads.Post κs a q t → r ≡ q
+after-64-unique κs a r q s t x y = x ∙ sym y

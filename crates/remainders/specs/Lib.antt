@@ -1,0 +1,3 @@
+-- The register of the checksum, bit by bit, and its laws.
+pub mod Register
+pub mod RegisterLaws
