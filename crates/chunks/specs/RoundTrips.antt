@@ -11,7 +11,7 @@ use Rattle.scans.specs.Upto.{smaller, smaller-le}
 use Rattle.numbers.specs.Profile.{rail}
 use Rattle.numbers.specs.Blocks.{padded}
 use Rattle.numbers.specs.declared.circle.Tsn.{Tsn}
-use Rattle.octets.specs.Bytes.{u16, u32, be32, zeros}
+use Rattle.octets.specs.Bytes.{u16, u32, zeros}
 use Rattle.octets.specs.BytesLaws.{u16-at, u32-at}
 use Rattle.octets.specs.Writing.{items}
 use Rattle.octets.specs.WritingLaws.{length-items, item-at}

@@ -8,7 +8,6 @@ use association::Association;
 use sending::Answer;
 use states::State;
 ghost use mathlib.Core.Path.{_≡_};
-ghost use mathlib.Core.List.{[]};
 ghost use Rattle.octets.specs.Writing.{wroteBytes};
 ghost use Rattle.states.specs.declared.state.State.the-variants.{ShutdownAckSent};
 ghost use Rattle.steps.specs.Verdict.{doneIn, doneWith};
