@@ -1,7 +1,7 @@
 // CRC32c (RFC 9260, Appendix A), eight bytes at a time.
 use crate::words::low;
 use crate::words::word_of;
-use remainders::after_4;
+use register::after_4;
 use remainders::after_8;
 use remainders::after_16;
 use remainders::after_24;
@@ -14,7 +14,7 @@ ghost use mathlib.Core.Path.{_≡_};
 ghost use Prim.Native.Nat.{_≤_};
 ghost use mathlib.Core.List.{[], _∷_};
 ghost use lib.ListN.{length};
-ghost use Rattle.remainders.specs.Register.{bits, crcFrom, crcOf};
+ghost use Rattle.register.specs.Register.{bits, crcFrom, crcOf};
 ghost use Rattle.crc32c.specs.Crc.{zeroed, packetCrc};
 
 // The register c after one byte.

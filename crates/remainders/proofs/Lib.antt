@@ -1,3 +1,2 @@
-mod Examples
-pub mod Arms
+pub mod Entries
 pub mod Unique

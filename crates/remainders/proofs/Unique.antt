@@ -1,7 +1,6 @@
 -- Each promise leaves one outcome: two results that a contract allows are equal.
 -- Assumes nothing.
 use mathlib.Core.Path.{_≡_, sym, _∙_}
-use Rattle.remainders.proofs.half.after_4.Reads as after-4-reads
 use Rattle.remainders.proofs.tables.after_8.Reads as after-8-reads
 use Rattle.remainders.proofs.tables.after_16.Reads as after-16-reads
 use Rattle.remainders.proofs.tables.after_24.Reads as after-24-reads
@@ -10,9 +9,6 @@ use Rattle.remainders.proofs.tables.after_40.Reads as after-40-reads
 use Rattle.remainders.proofs.tables.after_48.Reads as after-48-reads
 use Rattle.remainders.proofs.tables.after_56.Reads as after-56-reads
 use Rattle.remainders.proofs.tables.after_64.Reads as after-64-reads
-
-pub after-4-unique : (κs : _) (a : _) (r q : _) (s t : _) → after-4-reads.Post κs a r s → after-4-reads.Post κs a q t → r ≡ q
-after-4-unique κs a r q s t x y = x ∙ sym y
 
 pub after-8-unique : (κs : _) (a : _) (r q : _) (s t : _) → after-8-reads.Post κs a r s → after-8-reads.Post κs a q t → r ≡ q
 after-8-unique κs a r q s t x y = x ∙ sym y

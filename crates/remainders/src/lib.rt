@@ -1,8 +1,6 @@
-// The register of the checksum: what is in it after some bits, by tables.
-mod half;
+// What one byte leaves in the register of the checksum, by tables.
 mod tables;
 
-pub use crate::half::after_4;
 pub use crate::tables::after_8;
 pub use crate::tables::after_16;
 pub use crate::tables::after_24;

@@ -2,7 +2,7 @@
 // table, where a constant array is stored anew at each call. The compiler counts such a table from the least signed key, 128, so a byte whose
 // top bit was flipped is looked up with no further step.
 ghost use mathlib.Core.Path.{_≡_};
-ghost use Rattle.remainders.specs.Register.{bits};
+ghost use Rattle.register.specs.Register.{bits};
 
 // The register with the byte i in it, after 8 bits.
 pub fn after_8(i: u8) -> u32

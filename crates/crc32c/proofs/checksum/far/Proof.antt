@@ -1,4 +1,4 @@
-use Rattle.remainders.specs.RegisterLaws.{four-looks}
+use Rattle.register.specs.RegisterLaws.{four-looks}
 use borrow.Author.Needs.{needs}
 use Rattle.crc32c.proofs.checksum.far.Statement.{statement}
 use Rattle.crc32c.proofs.checksum.far.Tie as tie

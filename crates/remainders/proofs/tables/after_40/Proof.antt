@@ -1,10 +1,8 @@
-use Rattle.remainders.specs.Register.{bit, bits}
-use Rattle.remainders.proofs.Arms.{entry, last-entry}
+use Rattle.remainders.proofs.Entries.{entry, last-entry}
 use Rattle.remainders.proofs.tables.after_40.Statement.{statement}
 use Rattle.remainders.proofs.tables.after_40.Tie as tie
 
 pub after-40-spec : {M : Type 1} → statement M
-unfolding bits bit
 after-40-spec =
     tie.close
     (tie.spec

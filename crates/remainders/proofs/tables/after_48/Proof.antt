@@ -1,10 +1,8 @@
-use Rattle.remainders.specs.Register.{bit, bits}
-use Rattle.remainders.proofs.Arms.{entry, last-entry}
+use Rattle.remainders.proofs.Entries.{entry, last-entry}
 use Rattle.remainders.proofs.tables.after_48.Statement.{statement}
 use Rattle.remainders.proofs.tables.after_48.Tie as tie
 
 pub after-48-spec : {M : Type 1} → statement M
-unfolding bits bit
 after-48-spec =
     tie.close
     (tie.spec

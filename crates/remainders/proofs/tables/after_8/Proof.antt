@@ -1,10 +1,8 @@
-use Rattle.remainders.specs.Register.{bit, bits}
-use Rattle.remainders.proofs.Arms.{entry, last-entry}
+use Rattle.remainders.proofs.Entries.{entry, last-entry}
 use Rattle.remainders.proofs.tables.after_8.Statement.{statement}
 use Rattle.remainders.proofs.tables.after_8.Tie as tie
 
 pub after-8-spec : {M : Type 1} → statement M
-unfolding bits bit
 after-8-spec =
     tie.close
     (tie.spec

@@ -12,7 +12,7 @@ use lib.Arith.{bin-ind, digits-mod}
 use lib.Pow.{pow-pos, split, shr-shr}
 use lib.Bits.{bitXor, differ, xor-step, xor-self, xor-comm, xor-shr, xor-shifted, shifted-half, shifted-even}
 use lib.Dec.{lit<}
-use Rattle.remainders.specs.Register.{polynomial, bit, bits, crcFrom, crcOf, word}
+use Rattle.register.specs.Register.{polynomial, bit, computed, bits, crcFrom, crcOf, word}
 
 absurd2 : {ℓ : ℕ} {A : Type 0} → suc (suc ℓ) < 2 → A
 absurd2 h = absurd (not-suc-le-zero (le-of-suc-le-suc (le-of-suc-le-suc h)))
@@ -63,6 +63,11 @@ xor-swap a b c d =
     ∙ ap (bitXor a) (sym (xor-assoc b c d) ∙ ap (λ (x : ℕ). bitXor x d) (xor-comm b c) ∙ xor-assoc c b d)
     ∙ sym (xor-assoc a c (bitXor b d))
 
+-- ---- what a table's entry computes
+pub bits-computed : (n x : ℕ) → computed n x ≡ bits n x
+unfolding bits
+bits-computed n x = refl
+
 -- ---- a bit's step goes over xor
 scaled : (p q : ℕ) → p < 2 → q < 2 → differ p q * polynomial ≡ bitXor (p * polynomial) (q * polynomial)
 scaled zero q hp hq = refl
@@ -72,7 +77,6 @@ scaled (suc zero) (suc (suc q)) hp hq = absurd2 hq
 scaled (suc (suc p)) q hp hq = absurd2 hp
 
 bit-xor : (x y : ℕ) → bit (bitXor x y) ≡ bitXor (bit x) (bit y)
-unfolding bit
 bit-xor x y =
     ap₂ (λ (p h : ℕ). bitXor (p * polynomial) h) (xor-digit x y) (xor-half x y)
     ∙ ap (λ (p : ℕ). bitXor p (bitXor (x / 2) (y / 2))) (scaled (x % 2) (y % 2) (mod-lt x two-pos) (mod-lt y two-pos))
@@ -85,7 +89,7 @@ bits-xor (suc n) x y = ap (bits n) (bit-xor x y) ∙ bits-xor n (bit x) (bit y)
 
 -- zeros that are shifted out leave no trace
 bits-shift : (n a : ℕ) → bits n (a * 2 ^ n) ≡ a
-unfolding bits bit
+unfolding bits
 bits-shift zero a = mul-one a
 bits-shift (suc n) a =
     ap₂ (λ (p h : ℕ). bits n (bitXor (p * polynomial) h)) (shifted-even a n) (shifted-half a n) ∙ bits-shift n a
