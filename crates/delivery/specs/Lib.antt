@@ -5,4 +5,6 @@ pub mod ArrivalLaws
 pub mod Acknowledging
 pub mod Bounds
 pub mod BoundsLaws
+pub mod LowLaws
+pub mod LookLaws
 pub mod Laws

@@ -9,15 +9,16 @@ use numbers::Rail;
 use numbers::Ssn;
 use numbers::StreamId;
 use numbers::Tsn;
-use scans::Found;
 ghost use mathlib.Core.Path.{_≡_};
 ghost use Prim.Native.Nat.{_^_, _<_, _≤_};
 ghost use lib.ListN.{length};
 ghost use Rattle.numbers.specs.Numbering.{ring};
 ghost use Rattle.numbers.specs.Profile.{rail, isAgreed};
-ghost use Rattle.scans.specs.Scan.{findFrom};
-ghost use Rattle.holding.specs.Held.{asHeld, isFree};
-ghost use Rattle.delivery.specs.Arrival.{isOld, isBeyond, isRepeat, isWedged, verdictOf, noted, passed, kept, keptIn, stored, arrived, areaAfter};
+ghost use Rattle.numbers.specs.Keeping.{isCome};
+ghost use Rattle.scans.specs.Scan.{either, findFrom};
+ghost use Rattle.holding.specs.Held.{asHeld, holds, isFree};
+ghost use Rattle.delivery.specs.LookLaws.{orFree, freeOf, Looked};
+ghost use Rattle.delivery.specs.Arrival.{isOld, isBeyond, isWedged, verdictOf, noted, passed, kept, keptIn, stored, arrived, areaAfter};
 
 pub enum Verdict {
     Kept,
@@ -32,6 +33,62 @@ pub enum Verdict {
 pub struct Arrival {
     pub verdict: Verdict,
     pub receiving: Receiving,
+}
+
+// What the held chunks say of a number that comes: how many are low, whether it is held, and the lowest free place, 128 if there is none.
+struct Look {
+    low: usize,
+    held: bool,
+    free: usize,
+}
+
+// Whether it was held, or is here.
+fn or_held(was: bool, h: Held, tsn: Tsn) -> bool
+    ensures { λ y. ⌜ y ≡ either was (holds (tsn .0) h) ⌝ }
+{
+    if was {
+        return true;
+    }
+    h.is_of(tsn)
+}
+
+// The free place found before, or this one.
+fn or_free(free: usize, used: bool, i: usize) -> usize
+    ensures { λ y. ⌜ y ≡ orFree rail free used i ⌝ }
+{
+    if free < Rail::PLACES {
+        return free;
+    }
+    if used {
+        return Rail::PLACES;
+    }
+    i
+}
+
+// One pass: a pass for each would copy the held chunks for each.
+fn look_for(keeping: Keeping, held: [Held; Rail::PLACES], tsn: Tsn) -> Look
+    ensures { λ w. ⌜ Looked (ring (2 ^ 32)) rail keeping held (tsn .0) w ⌝ }
+{
+    let come = keeping.come;
+    let mut low: usize = 0;
+    let mut has = false;
+    let mut free = Rail::PLACES;
+    let mut i: usize = 0;
+    while i < Rail::PLACES {
+        let h = held[i];
+        let t = h.tsn;
+        let offset = keeping.offset(t);
+        let j = receiving::flag_at(offset);
+        low += receiving::is_low_by(h.used, offset, come[j]) as usize;
+        has = or_held(has, h, tsn);
+        free = or_free(free, h.used, i);
+        i += 1;
+    }
+    Look {
+        low: low,
+        held: has,
+        free: free,
+    }
 }
 
 // At or below the point, or opposite to it.
@@ -58,13 +115,13 @@ fn is_beyond(j: Judgement) -> bool
 }
 
 // Whether the number's offset has already come, or its chunk is already held.
-fn is_repeat(keeping: Keeping, held: [Held; Rail::PLACES], tsn: Tsn) -> bool
-    ensures { λ y. ⌜ y ≡ isRepeat (ring (2 ^ 32)) keeping held (tsn .0) ⌝ }
+fn is_repeat(keeping: Keeping, held: bool, tsn: Tsn) -> bool
+    ensures { λ y. ⌜ y ≡ either (isCome (ring (2 ^ 32)) keeping (tsn .0)) held ⌝ }
 {
     if keeping.is_come(tsn) {
         return true;
     }
-    holding::held::is_held(held, tsn)
+    held
 }
 
 // Whether the held chunks that are low fill the places, and no message can be taken.
@@ -88,7 +145,8 @@ fn is_agreed(stream: StreamId, streams: u16) -> bool
 }
 
 // The verdict on a chunk with a payload of so many bytes.
-fn judge(r: Receiving, c: Chunk, len: usize, streams: u16) -> Verdict
+fn judge(r: Receiving, w: Look, c: Chunk, len: usize, streams: u16) -> Verdict
+    requires { ⌜ Looked (ring (2 ^ 32)) rail (r .keeping) (r .held) (c .tsn .0) w ⌝ }
     ensures { λ v. ⌜ v ≡ verdictOf (ring (2 ^ 32)) rail r (asHeld c len) streams ⌝ }
 {
     if len < 1 {
@@ -98,17 +156,17 @@ fn judge(r: Receiving, c: Chunk, len: usize, streams: u16) -> Verdict
         return Verdict::Long;
     }
     let keeping = r.keeping;
-    let held = r.held;
     let point = keeping.point;
     let tsn = c.tsn;
-    let low = receiving::low(keeping, held);
+    let low = w.low;
     let j = point.judge(tsn, (Rail::PLACES - low) as u32);
     if is_old(j) {
         return Verdict::Duplicate;
     }
-    if is_repeat(keeping, held, tsn) {
+    if is_repeat(keeping, w.held, tsn) {
         return Verdict::Duplicate;
     }
+    let held = r.held;
     let next = r.next;
     if is_wedged(low, held, next, point) {
         return Verdict::Wedged;
@@ -157,24 +215,19 @@ fn put(mut r: Receiving, place: usize, h: Held) -> Receiving
 }
 
 // The chunk is held in the lowest free place, its payload there in the area.
-fn keep(r: Receiving, area: &mut [u8], c: Chunk, payload: &[u8]) -> Receiving
-    requires { ⌜ length (now payload) ≤ 512 ⌝ }
+fn keep(r: Receiving, free: usize, area: &mut [u8], c: Chunk, payload: &[u8]) -> Receiving
+    requires { ⌜ (length (now payload) ≤ 512) × (free ≡ freeOf rail (findFrom isFree 0 (r .held))) ⌝ }
     ensures { λ q. ⌜ (q ≡ keptIn (ring (2 ^ 32)) rail r (asHeld c (length (now (payload .entry)))) (findFrom isFree 0 (r .held))) × (now (area .exit) ≡ stored rail (now (area .entry)) (now (payload .entry)) (findFrom isFree 0 (r .held))) ⌝ }
 {
-    let held = r.held;
-    match holding::held::free_place(held) {
-        Found::At(i) => {
-            let at = Rail::PAYLOAD * i;
-            let h = Held::of(c, payload.len() as u16);
-            let q = put(r, i, h);
-            octets::bytes::put_all(area, at, payload);
-            q
-        }
-        Found::Nothing => {
-            let tsn = c.tsn;
-            pass(r, tsn)
-        }
+    if free < Rail::PLACES {
+        let at = Rail::PAYLOAD * free;
+        let h = Held::of(c, payload.len() as u16);
+        let q = put(r, free, h);
+        octets::bytes::put_all(area, at, payload);
+        return q;
     }
+    let tsn = c.tsn;
+    pass(r, tsn)
 }
 
 impl Receiving {
@@ -182,11 +235,15 @@ impl Receiving {
     pub fn arrive(self, area: &mut [u8], c: Chunk, payload: &[u8], streams: u16) -> Arrival
         ensures { λ a. ⌜ (a ≡ arrived (ring (2 ^ 32)) rail self (asHeld c (length (now (payload .entry)))) streams) × (now (area .exit) ≡ areaAfter (ring (2 ^ 32)) rail self (asHeld c (length (now (payload .entry)))) streams (now (area .entry)) (now (payload .entry))) ⌝ }
     {
-        let verdict = judge(self, c, payload.len(), streams);
+        let keeping = self.keeping;
+        let held = self.held;
         let tsn = c.tsn;
+        let w = look_for(keeping, held, tsn);
+        let free = w.free;
+        let verdict = judge(self, w, c, payload.len(), streams);
         match verdict {
             Verdict::Kept => {
-                let receiving = keep(self, area, c, payload);
+                let receiving = keep(self, free, area, c, payload);
                 Arrival { verdict, receiving }
             }
             Verdict::Duplicate => {

@@ -74,6 +74,7 @@ fn weight(keeping: Keeping, held: [Held; Rail::PLACES]) -> usize
 {
     let point = keeping.point;
     let base = point.after(BEFORE);
+    let come = keeping.come;
     let mut low: usize = 0;
     let mut seen = [false; NEAR];
     let mut i: usize = 0;
@@ -82,9 +83,11 @@ fn weight(keeping: Keeping, held: [Held; Rail::PLACES]) -> usize
         if is_unfit(h) {
             return TOO_MANY;
         }
-        low += receiving::is_low(keeping, h) as usize;
+        let tsn = h.tsn;
+        let offset = keeping.offset(tsn);
+        let j = receiving::flag_at(offset);
+        low += receiving::is_low_by(h.used, offset, come[j]) as usize;
         if h.used {
-            let tsn = h.tsn;
             let d = slot(base, tsn);
             if d < NEAR {
                 if seen[d] {

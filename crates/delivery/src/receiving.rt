@@ -6,13 +6,13 @@ use numbers::Rail;
 use numbers::Ssn;
 use numbers::Tsn;
 ghost use mathlib.Core.Path.{_≡_};
-ghost use Prim.Native.Nat.{_^_, _≤_};
+ghost use Prim.Native.Nat.{_^_, _<_, _≤_};
 ghost use lib.ListN.{length};
 ghost use Rattle.numbers.specs.Numbering.{ring};
 ghost use Rattle.numbers.specs.Profile.{rail};
-ghost use Rattle.scans.specs.Scan.{count};
 ghost use Rattle.holding.specs.Taking.{written};
-ghost use Rattle.delivery.specs.Receiving.{fresh, isLow, taken};
+ghost use Rattle.delivery.specs.Receiving.{fresh, taken};
+ghost use Rattle.delivery.specs.LowLaws.{flagAt, lowBy};
 
 #[repr(C)]
 pub struct Receiving {
@@ -26,33 +26,33 @@ pub struct Taken {
     pub receiving: Receiving,
 }
 
-// Whether the place holds a chunk whose offset is not marked come.
-pub(crate) fn is_low(keeping: Keeping, h: Held) -> bool
-    ensures { λ y. ⌜ y ≡ isLow (ring (2 ^ 32)) keeping h ⌝ }
+// Where the flag of an offset is: at the first place, if it has none.
+pub(crate) fn flag_at(offset: u32) -> usize
+    ensures { λ j. ⌜ (j ≡ flagAt rail offset) × (j < 128) ⌝ }
 {
-    if h.used {
-        let tsn = h.tsn;
-        return !keeping.is_come(tsn);
+    if offset < 1 {
+        return 0;
     }
-    false
+    if Rail::PLACES < offset as usize {
+        return 0;
+    }
+    (offset - 1) as usize
 }
 
-// How many held chunks have an offset that is not marked come.
-pub fn low(keeping: Keeping, held: [Held; Rail::PLACES]) -> usize
-    ensures { λ n. ⌜ (n ≡ count (isLow (ring (2 ^ 32)) keeping) held) × (n ≤ 128) ⌝ }
+// Whether a place is low, by what is read there for its offset: to hand over all flags for each place would copy them for each.
+pub(crate) fn is_low_by(used: bool, offset: u32, flag: bool) -> bool
+    ensures { λ y. ⌜ y ≡ lowBy rail used offset flag ⌝ }
 {
-    let mut n: usize = 0;
-    let mut i: usize = 0;
-    while i < Rail::PLACES {
-        let h = held[i];
-        if is_low(keeping, h) {
-            n += 1;
-            i += 1;
-        } else {
-            i += 1;
+    if used {
+        if offset < 1 {
+            return true;
         }
+        if Rail::PLACES < offset as usize {
+            return true;
+        }
+        return !flag;
     }
-    n
+    false
 }
 
 impl Receiving {

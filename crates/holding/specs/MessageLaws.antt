@@ -14,7 +14,7 @@ use Rattle.numbers.specs.Numbering.{Numbering, on, key}
 use Rattle.numbers.specs.Profile.{Profile}
 use Rattle.scans.specs.declared.Found.{Found}
 use Rattle.scans.specs.declared.Found.the-variants.{At, Nothing}
-use Rattle.scans.specs.Scan.{pick, findFrom, find-within, Folding, fold-more, fold-end}
+use Rattle.scans.specs.Scan.{pick, findFrom, Folding, fold-more, fold-end}
 use Rattle.scans.specs.Each.{clash}
 use Rattle.holding.specs.declared.held.Held.{Held}
 use Rattle.holding.specs.declared.message.Best.{Best}
@@ -85,16 +85,17 @@ module _ {T : Numbering} {hs : List Held} {first : Held} {m place : ℕ} {at : L
     unfolding follow
     onward-is h q = rw (fe, te) (rw q at (one-more h))
 
-    pub gather-within : {j : ℕ} → f ≡ At j → j < m
-    gather-within {j} e = omega (arith, w .long, find-within (continues first t) hs 0 j (sym fe ∙ e))
-
-    pub gather-more : n < m → cur .end ≡ false → {j : ℕ} → f ≡ At j → Gathering T hs first m place (set at n i) j (getD hs j noHeld) (n + 1)
-    gather-more h q {j} e = record {
+    more : n < m → cur .end ≡ false → {j : ℕ} → f ≡ At j → Gathering T hs first m place (set at n i) j (getD hs j noHeld) (n + 1)
+    more h q {j} e = record {
       long = w .long;
       room = length-set at n i ∙ w .room;
       within = omega arith;
       rest = rw (noted h, ← joined-led (take n at) i (follow T hs first (m - (n + 1)) j (getD hs j noHeld))) (rw e at (onward-is h q));
     }
+
+    -- the search left the count as it was
+    pub gather-more : {x : ℕ} → x ≡ n → n < m → cur .end ≡ false → {j : ℕ} → f ≡ At j → Gathering T hs first m place (set at n i) j (getD hs j noHeld) (x + 1)
+    gather-more l h q e = rw l (more h q e)
 
     pub gather-none : n < m → cur .end ≡ false → f ≡ Nothing → broken ≡ follow T hs first m place first
     gather-none h q e = rw e at (onward-is h q)

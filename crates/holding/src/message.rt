@@ -3,14 +3,12 @@ use crate::held::Held;
 use numbers::Rail;
 use numbers::Ssn;
 use numbers::Tsn;
-use scans::Found;
 ghost use mathlib.Core.Path.{_≡_};
 ghost use mathlib.Core.List.{map};
 ghost use Prim.Native.Nat.{_^_, _<_, _≤_};
 ghost use lib.ListN.{getD};
 ghost use Rattle.numbers.specs.Numbering.{ring, on};
 ghost use Rattle.numbers.specs.Profile.{rail};
-ghost use Rattle.scans.specs.Scan.{findFrom};
 ghost use Rattle.holding.specs.Held.{noHeld};
 ghost use Rattle.holding.specs.Message.{isOfOne, continues, follow, isLeftEnd, isExpected, opens, chosen};
 ghost use Rattle.holding.specs.MessageLaws.{runOf, bestOf, isBetter, tried};
@@ -57,22 +55,8 @@ fn goes_on(first: Held, t: Tsn, h: Held) -> bool
     is_of_one(first, h)
 }
 
-// The place of the chunk that goes on the run of `first` at the number `t`.
-fn next_of(held: [Held; Rail::PLACES], first: Held, t: Tsn) -> Found
-    ensures { λ f. ⌜ f ≡ findFrom (continues first (t .0)) 0 held ⌝ }
-{
-    let mut i: usize = 0;
-    while i < Rail::PLACES {
-        let h = held[i];
-        if goes_on(first, t, h) {
-            return Found::At(i);
-        }
-        i += 1;
-    }
-    Found::Nothing
-}
-
-// The places of the run of `first`, which is at the place, if it is a whole message; else none.
+// The places of the run of `first`, which is at the place, if it is a whole message; else none. The search for the next is a loop of its own in here,
+// since a function for it would copy the held chunks for each.
 pub(crate) fn gather(held: [Held; Rail::PLACES], place: usize, first: Held) -> Places
     ensures { λ p. ⌜ (runOf p ≡ follow (ring (2 ^ 32)) held first 128 place first) × (p .count ≤ 128) ⌝ }
 {
@@ -80,22 +64,25 @@ pub(crate) fn gather(held: [Held; Rail::PLACES], place: usize, first: Held) -> P
     let mut i = place;
     let mut cur = first;
     let mut n: usize = 0;
-    while n < Rail::PLACES {
+    'run: while n < Rail::PLACES {
         at[n] = i;
         if cur.end {
             return Places { at, count: n + 1 };
         }
         let tsn = cur.tsn;
-        match next_of(held, first, tsn.after(1)) {
-            Found::At(j) => {
+        let t = tsn.after(1);
+        let mut j: usize = 0;
+        while j < Rail::PLACES {
+            let h = held[j];
+            if goes_on(first, t, h) {
                 i = j;
-                cur = held[j];
+                cur = h;
                 n += 1;
+                continue 'run;
             }
-            Found::Nothing => {
-                return Places { at, count: 0 };
-            }
+            j += 1;
         }
+        return Places { at, count: 0 };
     }
     Places { at, count: 0 }
 }

@@ -1,10 +1,12 @@
-use Prim.Native.Nat.{_-_}
 use mathlib.Core.Path.{refl, sym, _∙_}
 use Rattle.delivery.specs.Arrival.{arrived, areaAfter}
 use Rattle.delivery.specs.ArrivalLaws.{kept-coming}
 use borrow.Author.Needs.{needs}
 use Rattle.delivery.proofs.receiving.Receiving.arrive.Statement.{statement}
 use Rattle.delivery.proofs.receiving.Receiving.arrive.Tie as tie
+
+look-for-requires : tie.Need-look-for-requires
+look-for-requires c κs = search needs
 
 judge-requires : tie.Need-judge-requires
 judge-requires c κs = search needs
@@ -13,7 +15,7 @@ enum-told : tie.Need-enum-told
 enum-told c = search needs
 
 keep-requires : tie.Need-keep-requires
-keep-requires c κs = kept-coming _ _ _ _ _ (sym (c .before .before .before .before .judge .ensures) ∙ c .before .enum-told .given .1) .0 .fits
+keep-requires c κs = (kept-coming _ _ _ _ _ (sym (c .before .before .before .judge .ensures) ∙ c .before .enum-told .given .1) .0 .fits, c .before .before .before .before .look-for .ensures .free)
 
 enum-told-2 : tie.Need-enum-told-2
 enum-told-2 c = search needs
@@ -44,36 +46,37 @@ same-length c = search needs
 
 returns : tie.Need-returns
 unfolding arrived areaAfter
-returns c = rw (← c .before .before .before .before .before .before .before .judge .ensures, c .before .before .before .before .enum-told .given .1) (rw (c .before .before .keep .ensures .0), c .before .before .keep .ensures .1)
+returns c = rw (← c .before .before .before .before .before .before .judge .ensures, c .before .before .before .before .enum-told .given .1) (rw (c .before .before .keep .ensures .0), c .before .before .keep .ensures .1)
 
 returns-2 : tie.Need-returns-2
 unfolding arrived areaAfter
-returns-2 c = rw (← c .before .before .before .before .judge .ensures, c .before .enum-told2 .given .1) (rw (c .note .ensures), refl)
+returns-2 c = rw (← c .before .before .before .judge .ensures, c .before .enum-told2 .given .1) (rw (c .note .ensures), refl)
 
 returns-3 : tie.Need-returns-3
 unfolding arrived areaAfter
-returns-3 c = rw (← c .before .before .before .before .judge .ensures, c .before .enum-told3 .given .1) (rw (c .pass .ensures), refl)
+returns-3 c = rw (← c .before .before .before .judge .ensures, c .before .enum-told3 .given .1) (rw (c .pass .ensures), refl)
 
 returns-4 : tie.Need-returns-4
 unfolding arrived areaAfter
-returns-4 c = rw (← c .before .before .before .judge .ensures, c .enum-told4 .given .1) (refl, refl)
+returns-4 c = rw (← c .before .before .judge .ensures, c .enum-told4 .given .1) (refl, refl)
 
 returns-5 : tie.Need-returns-5
 unfolding arrived areaAfter
-returns-5 c = rw (← c .before .before .before .judge .ensures, c .enum-told5 .given .1) (refl, refl)
+returns-5 c = rw (← c .before .before .judge .ensures, c .enum-told5 .given .1) (refl, refl)
 
 returns-6 : tie.Need-returns-6
 unfolding arrived areaAfter
-returns-6 c = rw (← c .before .before .before .judge .ensures, c .enum-told6 .given .1) (refl, refl)
+returns-6 c = rw (← c .before .before .judge .ensures, c .enum-told6 .given .1) (refl, refl)
 
 returns-7 : tie.Need-returns-7
 unfolding arrived areaAfter
-returns-7 c = rw (← c .before .before .before .judge .ensures, c .enum-told7 .given .1) (refl, refl)
+returns-7 c = rw (← c .before .before .judge .ensures, c .enum-told7 .given .1) (refl, refl)
 
 pub arrive-spec : {M : Type 1} → statement M
 arrive-spec =
     tie.close
     (tie.spec
+    look-for-requires
     judge-requires
     enum-told
     keep-requires

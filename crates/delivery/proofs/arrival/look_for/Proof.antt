@@ -1,0 +1,83 @@
+use borrow.Author.Needs.{needs}
+use Prim.Native.Nat.{_-_, _^_}
+use mir.Facts.{fits-le, fits-lit}
+use Rattle.numbers.specs.Numbering.{ring}
+use Rattle.numbers.specs.Profile.{rail}
+use Rattle.scans.specs.Scan.{long-mapped, bit-within}
+use Rattle.delivery.specs.LowLaws.{low-by}
+use Rattle.delivery.specs.LookLaws.{Looking, look-start, look-more, look-end}
+use Rattle.delivery.proofs.arrival.look_for.Statement.{statement}
+use Rattle.delivery.proofs.arrival.look_for.Tie as tie
+
+abbrev Inv-loop : tie.InvT-loop
+Inv-loop keeping tsn held come low₀ has₀ free₀ i₀ low has free i = Looking (ring (2 ^ 32)) rail keeping held (tsn .0) i low has free
+
+abbrev μ-loop : tie.MeasureT-loop
+μ-loop keeping tsn held come low₀ has₀ free₀ i₀ low has free i = 128 - i
+
+loop-holds : tie.Need-loop-holds Inv-loop μ-loop
+loop-holds c = look-start _ _ _ _ _ (search (needs, long-mapped))
+
+mul-h : tie.Need-mul-h Inv-loop μ-loop
+mul-h c = search needs
+
+array-copy-out-h : tie.Need-array-copy-out-h Inv-loop μ-loop
+array-copy-out-h c = search needs
+
+offset-requires : tie.Need-offset-requires Inv-loop μ-loop
+offset-requires c κs = search needs
+
+flag-at-requires : tie.Need-flag-at-requires Inv-loop μ-loop
+flag-at-requires c κs = search needs
+
+array-read-is-low-by : tie.Need-array-read-is-low-by Inv-loop μ-loop
+array-read-is-low-by c = search needs
+
+is-low-by-requires : tie.Need-is-low-by-requires Inv-loop μ-loop
+is-low-by-requires c κs = search needs
+
+cast-low : tie.Need-cast-low Inv-loop μ-loop
+cast-low c = search needs
+
+add-low : tie.Need-add-low Inv-loop μ-loop
+add-low c = fits-le (bit-within (c .before .before .before .before .before .before .loop .inv .low) (c .is-low-by .result) (c .before .before .before .before .before .loop-test .taken)) (fits-lit tt)
+
+or-held-requires : tie.Need-or-held-requires Inv-loop μ-loop
+or-held-requires c κs = search needs
+
+or-free-requires : tie.Need-or-free-requires Inv-loop μ-loop
+or-free-requires c κs = search needs
+
+add-i : tie.Need-add-i Inv-loop μ-loop
+add-i c = search needs
+
+loop-less : tie.Need-loop-less Inv-loop μ-loop
+loop-less c = search needs
+
+loop-again : tie.Need-loop-again Inv-loop μ-loop
+loop-again c = look-more (c .before .before .before .before .before .before .before .before .loop .inv) (c .before .before .before .before .before .before .before .loop-test .taken) (low-by (ring (2 ^ 32)) rail (c .before .before .before .before .before .before .before .before .before .before .args .keeping) _ (search needs) (c .before .before .before .before .offset .ensures) (c .before .before .before .flag-at .ensures .0) (c .before .before .is-low-by .ensures)) (c .before .or-held .ensures) (c .or-free .ensures)
+
+returns : tie.Need-returns Inv-loop μ-loop
+returns c = look-end (c .before .loop .inv) (c .loop-test .left)
+
+pub look-for-spec : {M : Type 1} → statement M
+look-for-spec =
+    tie.close
+    (tie.spec
+    Inv-loop
+    μ-loop
+    loop-holds
+    mul-h
+    array-copy-out-h
+    offset-requires
+    flag-at-requires
+    array-read-is-low-by
+    is-low-by-requires
+    cast-low
+    add-low
+    or-held-requires
+    or-free-requires
+    add-i
+    loop-less
+    loop-again
+    returns)
