@@ -100,14 +100,6 @@ module _ {hs : List Held} {p : Places} {now : List Held} {j : ℕ} (w : Within p
   pub empty-end : p .count ≤ j → now ≡ emptied hs (take (p .count) (p .at))
   empty-end h = rw (drop-of-length-le (take (p .count) (p .at)) {i = j} (omega (arith, within-long w))) at (s .rest)
 
--- ---- what is left, and what is given, by the room that there is
-
-abbrev pub leftBy : List Held → List ℕ → ℕ → List Held
-leftBy hs is room = pick (ltb room (lengthOf hs is)) hs (emptied hs is)
-
-abbrev pub givenBy : Profile → List ℕ → List Held → List ℕ → List ℕ → List ℕ
-givenBy P area hs out is = pick (ltb (length out) (lengthOf hs is)) out (copied P area hs out 0 is)
-
 -- ---- the places of a run, and of a choice
 
 abbrev Inside : ℕ → Run → Type 0
@@ -265,12 +257,14 @@ module _ {T : Numbering} {P : Profile} {hs : List Held} {next : List Ssn} {point
   unfolding took
   took-all S room h k l = rw (w .choice, ← e, le-ltb room n h, first-is, k, l)
 
-  pub left-all : (room : ℕ) {kept : List Held} → n ≤ room → kept ≡ leftBy hs is room → kept ≡ emptied hs is
-  left-all room h q = rw (← e, le-ltb room n h) at q
-
-  pub written-given : (area out : List ℕ) {filled : List ℕ} → filled ≡ givenBy P area hs out is → filled ≡ written T P hs next point area out
+  pub written-short : (area out : List ℕ) → length out < n → out ≡ written T P hs next point area out
   unfolding written
-  written-given area out q = rw (w .choice) q
+  written-short area out h = rw (w .choice, ← e, lt-ltb (length out) n h)
+
+  pub written-all : (area out : List ℕ) {filled : List ℕ} → n ≤ length out → filled ≡ copied P area hs out 0 is
+      → filled ≡ written T P hs next point area out
+  unfolding written
+  written-all area out h q = rw (w .choice, ← e, le-ltb (length out) n h) q
 
 module _ (T : Numbering) (P : Profile) (hs : List Held) (next : List Ssn) (point : ℕ) (e : chosen T P hs next point ≡ none) where
   pub took-none : (S : Numbering) (room : ℕ) → record { answer = answer.Nothing; held = hs; next = next } ≡ took T S P hs next point room

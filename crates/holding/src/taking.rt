@@ -13,8 +13,8 @@ ghost use Rattle.numbers.specs.Numbering.{ring};
 ghost use Rattle.numbers.specs.Profile.{rail};
 ghost use Rattle.octets.specs.Bytes.{laid};
 ghost use Rattle.holding.specs.Message.{isOne, chosen};
-ghost use Rattle.holding.specs.Taking.{lengthOf, payloadAt, advanced, took, written};
-ghost use Rattle.holding.specs.TakingLaws.{Within, leftBy, givenBy};
+ghost use Rattle.holding.specs.Taking.{lengthOf, payloadAt, copied, emptied, advanced, took, written};
+ghost use Rattle.holding.specs.TakingLaws.{Within};
 
 // What a take gives beside the bytes.
 #[repr(C)]
@@ -33,16 +33,27 @@ pub enum Answer {
     Short(usize),
 }
 
-// How long a message is, and what its take leaves.
-struct Given {
-    length: usize,
-    held: [Held; Rail::PLACES],
-}
-
 pub struct Took {
     pub answer: Answer,
     pub held: [Held; Rail::PLACES],
     pub next: [Ssn; Rail::STREAMS],
+}
+
+// The bytes of the message at the places.
+fn length_of(held: [Held; Rail::PLACES], p: Places) -> usize
+    requires { ⌜ Within p ⌝ }
+    ensures { λ n. ⌜ n ≡ lengthOf held (take (p .count) (p .at)) ⌝ }
+{
+    let count = p.count;
+    let mut n: usize = 0;
+    let mut j: usize = 0;
+    while j < count {
+        let i = p.at[j];
+        let h = held[i];
+        n += h.bytes();
+        j += 1;
+    }
+    n
 }
 
 // The payload of n bytes at a place, from `at` on.
@@ -61,41 +72,35 @@ fn copy_payload(area: &[u8], out: &mut [u8], at: usize, place: usize, n: usize)
     octets::bytes::put_all(out, at, &area[from..from + n]);
 }
 
-// The message at the places: how long it is; and if the output has room, its payloads go there one behind the other, and its places are freed. One
-// function: one for each would copy the held chunks for each.
-fn give(mut held: [Held; Rail::PLACES], p: Places, area: &[u8], out: &mut [u8]) -> Given
+// The payloads of the message at the places, one behind the other; and its places are freed. One function: one for each would copy the held chunks
+// for each.
+fn give(
+    mut held: [Held; Rail::PLACES],
+    p: Places,
+    area: &[u8],
+    out: &mut [u8],
+) -> [Held; Rail::PLACES]
     requires { ⌜ Within p ⌝ }
-    ensures { λ g. ⌜ (g .length ≡ lengthOf held (take (p .count) (p .at))) × (g .held ≡ leftBy held (take (p .count) (p .at)) (length (now (out .entry)))) × (now (out .exit) ≡ givenBy rail (now (area .entry)) held (now (out .entry)) (take (p .count) (p .at))) ⌝ }
+    ensures { λ r. ⌜ (r ≡ emptied held (take (p .count) (p .at))) × (now (out .exit) ≡ copied rail (now (area .entry)) held (now (out .entry)) 0 (take (p .count) (p .at))) ⌝ }
 {
     let count = p.count;
-    let mut length: usize = 0;
+    let mut at: usize = 0;
     let mut j: usize = 0;
     while j < count {
         let i = p.at[j];
         let h = held[i];
-        length += h.bytes();
-        j += 1;
-    }
-    if out.len() < length {
-        return Given { length, held };
-    }
-    let mut at: usize = 0;
-    let mut k: usize = 0;
-    while k < count {
-        let i = p.at[k];
-        let h = held[i];
         let n = h.bytes();
         copy_payload(area, out, at, i, n);
         at += n;
+        j += 1;
+    }
+    let mut k: usize = 0;
+    while k < count {
+        let i = p.at[k];
+        held[i] = Held::none();
         k += 1;
     }
-    let mut m: usize = 0;
-    while m < count {
-        let i = p.at[m];
-        held[i] = Held::none();
-        m += 1;
-    }
-    Given { length, held }
+    held
 }
 
 // The stream of an ordered message expects the next number.
@@ -137,16 +142,15 @@ pub fn take(
         let place = best.place;
         let first = held[place];
         let p = message::gather(held, place, first);
-        let room = out.len();
-        let g = give(held, p, area, out);
-        let length = g.length;
-        if room < length {
+        let length = length_of(held, p);
+        if out.len() < length {
             return Took {
                 answer: Answer::Short(length),
                 held,
                 next,
             };
         }
+        let rest = give(held, p, area, out);
         let stream = first.stream;
         let ssn = first.ssn;
         let m = Message {
@@ -156,7 +160,6 @@ pub fn take(
             ssn,
             ppid: first.ppid,
         };
-        let rest = g.held;
         let later = advance(next, first);
         return Took {
             answer: Answer::Taken(m),
