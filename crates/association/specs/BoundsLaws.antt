@@ -6,7 +6,7 @@ use native.Mathlib.Omega.{arith}
 use borrow.Author.Tests.{eqb-true, eqb-false}
 use lib.Dec.{ltb, eqb}
 use Rattle.scans.specs.Scan.{pick}
-use Rattle.scans.specs.Each.{clash}
+use Rattle.scans.specs.Each.{clash, after-so}
 use Rattle.scans.specs.Upto.{smaller, pick-keeps}
 use Rattle.numbers.specs.Numbering.{ring}
 use Rattle.numbers.specs.Profile.{rail}
@@ -103,14 +103,10 @@ ends-ended e known h = go _ _ _ refl refl refl h
     go false false false p q r h = clash h
     go false false true p q r h = record { mine = p; theirs = q; ins = r; outs = h }
 
-behind : (t u : Bool) → pick t u false ≡ true → u ≡ true
-behind true u e = e
-behind false u e = clash e
-
 -- once the peer is known, both tags are there
 pub known-ends : (e : Ends) (c : Cookie) (s : State) → knowsPeer s ≡ true → isHead s e c ≡ true → areEnds e true ≡ true
 known-ends e c =
-    each-state (λ s. knowsPeer s ≡ true → isHead s e c ≡ true → areEnds e true ≡ true) clash (λ n. clash) (λ n k h. behind (isCookie (c .len)) (areEnds e true) h) (λ k h. h) (λ k h. h) (λ n k h. h)
+    each-state (λ s. knowsPeer s ≡ true → isHead s e c ≡ true → areEnds e true ≡ true) clash (λ n. clash) (λ n k h. after-so (isCookie (c .len)) (areEnds e true) h .1) (λ k h. h) (λ k h. h) (λ n k h. h)
     (λ k h. h) (λ n k h. h)
 
 -- ---- numbers

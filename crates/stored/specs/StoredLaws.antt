@@ -1,11 +1,9 @@
 -- Packing and unpacking undo each other. Assumes nothing.
-use Prim.Native.Nat.{ℕ}
-use mathlib.Core.Path.{_≡_, refl, ap}
-use mathlib.Core.Bool.{Bool, true, false}
-use native.Mathlib.Omega.{arith}
+use mathlib.Core.Path.{_≡_, refl}
+use mathlib.Core.Bool.{true}
 use borrow.Author.Tests.{eqb-true, eq-eqb}
 use lib.Dec.{eqb}
-use Rattle.scans.specs.Scan.{pick}
+use Rattle.scans.specs.Each.{after-so}
 use Rattle.states.specs.declared.state.State.{State}
 use Rattle.states.specs.declared.state.State.the-variants.{Closed, CookieWait, CookieEchoed, Established, ShutdownPending, ShutdownSent, ShutdownReceived, ShutdownAckSent}
 use Rattle.association.specs.declared.ends.Association.{Association}
@@ -32,18 +30,11 @@ pub pack-named : (a : Association) → isNamed (packed a .state) (packed a .trie
 unfolding isNamed packed
 pack-named a = rw (state-back (a .state), eq-eqb (numberOf (a .state)) _ refl) (eq-eqb (triesOf (a .state)) _ refl)
 
-false-true : _≡_ {A = Bool} false true → ⊥
-false-true h = omega (arith, ap (λ (b : Bool). pick {A = ℕ} b 0 1) h)
-
-both : (s t : Bool) → pick s t false ≡ true → (s ≡ true) × (t ≡ true)
-both true t h = (refl, h)
-both false t h = absurd (false-true h)
-
 -- what names a state is given back as it came, where nothing changes it
 pub pack-unpack : (s : Stored) → isNamed (s .state) (s .tries) ≡ true → packed (unpacked s) ≡ s
 unfolding isNamed unpacked packed
 pack-unpack s h =
-    let b = both (eqb (numberOf (stateOf (s .state) (s .tries))) (s .state)) (eqb (triesOf (stateOf (s .state) (s .tries))) (s .tries)) h in
+    let b = after-so (eqb (numberOf (stateOf (s .state) (s .tries))) (s .state)) (eqb (triesOf (stateOf (s .state) (s .tries))) (s .tries)) h in
     λ i. record {
       state = eqb-true (numberOf (stateOf (s .state) (s .tries))) (s .state) (b .0) i;
       tries = eqb-true (triesOf (stateOf (s .state) (s .tries))) (s .tries) (b .1) i;
