@@ -17,6 +17,8 @@ use Rattle.numbers.proofs.keeping.Keeping.told.Reads as told-reads
 use Rattle.numbers.proofs.keeping.Keeping.blocks.Reads as blocks-reads
 use Rattle.numbers.proofs.keeping.Keeping.highest.Reads as highest-reads
 use Rattle.numbers.proofs.keeping.Keeping.within_bounds.Reads as within-bounds-reads
+use Rattle.numbers.proofs.rail.Rail.is_misfit.Reads as is-misfit-reads
+use Rattle.numbers.proofs.rail.Rail.is_agreed.Reads as is-agreed-reads
 
 pub circle-tsn-after-unique : (κs : _) (a : _) (r q : _) (s t : _) → circle-tsn-after-reads.Post κs a r s → circle-tsn-after-reads.Post κs a q t → r ≡ q
 circle-tsn-after-unique κs a r q s t x y = x ∙ sym y
@@ -65,3 +67,9 @@ within-bounds-unique κs a r q s t x y = x ∙ sym y
 
 pub none-unique : (κs : _) (a : _) (r q : _) (s t : _) → none-reads.Post κs a r s → none-reads.Post κs a q t → r ≡ q
 none-unique κs a r q s t x y = x ∙ sym y
+
+pub is-misfit-unique : (κs : _) (a : _) (r q : _) (s t : _) → is-misfit-reads.Post κs a r s → is-misfit-reads.Post κs a q t → r ≡ q
+is-misfit-unique κs a r q s t x y = x ∙ sym y
+
+pub is-agreed-unique : (κs : _) (a : _) (r q : _) (s t : _) → is-agreed-reads.Post κs a r s → is-agreed-reads.Post κs a q t → r ≡ q
+is-agreed-unique κs a r q s t x y = x ∙ sym y
