@@ -27,6 +27,7 @@ use Rattle.holding.specs.declared.held.Held.{Held}
 use Rattle.holding.specs.Held.{noHeld, holds, holds-is, is-held, holds-unused, holds-other, count-holds}
 use Rattle.delivery.specs.declared.receiving.Receiving.{Receiving}
 use Rattle.delivery.specs.Receiving.{isLow, lowOf}
+use Rattle.delivery.specs.LowLaws.{or-false}
 use Rattle.delivery.specs.Bounds.{isUsed, numberIn, heldNumbers, Fit, Sound, isUnfit, isSecond, isTwice, isSound}
 
 -- ---- the numbers noted by their slot
@@ -49,15 +50,7 @@ slot-on n b t hb ht l = go (far (ring n) b t) refl l
 any-next : (p : Held → Bool) (hs : List Held) (i : ℕ) → i < length hs → any p (take (i + 1) hs) ≡ either (any p (take i hs)) (p (getD hs i noHeld))
 any-next p hs i h =
     ap (any p) (ap (λ (k : ℕ). take k hs) (add-one i) ∙ take-suc hs i noHeld h)
-    ∙ (any-append p (take i hs) (getD hs i noHeld ∷ []) ∙ ap (either (any p (take i hs))) (one (p (getD hs i noHeld))))
-  where
-    one : (t : Bool) → pick t true false ≡ t
-    one true = refl
-    one false = refl
-
-or-false : (a : Bool) → either a false ≡ a
-or-false true = refl
-or-false false = refl
+    ∙ (any-append p (take i hs) (getD hs i noHeld ∷ []) ∙ ap (either (any p (take i hs))) (or-false (p (getD hs i noHeld))))
 
 -- of the numbers near the base, those held at the first i places are noted
 pub record Noting (n base : ℕ) (hs : List Held) (i : ℕ) (seen : List Bool) : Type 0 where
@@ -269,9 +262,16 @@ module _ (hs : List Held) where
                   (omega
                   (arith, some-count (holds t) (take i hs) x, next-count (holds t) i h, ap (λ (b : Bool). tick b 0) (holds-is t (getD hs i noHeld) q refl), prefix (holds t) (i + 1), count-holds t hs, count-numbers isUsed numberIn (λ (y : ℕ). eqb y t) hs, distinct-once (heldNumbers hs) s t))
 
-unfit-fit : (P : Profile) (h : Held) → isUnfit P h ≡ false → h .used ≡ true → Fit P h
+pub unfit-used : (P : Profile) (h : Held) → h .used ≡ true → isUnfit P h ≡ isMisfit P (h .len) (h .stream .0)
 unfolding isUnfit
-unfit-fit P h e u = misfit-fits P (h .len) (h .stream .0) (sym (ap (λ (t : Bool). pick t (isMisfit P (h .len) (h .stream .0)) false) u) ∙ e)
+unfit-used P h u = rw u
+
+pub unfit-free : (P : Profile) (h : Held) → h .used ≡ false → isUnfit P h ≡ false
+unfolding isUnfit
+unfit-free P h u = rw u
+
+unfit-fit : (P : Profile) (h : Held) → isUnfit P h ≡ false → h .used ≡ true → Fit P h
+unfit-fit P h e u = misfit-fits P (h .len) (h .stream .0) (sym (unfit-used P h u) ∙ e)
 
 fit-unfit : (P : Profile) (h : Held) → (h .used ≡ true → Fit P h) → isUnfit P h ≡ false
 unfolding isUnfit

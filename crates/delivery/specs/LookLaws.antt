@@ -13,12 +13,12 @@ use Rattle.numbers.specs.Numbering.{Numbering}
 use Rattle.numbers.specs.Profile.{Profile}
 use Rattle.scans.specs.declared.Found.{Found}
 use Rattle.scans.specs.declared.Found.the-variants.{At, Nothing}
-use Rattle.scans.specs.Scan.{pick, any, count, either, findFrom, find-within, Counting, count-end, Asking, ask-more, ask-end, foldFrom, Folding, fold-more, fold-end}
+use Rattle.scans.specs.Scan.{pick, any, count, either, findFrom, find-within, Counting, count-no, count-end, Asking, ask-more, ask-end, foldFrom, Folding, fold-more, fold-end}
 use Rattle.holding.specs.declared.held.Held.{Held}
-use Rattle.holding.specs.Held.{noHeld, holds, isFree}
+use Rattle.holding.specs.Held.{noHeld, holds, holds-unused, isFree}
 use Rattle.delivery.specs.declared.arrival.Look.{Look}
 use Rattle.delivery.specs.Receiving.{isLow}
-use Rattle.delivery.specs.LowLaws.{count-by}
+use Rattle.delivery.specs.LowLaws.{count-by, low-free, or-false}
 
 -- ---- the lowest free place as a number
 
@@ -28,15 +28,19 @@ freeOf P (At i) = i
 freeOf P Nothing = P .places
 
 -- the free place found before, or this one
-abbrev pub orFree : Profile → ℕ → Bool → ℕ → ℕ
-orFree P free used i = pick (ltb free (P .places)) free (pick used (P .places) i)
+abbrev pub orFree : Profile → ℕ → ℕ → ℕ
+orFree P free i = pick (ltb free (P .places)) free i
 
 abbrev freeing : Profile → ℕ → ℕ → Held → ℕ
-freeing P free i h = orFree P free (h .used) i
+freeing P free i h = pick (h .used) free (orFree P free i)
 
 free-kept : (P : Profile) (hs : List Held) (free i : ℕ) → free < P .places → foldFrom (freeing P) free i hs ≡ free
 free-kept P [] free i l = refl
-free-kept P (h ∷ hs) free i l = rw (lt-ltb free (P .places) l) (free-kept P hs free (i + 1) l)
+free-kept P (h ∷ hs) free i l = rw (lt-ltb free (P .places) l) (go (h .used) (free-kept P hs free (i + 1) l))
+  where
+    go : (u : Bool) → foldFrom (freeing P) free (i + 1) hs ≡ free → foldFrom (freeing P) (pick u free free) (i + 1) hs ≡ free
+    go true e = e
+    go false e = e
 
 free-found : (P : Profile) (hs : List Held) (i : ℕ) → i + length hs ≤ P .places → foldFrom (freeing P) (P .places) i hs ≡ freeOf P (findFrom isFree i hs)
 free-found P [] i l = refl
@@ -84,12 +88,19 @@ look-start T P k hs t l = record {
 }
 
 module _ {T : Numbering} {P : Profile} {k : Keeping} {hs : List Held} {t i a : ℕ} {b : Bool} {c : ℕ} (w : Looking T P k hs t i a b c) where
-  pub look-more : i < P .places → {y : Bool} → y ≡ isLow T k (getD hs i noHeld) → {x : Bool} → x ≡ either b (holds t (getD hs i noHeld))
-      → {f : ℕ} → f ≡ orFree P c (getD hs i noHeld .used) i → Looking T P k hs t (i + 1) (a + boolByte y) x f
-  look-more h e {x} g {f} q = record {
+  pub look-used : i < P .places → getD hs i noHeld .used ≡ true → {y : Bool} → y ≡ isLow T k (getD hs i noHeld) → {x : Bool} → x ≡ either b (holds t (getD hs i noHeld))
+      → Looking T P k hs t (i + 1) (a + boolByte y) x c
+  look-used h u e {x} g = record {
     low = count-by (w .low) noHeld h e;
     held = ask-more (w .held) noHeld x h g;
-    free = fold-more (w .free) noHeld f h q;
+    free = fold-more (w .free) noHeld c h (rw u);
+  }
+
+  pub look-free : i < P .places → getD hs i noHeld .used ≡ false → {f : ℕ} → f ≡ orFree P c i → Looking T P k hs t (i + 1) a b f
+  look-free h u {f} q = record {
+    low = count-no (w .low) noHeld h (low-free T k (getD hs i noHeld) u);
+    held = ask-more (w .held) noHeld b h (rw (holds-unused t (getD hs i noHeld) u) (sym (or-false b)));
+    free = fold-more (w .free) noHeld f h (rw u q);
   }
 
   pub look-end : P .places ≤ i → Looked T P k hs t (record { low = a; held = b; free = c })

@@ -7,13 +7,12 @@ use numbers::Judgement;
 use numbers::Keeping;
 use numbers::Rail;
 use numbers::Ssn;
-use numbers::StreamId;
 use numbers::Tsn;
 ghost use mathlib.Core.Path.{_≡_};
 ghost use Prim.Native.Nat.{_^_, _<_, _≤_};
 ghost use lib.ListN.{length};
 ghost use Rattle.numbers.specs.Numbering.{ring};
-ghost use Rattle.numbers.specs.Profile.{rail, isAgreed};
+ghost use Rattle.numbers.specs.Profile.{rail};
 ghost use Rattle.numbers.specs.Keeping.{isCome};
 ghost use Rattle.scans.specs.Scan.{either, findFrom};
 ghost use Rattle.holding.specs.Held.{asHeld, holds, isFree};
@@ -53,14 +52,11 @@ fn or_held(was: bool, h: Held, tsn: Tsn) -> bool
 }
 
 // The free place found before, or this one.
-fn or_free(free: usize, used: bool, i: usize) -> usize
-    ensures { λ y. ⌜ y ≡ orFree rail free used i ⌝ }
+fn or_free(free: usize, i: usize) -> usize
+    ensures { λ y. ⌜ y ≡ orFree rail free i ⌝ }
 {
     if free < Rail::PLACES {
         return free;
-    }
-    if used {
-        return Rail::PLACES;
     }
     i
 }
@@ -76,13 +72,17 @@ fn look_for(keeping: Keeping, held: [Held; Rail::PLACES], tsn: Tsn) -> Look
     let mut i: usize = 0;
     while i < Rail::PLACES {
         let h = held[i];
-        let t = h.tsn;
-        let offset = keeping.offset(t);
-        let j = receiving::flag_at(offset);
-        low += receiving::is_low_by(h.used, offset, come[j]) as usize;
-        has = or_held(has, h, tsn);
-        free = or_free(free, h.used, i);
-        i += 1;
+        if h.used {
+            let t = h.tsn;
+            let offset = keeping.offset(t);
+            let j = receiving::flag_at(offset);
+            low += receiving::is_low_by(offset, come[j]) as usize;
+            has = or_held(has, h, tsn);
+            i += 1;
+        } else {
+            free = or_free(free, i);
+            i += 1;
+        }
     }
     Look {
         low: low,
@@ -134,16 +134,6 @@ fn is_wedged(low: usize, held: [Held; Rail::PLACES], next: [Ssn; Rail::STREAMS],
     false
 }
 
-fn is_agreed(stream: StreamId, streams: u16) -> bool
-    ensures { λ y. ⌜ y ≡ isAgreed rail (stream .0) streams ⌝ }
-{
-    let s = stream.0;
-    if (s as usize) < Rail::STREAMS {
-        return s < streams;
-    }
-    false
-}
-
 // The verdict on a chunk with a payload of so many bytes.
 fn judge(r: Receiving, w: Look, c: Chunk, len: usize, streams: u16) -> Verdict
     requires { ⌜ Looked (ring (2 ^ 32)) rail (r .keeping) (r .held) (c .tsn .0) w ⌝ }
@@ -175,7 +165,7 @@ fn judge(r: Receiving, w: Look, c: Chunk, len: usize, streams: u16) -> Verdict
         return Verdict::Far;
     }
     let stream = c.stream;
-    if is_agreed(stream, streams) {
+    if Rail::is_agreed(stream, streams) {
         return Verdict::Kept;
     }
     Verdict::Stray

@@ -13,7 +13,7 @@ ghost use Rattle.numbers.specs.Numbering.{ring, far};
 ghost use Rattle.numbers.specs.Profile.{rail};
 ghost use Rattle.scans.specs.Scan.{any};
 ghost use Rattle.holding.specs.Held.{holds};
-ghost use Rattle.delivery.specs.Bounds.{isUnfit, isSound};
+ghost use Rattle.delivery.specs.Bounds.{isSound};
 ghost use Rattle.delivery.specs.BoundsLaws.{slotOf, weightOf};
 
 // How far before the point a number may lie for the test to look at it once only, and how many numbers there are from there.
@@ -23,22 +23,6 @@ const NEAR: usize = 512;
 
 // More low chunks than there are places.
 const TOO_MANY: usize = 129;
-
-// A chunk is held here whose length or stream is outside the bounds.
-fn is_unfit(h: Held) -> bool
-    ensures { λ y. ⌜ y ≡ isUnfit rail h ⌝ }
-{
-    if h.used {
-        if h.len < 1 {
-            return true;
-        }
-        if Rail::PAYLOAD < h.len as usize {
-            return true;
-        }
-        return Rail::STREAMS <= h.stream.0 as usize;
-    }
-    false
-}
 
 // The slot of a number from the base on; none near where it lies elsewhere.
 fn slot(base: Tsn, tsn: Tsn) -> usize
@@ -80,14 +64,15 @@ fn weight(keeping: Keeping, held: [Held; Rail::PLACES]) -> usize
     let mut i: usize = 0;
     while i < Rail::PLACES {
         let h = held[i];
-        if is_unfit(h) {
-            return TOO_MANY;
-        }
-        let tsn = h.tsn;
-        let offset = keeping.offset(tsn);
-        let j = receiving::flag_at(offset);
-        low += receiving::is_low_by(h.used, offset, come[j]) as usize;
         if h.used {
+            let stream = h.stream;
+            if Rail::is_misfit(h.len, stream) {
+                return TOO_MANY;
+            }
+            let tsn = h.tsn;
+            let offset = keeping.offset(tsn);
+            let j = receiving::flag_at(offset);
+            low += receiving::is_low_by(offset, come[j]) as usize;
             let d = slot(base, tsn);
             if d < NEAR {
                 if seen[d] {

@@ -39,20 +39,17 @@ pub(crate) fn flag_at(offset: u32) -> usize
     (offset - 1) as usize
 }
 
-// Whether a place is low, by what is read there for its offset: to hand over all flags for each place would copy them for each.
-pub(crate) fn is_low_by(used: bool, offset: u32, flag: bool) -> bool
-    ensures { λ y. ⌜ y ≡ lowBy rail used offset flag ⌝ }
+// Whether a held chunk is low, by what is read there for its offset: to hand over all flags for each place would copy them for each.
+pub(crate) fn is_low_by(offset: u32, flag: bool) -> bool
+    ensures { λ y. ⌜ y ≡ lowBy rail offset flag ⌝ }
 {
-    if used {
-        if offset < 1 {
-            return true;
-        }
-        if Rail::PLACES < offset as usize {
-            return true;
-        }
-        return !flag;
+    if offset < 1 {
+        return true;
     }
-    false
+    if Rail::PLACES < offset as usize {
+        return true;
+    }
+    !flag
 }
 
 impl Receiving {

@@ -5,7 +5,7 @@ use Rattle.numbers.specs.Numbering.{ring}
 use Rattle.numbers.specs.Profile.{rail}
 use Rattle.scans.specs.Scan.{long-mapped, bit-within}
 use Rattle.delivery.specs.LowLaws.{low-by}
-use Rattle.delivery.specs.LookLaws.{Looking, look-start, look-more, look-end}
+use Rattle.delivery.specs.LookLaws.{Looking, look-start, look-used, look-free, look-end}
 use Rattle.delivery.proofs.arrival.look_for.Statement.{statement}
 use Rattle.delivery.proofs.arrival.look_for.Tie as tie
 
@@ -40,13 +40,10 @@ cast-low : tie.Need-cast-low Inv-loop μ-loop
 cast-low c = search needs
 
 add-low : tie.Need-add-low Inv-loop μ-loop
-add-low c = fits-le (bit-within (c .before .before .before .before .before .before .loop .inv .low) (c .is-low-by .result) (c .before .before .before .before .before .loop-test .taken)) (fits-lit tt)
+add-low c = fits-le (bit-within (c .before .before .before .before .before .before .before .loop .inv .low) (c .is-low-by .result) (c .before .before .before .before .before .before .loop-test .taken)) (fits-lit tt)
 
 or-held-requires : tie.Need-or-held-requires Inv-loop μ-loop
 or-held-requires c κs = search needs
-
-or-free-requires : tie.Need-or-free-requires Inv-loop μ-loop
-or-free-requires c κs = search needs
 
 add-i : tie.Need-add-i Inv-loop μ-loop
 add-i c = search needs
@@ -55,7 +52,19 @@ loop-less : tie.Need-loop-less Inv-loop μ-loop
 loop-less c = search needs
 
 loop-again : tie.Need-loop-again Inv-loop μ-loop
-loop-again c = look-more (c .before .before .before .before .before .before .before .before .loop .inv) (c .before .before .before .before .before .before .before .loop-test .taken) (low-by (ring (2 ^ 32)) rail (c .before .before .before .before .before .before .before .before .before .before .args .keeping) _ (search needs) (c .before .before .before .before .offset .ensures) (c .before .before .before .flag-at .ensures .0) (c .before .before .is-low-by .ensures)) (c .before .or-held .ensures) (c .or-free .ensures)
+loop-again c = look-used (c .before .before .before .before .before .before .before .before .loop .inv) (c .before .before .before .before .before .before .before .loop-test .taken) (c .before .before .before .before .before .if1 .taken) (low-by (ring (2 ^ 32)) rail (c .before .before .before .before .before .before .before .before .before .before .args .keeping) _ (search needs) (c .before .before .before .before .before .if1 .taken) (c .before .before .before .offset .ensures) (c .before .before .flag-at .ensures .0) (c .before .is-low-by .ensures)) (c .or-held .ensures)
+
+or-free-requires : tie.Need-or-free-requires Inv-loop μ-loop
+or-free-requires c κs = search needs
+
+add-i-2 : tie.Need-add-i-2 Inv-loop μ-loop
+add-i-2 c = search needs
+
+loop-less-2 : tie.Need-loop-less-2 Inv-loop μ-loop
+loop-less-2 c = search needs
+
+loop-again-2 : tie.Need-loop-again-2 Inv-loop μ-loop
+loop-again-2 c = look-free (c .before .before .before .before .loop .inv) (c .before .before .before .loop-test .taken) (c .before .if1 .left) (c .or-free .ensures)
 
 returns : tie.Need-returns Inv-loop μ-loop
 returns c = look-end (c .before .loop .inv) (c .loop-test .left)
@@ -76,8 +85,11 @@ look-for-spec =
     cast-low
     add-low
     or-held-requires
-    or-free-requires
     add-i
     loop-less
     loop-again
+    or-free-requires
+    add-i-2
+    loop-less-2
+    loop-again-2
     returns)
