@@ -1,10 +1,8 @@
 -- The numbers that a profile fixes, and what follows from them. Definitions take a profile; the code's constants are the rail's.
 use Prim.Native.Nat.{ℕ, _*_, _<_, _≤_}
-use mathlib.Core.Path.{_≡_, refl, sym}
-use mathlib.Core.Bool.{Bool, true, false, not}
-use native.Mathlib.Omega.{arith}
-use native.Mathlib.Decide.{decLt}
-use borrow.Author.Tests.{lt-ltb, le-ltb, le-leb, lt-leb, ltb-true, ltb-false, leb-false}
+use mathlib.Core.Path.{_≡_, refl}
+use mathlib.Core.Bool.{Bool, true, false}
+use borrow.Author.Tests.{le-ltb, lt-leb, ltb-true, ltb-false, leb-false}
 use lib.Dec.{ltb, leb}
 use Rattle.scans.specs.Scan.{pick}
 use Rattle.scans.specs.Each.{clash, neither}
@@ -54,19 +52,3 @@ module _ (P : Profile) (stream streams : ℕ) where
       go : (t : Bool) → ltb stream (P .streams) ≡ t → stream < P .streams
       go true q = ltb-true stream (P .streams) q
       go false q = clash (rw q at e)
-
-  -- one past those agreed is none of them
-  pub agreed-past : streams ≤ stream → isAgreed P stream streams ≡ false
-  agreed-past h = go (ltb stream (P .streams))
-    where
-      go : (t : Bool) → pick t (ltb stream streams) false ≡ false
-      go true = le-ltb stream streams h
-      go false = refl
-
-  -- and one below is, where the profile has it
-  pub agreed-else : stream < streams → not (isAgreed P stream streams) ≡ leb (P .streams) stream
-  agreed-else h = go (decLt stream (P .streams))
-    where
-      go : Dec (stream < P .streams) → not (isAgreed P stream streams) ≡ leb (P .streams) stream
-      go (yes l) = rw (lt-ltb stream (P .streams) l, lt-ltb stream streams h, lt-leb (P .streams) stream l)
-      go (no l) = let m : P .streams ≤ stream = omega arith in rw (le-ltb stream (P .streams) m, le-leb (P .streams) stream m)

@@ -41,7 +41,7 @@ module _ (P : Profile) where
   unfolding spotOf
   spot-in k a b = rw (le-ltb k 1 a, le-ltb (P .places) k b)
 
-  spot-none : (k : ℕ) → k < 1 → spotOf P k ≡ P .places
+  pub spot-none : (k : ℕ) → k < 1 → spotOf P k ≡ P .places
   unfolding spotOf
   spot-none k a = rw (lt-ltb k 1 a)
 

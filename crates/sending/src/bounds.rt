@@ -39,14 +39,8 @@ fn is_odd(p: Place) -> bool
     if p.status == Place::FREE {
         return false;
     }
-    if p.chunk.len < 1 {
-        return true;
-    }
-    if Rail::PAYLOAD < p.chunk.len as usize {
-        return true;
-    }
     let stream = p.chunk.stream;
-    Rail::STREAMS <= stream.0 as usize
+    Rail::is_misfit(p.chunk.len, stream)
 }
 
 // Whether one was, or this one is.
@@ -88,7 +82,8 @@ fn spot_of(k: u64) -> usize
     (k - 1) as usize
 }
 
-// What one pass finds: a pass for each test would copy the places for each.
+// What one pass finds: a pass for each test would copy the places for each. Whether a place is odd is asked in both arms:
+// of a free one only the misses are left to look at.
 fn survey_of(places: [Place; Rail::PLACES], acked: Tsn, oldest: u32) -> Survey
     ensures { λ r. ⌜ Surveyed rail acked oldest places r ⌝ }
 {
@@ -101,15 +96,20 @@ fn survey_of(places: [Place; Rail::PLACES], acked: Tsn, oldest: u32) -> Survey
     let mut i: usize = 0;
     while i < Rail::PLACES {
         let p = places[i];
-        flight += p.flight();
-        odd = or_odd(odd, p);
-        sent += p.is_sent() as usize;
-        waiting += (p.status == Place::WAITING) as usize;
-        let j = spot_of(key_of(p, true, acked, oldest));
-        seen_sent[j] = true;
-        let k = spot_of(key_of(p, false, acked, oldest));
-        seen_waiting[k] = true;
-        i += 1;
+        if p.status == Place::FREE {
+            odd = or_odd(odd, p);
+            i += 1;
+        } else {
+            odd = or_odd(odd, p);
+            flight += p.flight();
+            sent += p.is_sent() as usize;
+            waiting += (p.status == Place::WAITING) as usize;
+            let j = spot_of(key_of(p, true, acked, oldest));
+            seen_sent[j] = true;
+            let k = spot_of(key_of(p, false, acked, oldest));
+            seen_waiting[k] = true;
+            i += 1;
+        }
     }
     Survey {
         flight: flight,

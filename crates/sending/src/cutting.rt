@@ -44,10 +44,7 @@ fn is_refused(len: usize, stream: StreamId, streams: u16) -> bool
     if Rail::PLACES * Rail::PAYLOAD < len {
         return true;
     }
-    if streams <= stream.0 {
-        return true;
-    }
-    Rail::STREAMS <= stream.0 as usize
+    !Rail::is_agreed(stream, streams)
 }
 
 // Whether a place takes the chunk k of n.
