@@ -35,25 +35,33 @@ module _ {A : Type 0} (p : A → Bool) where
   pub asks : Scans p false (λ i t n. pick t true n) (λ i xs. any p xs)
   asks = record { end = λ i. refl; on = λ i x xs. refl }
 
+-- by two tests that each answers alike, two scans that go by the answers in one way come out alike
+scan-alike : {A R : Type 0} {p q : A → Bool} {none : R} {step : ℕ → Bool → R → R} {S T : ℕ → List A → R}
+    → Scans p none step S → Scans q none step T → (i : ℕ) (xs : List A) → All (λ (x : A). q x ≡ p x) xs → T i xs ≡ S i xs
+scan-alike a b i [] w = b .end i ∙ sym (a .end i)
+scan-alike {step = step} a b i (x ∷ xs) w = b .on i x xs ∙ (λ k. step i (w .0 k) (scan-alike a b (i + 1) xs (w .1) k)) ∙ sym (a .on i x xs)
+
+module _ {A : Type 0} (p q : A → Bool) where
+  pub count-alike : (xs : List A) → All (λ (x : A). p x ≡ q x) xs → count p xs ≡ count q xs
+  count-alike xs w = scan-alike (counts q) (counts p) 0 xs w
+
 module _ {A B : Type 0} (f : A → B) (p : A → Bool) (q : B → Bool) where
   -- the one that takes the place of x answers as x does
   abbrev pub Alike : A → Type 0
   Alike x = q (f x) ≡ p x
 
-  scan-map : {R : Type 0} {none : R} {step : ℕ → Bool → R → R} {S : ℕ → List A → R} {T : ℕ → List B → R}
-      → Scans p none step S → Scans q none step T → (i : ℕ) (xs : List A) → All Alike xs → T i (map f xs) ≡ S i xs
-  scan-map a b i [] w = b .end i ∙ sym (a .end i)
-  scan-map {step = step} a b i (x ∷ xs) w =
-      b .on i (f x) (map f xs) ∙ (λ k. step i (w .0 k) (scan-map a b (i + 1) xs (w .1) k)) ∙ sym (a .on i x xs)
+  mapped : {R : Type 0} {none : R} {step : ℕ → Bool → R → R} {T : ℕ → List B → R}
+      → Scans q none step T → Scans (λ (x : A). q (f x)) none step (λ i xs. T i (map f xs))
+  mapped b = record { end = b .end; on = λ i x xs. b .on i (f x) (map f xs) }
 
   pub count-map : (xs : List A) → All Alike xs → count q (map f xs) ≡ count p xs
-  count-map xs w = scan-map (counts p) (counts q) 0 xs w
+  count-map xs w = scan-alike (counts p) (mapped (counts q)) 0 xs w
 
   pub find-map : (i : ℕ) (xs : List A) → All Alike xs → findFrom q i (map f xs) ≡ findFrom p i xs
-  find-map i xs w = scan-map (finds p) (finds q) i xs w
+  find-map i xs w = scan-alike (finds p) (mapped (finds q)) i xs w
 
   pub any-map : (xs : List A) → All Alike xs → any q (map f xs) ≡ any p xs
-  any-map xs w = scan-map (asks p) (asks q) 0 xs w
+  any-map xs w = scan-alike (asks p) (mapped (asks q)) 0 xs w
 
 module _ {A B : Type 0} (f : A → B) where
   pub set-map : (xs : List A) (i : ℕ) (x : A) → set (map f xs) i (f x) ≡ map f (set xs i x)
@@ -104,6 +112,19 @@ after-so false c e = clash e
 pub after-not : (b c : Bool) → pick b false c ≡ true → (b ≡ false) × (c ≡ true)
 after-not true c e = clash e
 after-not false c e = (refl, e)
+
+pub pick-self : (b : Bool) → pick b true false ≡ b
+pick-self true = refl
+pick-self false = refl
+
+-- what fails behind a test fails either way
+pub fails-behind : (b : Bool) {c : Bool} → c ≡ false → pick b c false ≡ false
+fails-behind true e = e
+fails-behind false e = refl
+
+pub fails-else : (b : Bool) {c : Bool} → c ≡ false → pick b false c ≡ false
+fails-else true e = refl
+fails-else false e = e
 
 pub neither : (b c : Bool) → pick b true c ≡ false → (b ≡ false) × (c ≡ false)
 neither true c e = clash (sym e)
