@@ -7,7 +7,7 @@ use native.Mathlib.Decide.{decLt}
 use borrow.Author.Tests.{lt-ltb, le-ltb, le-leb, lt-leb, ltb-true, ltb-false, leb-false}
 use lib.Dec.{ltb, leb}
 use Rattle.scans.specs.Scan.{pick}
-use Rattle.scans.specs.Each.{clash, neither}
+use Rattle.scans.specs.Each.{after-so, neither, fails-behind}
 
 -- places for held chunks, streams each way, the longest payload, how many duplicates are listed
 pub record Profile : Type 0 where
@@ -49,19 +49,11 @@ module _ (P : Profile) (len s : ℕ) where
 
 module _ (P : Profile) (stream streams : ℕ) where
   pub agreed-below : isAgreed P stream streams ≡ true → stream < P .streams
-  agreed-below e = go (ltb stream (P .streams)) refl
-    where
-      go : (t : Bool) → ltb stream (P .streams) ≡ t → stream < P .streams
-      go true q = ltb-true stream (P .streams) q
-      go false q = clash (rw q at e)
+  agreed-below e = ltb-true stream (P .streams) (after-so (ltb stream (P .streams)) (ltb stream streams) e .0)
 
   -- one past those agreed is none of them
   pub agreed-past : streams ≤ stream → isAgreed P stream streams ≡ false
-  agreed-past h = go (ltb stream (P .streams))
-    where
-      go : (t : Bool) → pick t (ltb stream streams) false ≡ false
-      go true = le-ltb stream streams h
-      go false = refl
+  agreed-past h = fails-behind (ltb stream (P .streams)) (le-ltb stream streams h)
 
   -- and one below is, where the profile has it
   pub agreed-else : stream < streams → not (isAgreed P stream streams) ≡ leb (P .streams) stream
