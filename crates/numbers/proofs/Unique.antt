@@ -8,6 +8,7 @@ use Rattle.numbers.proofs.circle.Tsn.judge.Reads as judge-reads
 use Rattle.numbers.proofs.circle.Ssn.after.Reads as circle-ssn-after-reads
 use Rattle.numbers.proofs.circle.Ssn.distance.Reads as circle-ssn-distance-reads
 use Rattle.numbers.proofs.keeping.Blocks.none.Reads as none-reads
+use Rattle.numbers.proofs.keeping.ahead_of.Reads as ahead-of-reads
 use Rattle.numbers.proofs.keeping.Keeping.fresh.Reads as fresh-reads
 use Rattle.numbers.proofs.keeping.Keeping.offset.Reads as offset-reads
 use Rattle.numbers.proofs.keeping.Keeping.is_come.Reads as is-come-reads
@@ -35,6 +36,9 @@ circle-ssn-after-unique κs a r q s t x y = x ∙ sym y
 
 pub circle-ssn-distance-unique : (κs : _) (a : _) (r q : _) (s t : _) → circle-ssn-distance-reads.Post κs a r s → circle-ssn-distance-reads.Post κs a q t → r ≡ q
 circle-ssn-distance-unique κs a r q s t x y = x ∙ sym y
+
+pub ahead-of-unique : (κs : _) (a : _) (r q : _) (s t : _) → ahead-of-reads.Post κs a r s → ahead-of-reads.Post κs a q t → r ≡ q
+ahead-of-unique κs a r q s t x y = x ∙ sym y
 
 pub fresh-unique : (κs : _) (a : _) (r q : _) (s t : _) → fresh-reads.Post κs a r s → fresh-reads.Post κs a q t → r ≡ q
 fresh-unique κs a r q s t x y = x ∙ sym y

@@ -160,7 +160,7 @@ pub fn is_within(s: Sending) -> bool
             if v.odd {
                 return false;
             }
-            let d = places::place::ahead(s.acked, s.next_tsn);
+            let d = numbers::keeping::ahead_of(s.acked, s.next_tsn);
             if d < 1 {
                 return false;
             }
