@@ -12,8 +12,8 @@ use Rattle.numbers.specs.Profile.{rail}
 use Rattle.numbers.specs.Blocks.{padded}
 use Rattle.numbers.specs.declared.circle.Tsn.{Tsn}
 use Rattle.numbers.specs.declared.keeping.Blocks.{Blocks}
-use Rattle.octets.specs.Bytes.{two, four, u8, u16, u32, be16, be32, up4, zeros}
-use Rattle.octets.specs.BytesLaws.{u16-is, u32-is, zeros-none}
+use Rattle.octets.specs.Bytes.{u8, u16, u32, be16, be32, up4, zeros}
+use Rattle.octets.specs.BytesLaws.{u16-again, u32-again, zeros-none}
 use Rattle.octets.specs.Writing.{items}
 use Rattle.octets.specs.WritingLaws.{length-items}
 use Rattle.chunks.specs.Frame.{partFrom, bytesIn, weight}
@@ -37,29 +37,10 @@ module _ (s : List ℕ) (w : All Octet s) (at : ℕ) where
   small i = all-at Octet s i 0 (omega arith) w
 
   pub two-again : at + 2 ≤ length s → be16 (u16 s at) ≡ take 2 (drop at s)
-  two-again h =
-      let a : ℕ = getD s at 0 in
-      let b : ℕ = getD s (at + 1) 0 in
-      let x : two a b / 256 ≡ a = omega (arith, small (at + 1)) in
-      let y : two a b % 256 ≡ b = omega (arith, small (at + 1)) in
-      rw (u16-is s at, x, y, drop-at s at 0 (omega arith), drop-at s (at + 1) 0 (omega arith))
+  two-again h = u16-again s small at h
 
   pub four-again : at + 4 ≤ length s → be32 (u32 s at) ≡ take 4 (drop at s)
-  four-again h =
-      let a : ℕ = getD s at 0 in
-      let b : ℕ = getD s (at + 1) 0 in
-      let c : ℕ = getD s (at + 2) 0 in
-      let d : ℕ = getD s (at + 3) 0 in
-      let i : b < 256 = small (at + 1) in
-      let j : c < 256 = small (at + 2) in
-      let k : d < 256 = small (at + 3) in
-      let p : at + 1 + 1 ≡ at + 2 = omega arith in
-      let q : at + 2 + 1 ≡ at + 3 = omega arith in
-      let x : four a b c d / 16777216 ≡ a = omega arith in
-      let y : four a b c d / 65536 % 256 ≡ b = omega arith in
-      let z : four a b c d / 256 % 256 ≡ c = omega arith in
-      let v : four a b c d % 256 ≡ d = omega arith in
-      rw (u32-is s at, x, y, z, v, drop-at s at 0 (omega arith), drop-at s (at + 1) 0 (omega arith), p, drop-at s (at + 2) 0 (omega arith), q, drop-at s (at + 3) 0 (omega arith))
+  four-again h = u32-again s small at h
 
 -- ---- pieces of s one behind the other
 

@@ -2,12 +2,10 @@
 use Prim.Native.Nat.{ℕ, _+_, _-_, _<_, _≤_}
 use mathlib.Core.Path.{_≡_, refl, sym, ap, _∙_}
 use mathlib.Core.List.{List, [], _++_, append-assoc, append-nil}
-use native.Mathlib.Decide.{decLt}
 use native.Mathlib.Omega.{arith}
-use borrow.Author.Tests.{lt-ltb, le-ltb}
 use lib.ListN.{length, drop, length-append}
 use lib.Seq.{take-at, drop-at}
-use Rattle.scans.specs.Upto.{smaller, smaller-left, smaller-right, smaller-le}
+use Rattle.scans.specs.Upto.{smaller-left, smaller-right, smaller-le, pick-less}
 use Rattle.octets.specs.Bytes.{u16, up4, zeros}
 use Rattle.octets.specs.Walk.{size, Whole}
 use Rattle.octets.specs.Writing.{head, Wrote}
@@ -33,11 +31,8 @@ ended-within s = (smaller-left (u16 s 2) (length s), smaller-right (u16 s 2) (le
 
 pub part-inside : (k : ℕ) (s : List ℕ) → partFrom k s .at + partFrom k s .len ≤ length s
 unfolding partFrom
-part-inside k s = go (decLt k (ended s))
-  where
-    go : Dec (k < ended s) → smaller k (ended s) + (ended s - k) ≤ length s
-    go (yes x) = rw (lt-ltb k (ended s) x) (omega (arith, ended-within s .1))
-    go (no x) = rw (le-ltb k (ended s) (omega arith)) (omega (arith, ended-within s .1))
+part-inside k s =
+    pick-less (λ x. x + (ended s - k) ≤ length s) k (ended s) k (ended s) (λ h. omega (arith, ended-within s .1)) (λ h. omega (arith, ended-within s .1))
 
 -- a chunk whose length lies within s ends there, and its parts are as long as they say
 module _ (s : List ℕ) (n : ℕ) (e : u16 s 2 ≡ n) (h : n ≤ length s) where

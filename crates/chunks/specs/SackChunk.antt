@@ -30,8 +30,7 @@ repeatOf s i = record { 0 = u32 s (16 + 4 * u16 s 12 + 4 * i) }
 
 -- the numbers f i, and n of them
 abbrev pub table : (ℕ → ℕ) → ℕ → ℕ → List ℕ
-table f i zero = []
-table f i (suc n) = f i ∷ table f (i + 1) n
+table f i n = items (λ (j : ℕ). f j ∷ []) i n
 
 -- "64 gap blocks": the first of them are listed, two arrays of numbers with zeros behind
 unfoldable pub listedIn : Profile → List ℕ → ℕ

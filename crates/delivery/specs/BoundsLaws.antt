@@ -21,13 +21,12 @@ use Rattle.numbers.specs.KeepingLaws.{sound-bounded, bounded-sound}
 use Rattle.numbers.specs.KeepingRoom.{Distinct, count-numbers, distinct-once, once-distinct}
 use Rattle.scans.specs.Scan.{pick, tick, any, count, either}
 use Rattle.scans.specs.Counts.{none-count, some-count, count-append, any-append}
-use Rattle.scans.specs.Each.{all-map, clash, any-none, none-any, upto-none, none-upto}
+use Rattle.scans.specs.Each.{all-map, clash, pick-self, any-none, none-any, upto-none, none-upto}
 use Rattle.scans.specs.Upto.{anyUpto, Trying, try-start, try-yes, try-no, try-end}
 use Rattle.holding.specs.declared.held.Held.{Held}
 use Rattle.holding.specs.Held.{noHeld, holds, holds-is, is-held, holds-unused, holds-other, count-holds}
 use Rattle.delivery.specs.declared.receiving.Receiving.{Receiving}
 use Rattle.delivery.specs.Receiving.{isLow, lowOf}
-use Rattle.delivery.specs.LowLaws.{or-false}
 use Rattle.delivery.specs.Bounds.{isUsed, numberIn, heldNumbers, Fit, Sound, isUnfit, isSecond, isTwice, isSound}
 
 -- ---- the numbers noted by their slot
@@ -50,7 +49,7 @@ slot-on n b t hb ht l = go (far (ring n) b t) refl l
 any-next : (p : Held → Bool) (hs : List Held) (i : ℕ) → i < length hs → any p (take (i + 1) hs) ≡ either (any p (take i hs)) (p (getD hs i noHeld))
 any-next p hs i h =
     ap (any p) (ap (λ (k : ℕ). take k hs) (add-one i) ∙ take-suc hs i noHeld h)
-    ∙ (any-append p (take i hs) (getD hs i noHeld ∷ []) ∙ ap (either (any p (take i hs))) (or-false (p (getD hs i noHeld))))
+    ∙ (any-append p (take i hs) (getD hs i noHeld ∷ []) ∙ ap (either (any p (take i hs))) (pick-self (p (getD hs i noHeld))))
 
 -- of the numbers near the base, those held at the first i places are noted
 pub record Noting (n base : ℕ) (hs : List Held) (i : ℕ) (seen : List Bool) : Type 0 where
@@ -68,7 +67,7 @@ module _ {n base : ℕ} {hs : List Held} {i : ℕ} {seen : List Bool} (w : Notin
   note-none : ((t : ℕ) → t < n → slotOf (far (ring n) base t) < 512 → holds t (getD hs i noHeld) ≡ false) → Noting n base hs (i + 1) seen
   note-none f = record {
     long = w .long;
-    says = λ t ht l. w .says t ht l ∙ sym (any-next (holds t) hs i hi ∙ (ap (either (any (holds t) (take i hs))) (f t ht l) ∙ or-false (any (holds t) (take i hs))));
+    says = λ t ht l. w .says t ht l ∙ sym (any-next (holds t) hs i hi ∙ (ap (either (any (holds t) (take i hs))) (f t ht l) ∙ pick-self (any (holds t) (take i hs))));
   }
 
   pub note-free : getD hs i noHeld .used ≡ false → Noting n base hs (i + 1) seen
@@ -101,7 +100,7 @@ module _ {n base : ℕ} {hs : List Held} {i : ℕ} {seen : List Bool} (w : Notin
         go t ht m (no q) =
             getD-set-other seen d (slotOf (far (ring n) base t)) true false apart
             ∙ (w .says t ht m
-            ∙ sym (any-next (holds t) hs i hi ∙ (ap (either (any (holds t) (take i hs))) (holds-other t (getD hs i noHeld) q) ∙ or-false (any (holds t) (take i hs)))))
+            ∙ sym (any-next (holds t) hs i hi ∙ (ap (either (any (holds t) (take i hs))) (holds-other t (getD hs i noHeld) q) ∙ pick-self (any (holds t) (take i hs)))))
           where
             apart : slotOf (far (ring n) base t) ≡ d → ⊥
             apart s =

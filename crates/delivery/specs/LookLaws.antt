@@ -14,11 +14,12 @@ use Rattle.numbers.specs.Profile.{Profile}
 use Rattle.scans.specs.declared.Found.{Found}
 use Rattle.scans.specs.declared.Found.the-variants.{At, Nothing}
 use Rattle.scans.specs.Scan.{pick, any, count, either, findFrom, find-within, Counting, count-no, count-end, Asking, ask-more, ask-end, foldFrom, Folding, fold-more, fold-end}
+use Rattle.scans.specs.Each.{pick-self}
 use Rattle.holding.specs.declared.held.Held.{Held}
 use Rattle.holding.specs.Held.{noHeld, holds, holds-unused, isFree}
 use Rattle.delivery.specs.declared.arrival.Look.{Look}
 use Rattle.delivery.specs.Receiving.{isLow}
-use Rattle.delivery.specs.LowLaws.{count-by, low-free, or-false}
+use Rattle.delivery.specs.LowLaws.{count-by, low-free}
 
 -- ---- the lowest free place as a number
 
@@ -99,7 +100,7 @@ module _ {T : Numbering} {P : Profile} {k : Keeping} {hs : List Held} {t i a : �
   pub look-free : i < P .places → getD hs i noHeld .used ≡ false → {f : ℕ} → f ≡ orFree P c i → Looking T P k hs t (i + 1) a b f
   look-free h u {f} q = record {
     low = count-no (w .low) noHeld h (low-free T k (getD hs i noHeld) u);
-    held = ask-more (w .held) noHeld b h (rw (holds-unused t (getD hs i noHeld) u) (sym (or-false b)));
+    held = ask-more (w .held) noHeld b h (rw (holds-unused t (getD hs i noHeld) u) (sym (pick-self b)));
     free = fold-more (w .free) noHeld f h (rw u q);
   }
 

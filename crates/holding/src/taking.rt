@@ -61,15 +61,8 @@ fn copy_payload(area: &[u8], out: &mut [u8], at: usize, place: usize, n: usize)
     requires { ⌜ (place < 128) × (n ≤ 65535) ⌝ }
     ensures { λ _. ⌜ now (out .exit) ≡ laid (now (out .entry)) at (payloadAt rail (now (area .entry)) place n) ⌝ }
 {
-    let from = Rail::PAYLOAD * place;
-    if area.len() <= from {
-        return;
-    }
-    if area.len() - from <= n {
-        octets::bytes::put_all(out, at, &area[from..]);
-        return;
-    }
-    octets::bytes::put_all(out, at, &area[from..from + n]);
+    let part = octets::bytes::part(area, Rail::PAYLOAD * place, n);
+    octets::bytes::put_all(out, at, part);
 }
 
 // The payloads of the message at the places, one behind the other; and its places are freed. One function: one for each would copy the held chunks

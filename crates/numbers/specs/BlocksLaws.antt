@@ -13,7 +13,7 @@ use lib.Seq.{take-at}
 use lib.Dec.{ltb, leb}
 use Rattle.scans.specs.Scan.{pick, any, either}
 use Rattle.scans.specs.Counts.{any-append}
-use Rattle.scans.specs.Each.{All, all-map, clash}
+use Rattle.scans.specs.Each.{All, all-map, clash, fails-behind}
 use Rattle.numbers.specs.declared.keeping.Keeping.{Keeping}
 use Rattle.numbers.specs.declared.keeping.Blocks.{Blocks}
 use Rattle.numbers.specs.Profile.{Profile}
@@ -43,11 +43,7 @@ listedIn b = paired (take (b .count) (b .starts)) (take (b .count) (b .ends))
 -- ---- an offset has come if and only if a block has it
 
 has-not : (j : ℕ) (b : Block) → b .to < j → has j b ≡ false
-has-not j b h = go (leb (b .from) j)
-  where
-    go : (t : Bool) → pick t (leb j (b .to)) false ≡ false
-    go true = lt-leb j (b .to) h
-    go false = refl
+has-not j b h = fails-behind (leb (b .from) j) (lt-leb j (b .to) h)
 
 has-before : (j : ℕ) (b : Block) → j < b .from → has j b ≡ false
 has-before j b h = rw (lt-leb (b .from) j h)

@@ -1,6 +1,7 @@
 -- A circle of n points, 0 to n - 1: a step along it, and the signed distance between two points.
 use Prim.Native.Nat.{ℕ, _+_, _-_, _%_, _<_, _≤_}
 use mathlib.Core.Path.{_≡_, refl, sym, _∙_}
+use mathlib.Core.Logic.{_⊎_, inl, inr}
 use native.Mathlib.Nat.{mod-eq-of-lt, mod-eq-sub-mod}
 use native.Mathlib.Decide.{decLt}
 use native.Mathlib.Omega.{arith}
@@ -42,21 +43,24 @@ forward (Ahead d) = d
 forward (Behind d) = 0
 forward Opposite = 0
 
+-- what is less than two turns, and its point on the circle: it is the point, or a turn past it
+pub turn : (n s : ℕ) {r : ℕ} → s < n + n → s % n ≡ r → (s ≡ r) ⊎ (s ≡ n + r)
+turn n s {r} h e = go (decLt s n)
+  where
+    go : Dec (s < n) → (s ≡ r) ⊎ (s ≡ n + r)
+    go (yes l) = inl (sym (mod-eq-of-lt l) ∙ e)
+    go (no l) =
+        let m : s - n < n = omega arith in
+        inr (omega (arith, sym (mod-eq-of-lt m) ∙ (sym (mod-eq-sub-mod (omega arith)) ∙ e)))
+
 -- Of the steps d by which b follows a: what `steps` and `onCircle` are. One law for every size of circle.
 module _ {n a b d : ℕ} (ha : a < n) (hd : d < n) (e : (d + a) % n ≡ b) where
   pub steps-are : steps n a b ≡ d
-  steps-are = go (decLt (d + a) n)
+  steps-are = go (turn n (d + a) (omega arith) e)
     where
-      go : Dec (d + a < n) → steps n a b ≡ d
-      go (yes h) =
-          let q : d + a ≡ b = sym (mod-eq-of-lt h) ∙ e in
-          let l : a ≤ b = omega arith in
-          rw (le-leb a b l) (omega arith)
-      go (no h) =
-          let s : d + a - n < n = omega arith in
-          let q : d + a - n ≡ b = sym (mod-eq-of-lt s) ∙ (sym (mod-eq-sub-mod (omega arith)) ∙ e) in
-          let l : b < a = omega arith in
-          rw (lt-leb a b l) (omega arith)
+      go : (d + a ≡ b) ⊎ (d + a ≡ n + b) → steps n a b ≡ d
+      go (inl q) = let l : a ≤ b = omega arith in rw (le-leb a b l) (omega arith)
+      go (inr q) = let l : b < a = omega arith in rw (lt-leb a b l) (omega arith)
 
   pub ahead : d + d < n → Ahead d ≡ onCircle n a b
   unfolding onCircle

@@ -4,15 +4,16 @@
 -- Assumes nothing.
 use Prim.Native.Nat.{ℕ, zero, suc, _+_, _-_, _%_, _/_, _<_, _≤_}
 use mathlib.Core.Path.{_≡_, refl, sym, ap, _∙_}
+use mathlib.Core.Logic.{_⊎_, inl, inr}
 use mathlib.Core.Bool.{Bool, true, false}
-use native.Mathlib.Nat.{mod-eq-of-lt, mod-eq-sub-mod, mod-add-mod, add-mod-mod, add-mod-right, mod-lt}
-use native.Mathlib.Decide.{decLt, decLe}
+use native.Mathlib.Nat.{mod-eq-of-lt, mod-add-mod, add-mod-mod, add-mod-right, mod-lt}
+use native.Mathlib.Decide.{decLe}
 use native.Mathlib.Omega.{arith}
 use borrow.Author.Tests.{le-leb, lt-leb, eq-eqb, ne-eqb, eqb-true, eqb-false}
 use lib.Dec.{leb, eqb}
 use Rattle.numbers.specs.declared.circle.Distance.{Distance}
 use Rattle.numbers.specs.declared.circle.Distance.the-variants.{Ahead, Behind, Opposite}
-use Rattle.numbers.specs.Circle.{onCircle, forward, steps, along, steps-are}
+use Rattle.numbers.specs.Circle.{onCircle, forward, steps, along, turn, steps-are}
 use Rattle.numbers.specs.Signed.{only, right}
 use Rattle.scans.specs.Scan.{pick}
 
@@ -66,7 +67,7 @@ before-law n a p q =
     rw (mod-add-mod a n (n - 1), e) (add-mod-right (a - 1) n)
 
 same-lt : (n a b : ℕ) → a ≤ b → b < a + n → a % n ≡ b % n → a ≡ b
-same-lt n a b l m e = go (decLt (a % n + (b - a)) n)
+same-lt n a b l m e = go (turn n (a % n + (b - a)) (omega (arith, r)) q)
   where
     r : a % n < n
     r = mod-lt a (omega arith)
@@ -74,11 +75,9 @@ same-lt n a b l m e = go (decLt (a % n + (b - a)) n)
     q : (a % n + (b - a)) % n ≡ a % n
     q = mod-add-mod a n (b - a) ∙ (ap (λ (x : ℕ). x % n) (omega arith) ∙ sym e)
 
-    go : Dec (a % n + (b - a) < n) → a ≡ b
-    go (yes h) = omega (arith, sym (mod-eq-of-lt h) ∙ q)
-    go (no h) =
-        let s : a % n + (b - a) - n < n = omega (arith, r) in
-        omega (arith, sym (mod-eq-of-lt s) ∙ (sym (mod-eq-sub-mod (omega arith)) ∙ q), r)
+    go : (a % n + (b - a) ≡ a % n) ⊎ (a % n + (b - a) ≡ n + a % n) → a ≡ b
+    go (inl h) = omega arith
+    go (inr h) = omega arith
 
 -- less than a circle apart, numbers that meet on it are one
 pub same : (n a b : ℕ) → Within n a b → a % n ≡ b % n → a ≡ b

@@ -3,13 +3,14 @@
 -- Assumes nothing.
 use Prim.Native.Nat.{ℕ, _+_, _-_, _%_, _<_, _≤_}
 use mathlib.Core.Path.{_≡_, refl, sym, _∙_, subst}
-use native.Mathlib.Nat.{mod-eq-of-lt, mod-eq-sub-mod, add-comm, add-mod-left}
+use mathlib.Core.Logic.{_⊎_, inl, inr}
+use native.Mathlib.Nat.{mod-eq-of-lt, add-comm, add-mod-left}
 use native.Mathlib.Decide.{decLt}
 use native.Mathlib.Omega.{arith}
 use borrow.Author.Tests.{le-leb, lt-leb}
 use Rattle.numbers.specs.declared.circle.Distance.{Distance}
 use Rattle.numbers.specs.declared.circle.Distance.the-variants.{Ahead, Behind, Opposite}
-use Rattle.numbers.specs.Circle.{onCircle, steps, ahead, opposite, behind}
+use Rattle.numbers.specs.Circle.{onCircle, steps, turn, ahead, opposite, behind}
 
 -- x is in the range, and a moved on by x is b
 abbrev pub IsFrom : ℕ → ℕ → ℕ → Distance → Type 0
@@ -23,18 +24,11 @@ turned {n} {x} h = add-mod-left n x ∙ mod-eq-of-lt h
 
 module _ {n a b : ℕ} (ha : a < n) (hb : b < n) where
   steps-back : {d : ℕ} → 0 < d → d < n → (b + d) % n ≡ a → (n - d + a) % n ≡ b
-  steps-back {d} p l e = go (decLt (b + d) n)
+  steps-back {d} p l e = go (turn n (b + d) (omega arith) e)
     where
-      go : Dec (b + d < n) → (n - d + a) % n ≡ b
-      go (yes h) =
-          let q : b + d ≡ a = sym (mod-eq-of-lt h) ∙ e in
-          let r : n - d + a ≡ n + b = omega arith in
-          rw r (turned hb)
-      go (no h) =
-          let s : b + d - n < n = omega arith in
-          let q : b + d - n ≡ a = sym (mod-eq-of-lt s) ∙ (sym (mod-eq-sub-mod (omega arith)) ∙ e) in
-          let r : n - d + a ≡ b = omega arith in
-          rw r (mod-eq-of-lt hb)
+      go : (b + d ≡ a) ⊎ (b + d ≡ n + a) → (n - d + a) % n ≡ b
+      go (inl q) = let r : n - d + a ≡ n + b = omega arith in rw r (turned hb)
+      go (inr q) = let r : n - d + a ≡ b = omega arith in rw r (mod-eq-of-lt hb)
 
   -- nothing else is it
   pub only : (x : Distance) → IsFrom n a b x → x ≡ onCircle n a b
@@ -59,28 +53,17 @@ module _ {n a b : ℕ} (ha : a < n) (hb : b < n) where
           let r : b - a + a ≡ b = omega arith in
           rw (le-leb a b l, r) (mod-eq-of-lt hb)
 
-  -- it is one
-  pub right : IsFrom n a b (onCircle n a b)
-  right = go (steps n a b) steps-lt steps-reach
-    where
-      go : (d : ℕ) → d < n → (d + a) % n ≡ b → IsFrom n a b (onCircle n a b)
-      go d hd e = less (decLt (d + d) n) (decLt n (d + d))
-        where
-          back : n < d + d → (b + (n - d)) % n ≡ a
-          back l = turn (decLt (d + a) n)
-            where
-              turn : Dec (d + a < n) → (b + (n - d)) % n ≡ a
-              turn (yes k) =
-                  let q : d + a ≡ b = sym (mod-eq-of-lt k) ∙ e in
-                  let r : b + (n - d) ≡ n + a = omega arith in
-                  rw r (turned ha)
-              turn (no k) =
-                  let s : d + a - n < n = omega arith in
-                  let q : d + a - n ≡ b = sym (mod-eq-of-lt s) ∙ (sym (mod-eq-sub-mod (omega arith)) ∙ e) in
-                  let r : b + (n - d) ≡ a = omega arith in
-                  rw r (mod-eq-of-lt ha)
+-- it is one
+pub right : {n a b : ℕ} (ha : a < n) (hb : b < n) → IsFrom n a b (onCircle n a b)
+right {n} {a} {b} ha hb = go (steps n a b) (steps-lt ha hb) (steps-reach ha hb)
+  where
+    go : (d : ℕ) → d < n → (d + a) % n ≡ b → IsFrom n a b (onCircle n a b)
+    go d hd e = less (decLt (d + d) n) (decLt n (d + d))
+      where
+        back : n < d + d → (b + (n - d)) % n ≡ a
+        back l = rw (add-comm b (n - d)) (steps-back hb ha (omega arith) hd (rw (add-comm a d) e))
 
-          less : Dec (d + d < n) → Dec (n < d + d) → IsFrom n a b (onCircle n a b)
-          less (yes l) m = subst (IsFrom n a b) (ahead ha hd e l) (l, rw (add-comm a d) e)
-          less (no l) (yes m) = subst (IsFrom n a b) (behind ha hd e m (n - d) refl) (omega arith, omega arith, back m)
-          less (no l) (no m) = subst (IsFrom n a b) (opposite ha hd e (omega arith)) (d, omega arith, rw (add-comm a d) e)
+        less : Dec (d + d < n) → Dec (n < d + d) → IsFrom n a b (onCircle n a b)
+        less (yes l) m = subst (IsFrom n a b) (ahead ha hd e l) (l, rw (add-comm a d) e)
+        less (no l) (yes m) = subst (IsFrom n a b) (behind ha hd e m (n - d) refl) (omega arith, omega arith, back m)
+        less (no l) (no m) = subst (IsFrom n a b) (opposite ha hd e (omega arith)) (d, omega arith, rw (add-comm a d) e)

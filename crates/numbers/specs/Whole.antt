@@ -1,7 +1,7 @@
 -- 01, "Two circles", word for word and over the whole numbers: "the signed distance from a to b is the one whole number between -(N/2 - 1)
--- and N/2 - 1 that is congruent to b - a. If b - a is congruent to N/2 the answer is opposite." Once for every even N; 2^16 and 2^32 are instances.
+-- and N/2 - 1 that is congruent to b - a. If b - a is congruent to N/2 the answer is opposite." Once for every even N, so for 2^16 and for 2^32.
 -- Assumes nothing.
-use Prim.Native.Nat.{ℕ, zero, suc, _+_, _*_, _-_, _/_, _%_, _^_, _<_, _≤_}
+use Prim.Native.Nat.{ℕ, zero, suc, _+_, _*_, _-_, _/_, _%_, _<_, _≤_}
 use mathlib.Core.Path.{_≡_, refl, sym, ap, _∙_}
 use native.Mathlib.Nat.{mod-eq-of-lt, div-add-mod', add-mul-mod-self-right, add-comm, suc-mul}
 use native.Mathlib.Omega.{arith}
@@ -107,17 +107,3 @@ module _ (h a b : ℕ) (ha : a < h + h) (hb : b < h + h) where
       ap said
       (only ha hb (Behind (suc d)) (omega arith, omega arith, steps-of (h + h) b a (suc d) ha (turned-about (h + h) (negsuc d) (pos a) (pos b) (w .1))))
   only-answer opposite w = ap said (only ha hb Opposite (h, refl, rw half at (steps-of (h + h) a b ((h + h) / 2) hb w)))
-
--- the circle of transmission numbers, and that of stream sequence numbers
-
-pub tsn-answers : (a b : ℕ) → a < 2 ^ 32 → b < 2 ^ 32 → Answers (2 ^ 32) a b (said (onCircle (2 ^ 32) a b))
-tsn-answers = answers (2 ^ 31)
-
-pub tsn-only : (a b : ℕ) → a < 2 ^ 32 → b < 2 ^ 32 → (s : Said) → Answers (2 ^ 32) a b s → s ≡ said (onCircle (2 ^ 32) a b)
-tsn-only = only-answer (2 ^ 31)
-
-pub ssn-answers : (a b : ℕ) → a < 2 ^ 16 → b < 2 ^ 16 → Answers (2 ^ 16) a b (said (onCircle (2 ^ 16) a b))
-ssn-answers = answers (2 ^ 15)
-
-pub ssn-only : (a b : ℕ) → a < 2 ^ 16 → b < 2 ^ 16 → (s : Said) → Answers (2 ^ 16) a b s → s ≡ said (onCircle (2 ^ 16) a b)
-ssn-only = only-answer (2 ^ 15)

@@ -39,7 +39,7 @@ impl Blocks {
 }
 
 // How far t is ahead of the point, and 0 where it is not.
-fn ahead_of(point: Tsn, t: Tsn) -> u32
+pub fn ahead_of(point: Tsn, t: Tsn) -> u32
     ensures { λ r. ⌜ r ≡ aheadOn (ring (2 ^ 32)) (point .0) (t .0) ⌝ }
 {
     match point.distance(t) {

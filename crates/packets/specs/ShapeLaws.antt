@@ -11,7 +11,7 @@ use lib.Dec.{ltb, eqb}
 use lib.ListN.{length, take, drop, length-append, length-drop, List·getD-append}
 use lib.Seq.{take-append-le, drop-append-le}
 use Rattle.scans.specs.Scan.{pick}
-use Rattle.scans.specs.Each.{All, if-so, if-not, clash, neither}
+use Rattle.scans.specs.Each.{All, if-so, if-not, clash, after-not, neither}
 use Rattle.octets.specs.Bytes.{u8, u16, up4}
 use Rattle.octets.specs.BytesLaws.{u16-append}
 use Rattle.octets.specs.Walk.{size, walkBy, walk, firstItem}
@@ -27,9 +27,10 @@ pub record Accepted (s : List ℕ) : Type 0 where
   pub within : u16 s 2 ≤ length s
   pub full : filled s ≡ true
 
-no-five : (t : Bool) (x : ℕ) → pick t 5 x ≡ 0 → (t ≡ false) × (x ≡ 0)
-no-five true x e = absurd (omega (arith, e))
-no-five false x e = (refl, e)
+-- what is answered 0 is not answered n
+no-answer : (n : ℕ) (t : Bool) (x : ℕ) → 0 < n → pick t n x ≡ 0 → (t ≡ false) × (x ≡ 0)
+no-answer n true x h e = absurd (omega (arith, e))
+no-answer n false x h e = (refl, e)
 
 flip : (t : Bool) → pick t false true ≡ false → t ≡ true
 flip true e = refl
@@ -63,29 +64,34 @@ chunks-by s h = walk-budget 365 s 12 (omega arith)
 pub shape-sound : (s : List ℕ) → shapeNumber s ≡ 0 → All (λ (k : ℕ). ill (drop k s) ≡ false) (walk s 12)
 unfolding shapeNumber
 shape-sound s e =
-    first-all ill s 12 (ltb-false (firstItem ill s 12) (length s) (no-five (ltb (firstItem ill s 12) (length s)) _ e .0))
+    first-all ill s 12 (ltb-false (firstItem ill s 12) (length s) (no-answer 5 (ltb (firstItem ill s 12) (length s)) _ (omega arith) e .0))
 
 -- and where it has more than one chunk, none must stand alone
 pub shape-together : (s : List ℕ) → shapeNumber s ≡ 0 → 12 + size (drop 12 s) < length s → All (λ (k : ℕ). alone (drop k s) ≡ false) (walk s 12)
 unfolding shapeNumber
 shape-together s e h =
-    first-all alone s 12 (ltb-false (firstItem alone s 12) (length s) (go (ltb (firstItem alone s 12) (length s)) (rw (lt-ltb (12 + size (drop 12 s)) (length s) h) at (no-five (ltb (firstItem ill s 12) (length s)) _ e .1))))
+    first-all alone s 12 (ltb-false (firstItem alone s 12) (length s) (no-answer 6 (ltb (firstItem alone s 12) (length s)) 0 (omega arith) (rw (lt-ltb (12 + size (drop 12 s)) (length s) h) at (no-answer 5 (ltb (firstItem ill s 12) (length s)) _ (omega arith) e .1)) .0))
+
+least-is : (k : ℕ) → (4 ≤ least k) × (least k ≤ 20)
+unfolding least
+least-is k = go (eqb k 0) (eqb k 1) (eqb k 2) (eqb k 3) (eqb k 7)
   where
-    go : (t : Bool) → _≡_ {A = ℕ} (pick t 6 0) 0 → t ≡ false
-    go true m = absurd (omega (arith, m))
-    go false m = refl
+    least-of : Bool → Bool → Bool → Bool → Bool → ℕ
+    least-of a b c d e = pick a 16 (pick b 20 (pick c 20 (pick d 16 (pick e 8 4))))
+
+    go : (a b c d e : Bool) → (4 ≤ least-of a b c d e) × (least-of a b c d e ≤ 20)
+    go true b c d e = (omega arith, omega arith)
+    go false true c d e = (omega arith, omega arith)
+    go false false true d e = (omega arith, omega arith)
+    go false false false true e = (omega arith, omega arith)
+    go false false false false true = (omega arith, omega arith)
+    go false false false false false = (omega arith, omega arith)
 
 pub least-four : (k : ℕ) → 4 ≤ least k
-unfolding least
-least-four k = go (eqb k 0) (eqb k 1) (eqb k 2) (eqb k 3) (eqb k 7)
-  where
-    go : (a b c d e : Bool) → 4 ≤ pick a 16 (pick b 20 (pick c 20 (pick d 16 (pick e 8 4))))
-    go true b c d e = omega arith
-    go false true c d e = omega arith
-    go false false true d e = omega arith
-    go false false false true e = omega arith
-    go false false false false true = omega arith
-    go false false false false false = omega arith
+least-four k = least-is k .0
+
+pub least-twenty : (k : ℕ) → least k ≤ 20
+least-twenty k = least-is k .1
 
 -- the chunk reaches no further than the packet, padding counted, where the packet is a multiple of 4
 pub accepted-size : (s : List ℕ) → Accepted s → length s % 4 ≡ 0 → size s ≤ length s
@@ -173,9 +179,5 @@ tiled-more p b h e l t =
     let f : u16 (p ++ b) 2 ≡ u16 p 2 = u16-append p b 2 (omega (arith, e)) in
     let m : misplaced (p ++ b) ≡ false = rw (f, le-ltb (u16 p 2) 4 h, ne-eqb (u16 p 2) (length (p ++ b)) (λ x. omega (arith, x, n, e)), lt-ltb (up4 (u16 p 2)) (length (p ++ b)) (omega (arith, n, e))) in
     let z : 0 + size (p ++ b) ≡ length p = ap (λ (k : ℕ). 0 + k) (size-append p b (omega (arith, e)) ∙ size-is p h ∙ e) ∙ omega arith in
-    let q : length b ≤ firstItem misplaced b 0 = ltb-false (firstItem misplaced b 0) (length b) (go (ltb (firstItem misplaced b 0) (length b)) t) in
+    let q : length b ≤ firstItem misplaced b 0 = ltb-false (firstItem misplaced b 0) (length b) (after-not (ltb (firstItem misplaced b 0) (length b)) true t .0) in
     rw (first-on misplaced (p ++ b) 0 (omega (arith, n)) m, z, first-behind misplaced p b, n, le-ltb (length p + firstItem misplaced b 0) (length p + length b) (omega arith))
-  where
-    go : (t : Bool) → pick t false true ≡ true → t ≡ false
-    go true x = clash x
-    go false x = refl

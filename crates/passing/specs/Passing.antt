@@ -15,7 +15,7 @@ use Rattle.octets.specs.WritingLaws.{length-items}
 use Rattle.packets.specs.Shape.{tiled}
 use Rattle.packets.specs.ShapeLaws.{tiled-none, tiled-last, tiled-more}
 use Rattle.packets.specs.Body.{Sound}
-use Rattle.packets.specs.BodyLaws.{plain-sound, data-sound, init-sound, init-ack-sound, sack-sound, shutdown-sound}
+use Rattle.packets.specs.BodyLaws.{plain-sound, data-sound, init-sound, sack-sound, shutdown-sound}
 use Rattle.chunks.specs.Frame.{parameter, framed, weight}
 use Rattle.chunks.specs.DataChunk.{dataBytes, flagsOf, dataFields}
 use Rattle.chunks.specs.DataLaws.{data-is}
@@ -39,7 +39,7 @@ module _ (d : Data) (p : List ℕ) (h : length p ≤ 512) (n : length p ≡ 0 �
   data-passes = rw (data-is d p h n) (data-sound (flagsOf d) (dataFields d ++ p) (omega arith))
 
 pub init-passes : (v : Init) → Sound (framed 1 0 (initFields v))
-init-passes v = init-sound 0 (initFields v) (omega arith) tiled-none
+init-passes v = init-sound 1 0 (initFields v) refl (omega arith) tiled-none
 
 -- what fills a chunk tiles it
 filling-some : {s : List ℕ} → Filling s → 4 ≤ length s
@@ -54,7 +54,7 @@ module _ (v : Init) (c s : List ℕ) (h : length c ≤ 256) (n : length c ≡ 0 
   pub init-ack-passes : Sound (initAckBytes v c s)
   init-ack-passes =
       rw (init-ack-is v c s h n)
-      (init-ack-sound 0 (initFields v ++ gatherAll ROOM true (parameter COOKIE c) (paramsOf s)) (omega arith) (filling-tiles (gathered-fills c (paramsOf s))))
+      (init-sound 2 0 (initFields v ++ gatherAll ROOM true (parameter COOKIE c) (paramsOf s)) refl (omega arith) (filling-tiles (gathered-fills c (paramsOf s))))
 
 module _ (k : Sack) (h : k .blocks .count ≤ 64) (g : k .listed ≤ 16) where
   long : length (sackFields k) ≡ 12 + 4 * (k .blocks .count + k .listed)

@@ -3,13 +3,12 @@
 use Prim.Native.Nat.{ℕ, _+_, _-_, _*_, _/_, _<_, _≤_}
 use mathlib.Core.Path.{_≡_, refl}
 use mathlib.Core.Bool.{Bool, true, false}
-use native.Mathlib.Decide.{decLt}
 use native.Mathlib.Omega.{arith}
-use borrow.Author.Tests.{lt-ltb, le-ltb, le-leb, leb-true, ltb-false}
+use borrow.Author.Tests.{le-ltb, le-leb, leb-true, ltb-false}
 use lib.Dec.{ltb}
 use Rattle.scans.specs.Scan.{pick}
 use Rattle.scans.specs.Each.{after-so, after-not}
-use Rattle.scans.specs.Upto.{smaller, larger, smaller-left, smaller-right, larger-most, larger-right, pick-keeps}
+use Rattle.scans.specs.Upto.{smaller, larger, smaller-left, smaller-right, larger-most, larger-right, pick-keeps, pick-less}
 use Rattle.numbers.specs.declared.circle.Tsn.{Tsn}
 use Rattle.path.specs.declared.control.Control.{Control}
 use Rattle.path.specs.declared.clock.Clock.{Clock}
@@ -149,15 +148,11 @@ module _ (z : Sizes) (f : Fair z) where
   doubled-keeps : (k : Clock) → Clocked z k → Clocked z (clock.doubled z k)
   unfolding clock.doubled
   doubled-keeps k w = record {
-    least = go (decLt (2 * k .rto) (z .«rto-most»));
+    least = pick-less (λ x. z .«rto-least» ≤ x) (2 * k .rto) (z .«rto-most») _ _ (λ h. omega arith) (λ h. omega arith);
     most = smaller-right (2 * k .rto) (z .«rto-most»);
     smooth = w .smooth;
     varied = w .varied;
   }
-    where
-      go : Dec (2 * k .rto < z .«rto-most») → z .«rto-least» ≤ smaller (2 * k .rto) (z .«rto-most»)
-      go (yes h) = rw (lt-ltb (2 * k .rto) (z .«rto-most») h) (omega arith)
-      go (no h) = let l : z .«rto-most» ≤ 2 * k .rto = omega arith in rw (le-ltb (2 * k .rto) (z .«rto-most») l) (omega arith)
 
   pub fresh-within : Within z (whole.fresh z)
   unfolding whole.fresh control.fresh clock.fresh
@@ -196,12 +191,8 @@ module _ (z : Sizes) (f : Fair z) where
   expired-keeps p w = record {
     controlled = collapsed-keeps (p .control) (w .controlled);
     clocked = doubled-keeps (p .clock) (w .clocked);
-    tried = go (decLt (p .tries) (z .tries));
+    tried = pick-less (λ x. x ≤ z .tries) (p .tries) (z .tries) _ _ (λ h. omega arith) (λ h. w .tried);
   }
-    where
-      go : Dec (p .tries < z .tries) → pick (ltb (p .tries) (z .tries)) (p .tries + 1) (p .tries) ≤ z .tries
-      go (yes h) = rw (lt-ltb (p .tries) (z .tries) h) (omega arith)
-      go (no h) = let l : z .tries ≤ p .tries = omega arith in rw (le-ltb (p .tries) (z .tries) l) (w .tried)
 
   pub sampled-within : (p : Path) (sample : ℕ) → Within z p → Within z (whole.sampledBy z p sample)
   unfolding whole.sampledBy

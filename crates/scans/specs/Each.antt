@@ -9,7 +9,7 @@ use native.Mathlib.Omega.{arith}
 use lib.ListN.{length, set, getD, replicate}
 use Rattle.scans.specs.declared.Found.{Found}
 use Rattle.scans.specs.declared.Found.the-variants.{At, Nothing}
-use Rattle.scans.specs.Scan.{tick, pick, count, findFrom, any}
+use Rattle.scans.specs.Scan.{tick, pick, count, findFrom, any, found}
 use Rattle.scans.specs.Upto.{anyUpto}
 
 module _ {A : Type 0} where
@@ -20,22 +20,48 @@ module _ {A : Type 0} where
 
 -- ---- a list whose elements are replaced, each by one that answers the test alike
 
+-- S of a list, told by what each answers and by its place: i is the place of the first
+pub record Scans {A R : Type 0} (p : A → Bool) (none : R) (step : ℕ → Bool → R → R) (S : ℕ → List A → R) : Type 0 where
+  pub end : (i : ℕ) → S i [] ≡ none
+  pub on : (i : ℕ) (x : A) (xs : List A) → S i (x ∷ xs) ≡ step i (p x) (S (i + 1) xs)
+
+module _ {A : Type 0} (p : A → Bool) where
+  pub counts : Scans p 0 (λ i t n. tick t n) (λ i xs. count p xs)
+  counts = record { end = λ i. refl; on = λ i x xs. refl }
+
+  pub finds : Scans p Nothing (λ i t n. pick t (At i) n) (findFrom p)
+  finds = record { end = λ i. refl; on = λ i x xs. refl }
+
+  pub asks : Scans p false (λ i t n. pick t true n) (λ i xs. any p xs)
+  asks = record { end = λ i. refl; on = λ i x xs. refl }
+
+-- by two tests that each answers alike, two scans that go by the answers in one way come out alike
+scan-alike : {A R : Type 0} {p q : A → Bool} {none : R} {step : ℕ → Bool → R → R} {S T : ℕ → List A → R}
+    → Scans p none step S → Scans q none step T → (i : ℕ) (xs : List A) → All (λ (x : A). q x ≡ p x) xs → T i xs ≡ S i xs
+scan-alike a b i [] w = b .end i ∙ sym (a .end i)
+scan-alike {step = step} a b i (x ∷ xs) w = b .on i x xs ∙ (λ k. step i (w .0 k) (scan-alike a b (i + 1) xs (w .1) k)) ∙ sym (a .on i x xs)
+
+module _ {A : Type 0} (p q : A → Bool) where
+  pub count-alike : (xs : List A) → All (λ (x : A). p x ≡ q x) xs → count p xs ≡ count q xs
+  count-alike xs w = scan-alike (counts q) (counts p) 0 xs w
+
 module _ {A B : Type 0} (f : A → B) (p : A → Bool) (q : B → Bool) where
   -- the one that takes the place of x answers as x does
   abbrev pub Alike : A → Type 0
   Alike x = q (f x) ≡ p x
 
+  mapped : {R : Type 0} {none : R} {step : ℕ → Bool → R → R} {T : ℕ → List B → R}
+      → Scans q none step T → Scans (λ (x : A). q (f x)) none step (λ i xs. T i (map f xs))
+  mapped b = record { end = b .end; on = λ i x xs. b .on i (f x) (map f xs) }
+
   pub count-map : (xs : List A) → All Alike xs → count q (map f xs) ≡ count p xs
-  count-map [] w = refl
-  count-map (x ∷ xs) w = rw (w .0, count-map xs (w .1))
+  count-map xs w = scan-alike (counts p) (mapped (counts q)) 0 xs w
 
   pub find-map : (i : ℕ) (xs : List A) → All Alike xs → findFrom q i (map f xs) ≡ findFrom p i xs
-  find-map i [] w = refl
-  find-map i (x ∷ xs) w = rw (w .0, find-map (i + 1) xs (w .1))
+  find-map i xs w = scan-alike (finds p) (mapped (finds q)) i xs w
 
   pub any-map : (xs : List A) → All Alike xs → any q (map f xs) ≡ any p xs
-  any-map [] w = refl
-  any-map (x ∷ xs) w = rw (w .0, any-map xs (w .1))
+  any-map xs w = scan-alike (asks p) (mapped (asks q)) 0 xs w
 
 module _ {A B : Type 0} (f : A → B) where
   pub set-map : (xs : List A) (i : ℕ) (x : A) → set (map f xs) i (f x) ≡ map f (set xs i x)
@@ -87,29 +113,28 @@ pub after-not : (b c : Bool) → pick b false c ≡ true → (b ≡ false) × (c
 after-not true c e = clash e
 after-not false c e = (refl, e)
 
+pub pick-self : (b : Bool) → pick b true false ≡ b
+pick-self true = refl
+pick-self false = refl
+
+-- what fails behind a test fails either way
+pub fails-behind : (b : Bool) {c : Bool} → c ≡ false → pick b c false ≡ false
+fails-behind true e = e
+fails-behind false e = refl
+
+pub fails-else : (b : Bool) {c : Bool} → c ≡ false → pick b false c ≡ false
+fails-else true e = refl
+fails-else false e = e
+
 pub neither : (b c : Bool) → pick b true c ≡ false → (b ≡ false) × (c ≡ false)
 neither true c e = clash (sym e)
 neither false c e = (refl, e)
-
--- what is found passes
-pub found : {A : Type 0} (p : A → Bool) (d : A) (xs : List A) (i j : ℕ) → findFrom p i xs ≡ At j → (k : ℕ) × (j ≡ i + k) × (p (getD xs k d) ≡ true)
-found p d [] i j e = let z : _≡_ {A = ℕ} 0 1 = cc in absurd (omega arith)
-found p d (x ∷ xs) i j e = go (p x) refl (found p d xs (i + 1) j)
-  where
-    go : (t : Bool) → p x ≡ t
-        → (findFrom p (i + 1) xs ≡ At j → (k : ℕ) × (j ≡ i + 1 + k) × (p (getD xs k d) ≡ true))
-        → (k : ℕ) × (j ≡ i + k) × (p (getD (x ∷ xs) k d) ≡ true)
-    go true q ih =
-        let a : At i ≡ At j = rw q at e in
-        let s : i ≡ j = cc in
-        (0, omega arith, q)
-    go false q ih = let w = ih (rw q at e) in (suc (w .0), omega arith, w .2)
 
 pub found-at : {A : Type 0} (p : A → Bool) (d : A) (xs : List A) (j : ℕ) → findFrom p 0 xs ≡ At j → p (getD xs j d) ≡ true
 found-at p d xs j e =
     let w = found p d xs 0 j e in
     let q : w .0 ≡ j = omega arith in
-    rw q at (w .2)
+    rw q at (w .3)
 
 -- ---- no one passes, and each one fails
 

@@ -61,7 +61,7 @@ impl Sending {
     pub fn room(self) -> u32
         ensures { λ r. ⌜ r ≡ roomOf self ⌝ }
     {
-        let d = places::place::ahead(self.acked, self.next_tsn);
+        let d = numbers::keeping::ahead_of(self.acked, self.next_tsn);
         if d < 1 {
             return 0;
         }

@@ -3,7 +3,7 @@ use borrow.Author.Needs.{needs}
 use mathlib.Core.Path.{refl}
 use Prim.Native.Nat.{_-_}
 use Rattle.scans.specs.Upto.{Topping, top-start, top-more, top-end, map-on}
-use Rattle.scans.specs.Scan.{long-mapped, Mapping, map-end, Summing, sum-more, sum-end}
+use Rattle.scans.specs.Scan.{long-mapped, Mapping, map-end, Summing, sum-start, sum-more, sum-end}
 use Rattle.places.specs.Sack.{settled, newlyBytes, newlyOffset, takenIn}
 use Rattle.places.proofs.all.taken_in.Statement.{statement}
 use Rattle.places.proofs.all.taken_in.Tie as tie
@@ -15,7 +15,7 @@ abbrev μ-loop : tie.MeasureT-loop
 μ-loop k from places ys₀ newly₀ highest₀ i₀ ys newly highest i = 128 - i
 
 loop-holds : tie.Need-loop-holds Inv-loop μ-loop
-loop-holds c = (record { long = search (needs, long-mapped); so-far = refl }, record { long = search (needs, long-mapped); within = omega arith; below = omega arith; rest = omega arith }, top-start _ _ 128 (search (needs, long-mapped)))
+loop-holds c = (record { long = search (needs, long-mapped); so-far = refl }, sum-start _ _ _ 128 (search (needs, long-mapped)), top-start _ _ 128 (search (needs, long-mapped)))
 
 mul-p : tie.Need-mul-p Inv-loop μ-loop
 mul-p c = search needs
