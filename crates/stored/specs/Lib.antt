@@ -2,7 +2,6 @@
 pub mod Stored
 pub mod StoredLaws
 pub mod Answer
-pub mod AnswerLaws
 pub mod Word
 pub mod Cause
 pub mod Peek

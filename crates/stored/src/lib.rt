@@ -6,6 +6,7 @@ pub mod seen;
 pub mod word;
 
 pub use crate::answer::Answer;
+pub use crate::answer::ServedAnswer;
 pub use crate::kept::Stored;
 pub use crate::kept::is_named;
 pub use crate::kept::pack;

@@ -8,12 +8,12 @@ use prog.Memory.{align, size, up}
 use Rattle.stored.proofs.kept.Stored.Laws as S′
 use Rattle.stored.proofs.answer.Answer.Laws as A′
 use Rattle.stored.proofs.seen.Peeked.Laws as P′
-use Rattle.surface.proofs.messages.HandedIn.Laws as H′
-use Rattle.surface.proofs.messages.Delivered.Laws as D′
-use Rattle.surface.proofs.transmitting.Transmitted.Laws as T′
-use Rattle.surface.proofs.acknowledging.Acknowledged.Laws as K′
-use Rattle.surface.proofs.telling.Value.Laws as V′
-use Rattle.surface.proofs.arrival.Arrived.Laws as R′
+use Rattle.serving.proofs.messages.HandedIn.Laws as H′
+use Rattle.serving.proofs.messages.Delivered.Laws as D′
+use Rattle.serving.proofs.transmitting.Transmitted.Laws as T′
+use Rattle.serving.proofs.acknowledging.Acknowledged.Laws as K′
+use Rattle.serving.proofs.telling.Value.Laws as V′
+use Rattle.serving.proofs.arrival.Arrived.Laws as R′
 use Rattle.stored.proofs.word.Word.Laws as W′
 use Rattle.steps.proofs.lent.Lent.Laws as L′
 
@@ -97,25 +97,25 @@ clock-laid = refl
 
 -- ---- what the calls answer, and what they take
 
-pub answer-laid : laid A′.mir ≡ 7232 ∷ 0 ∷ 8 ∷ 16 ∷ 24 ∷ []
+pub answer-laid : laid A′.mir ≡ 24 ∷ 0 ∷ 8 ∷ 16 ∷ []
 answer-laid = refl
 
 pub peeked-laid : laid P′.mir ≡ 40 ∷ 0 ∷ 1 ∷ 2 ∷ 4 ∷ 8 ∷ 12 ∷ 14 ∷ 16 ∷ 24 ∷ 32 ∷ []
 peeked-laid = refl
 
-pub handed_in-laid : laid H′.mir ≡ 7224 ∷ 0 ∷ 8 ∷ 16 ∷ []
+pub handed_in-laid : laid H′.mir ≡ 16 ∷ 0 ∷ 8 ∷ []
 handed_in-laid = refl
 
-pub delivered-laid : laid D′.mir ≡ 7240 ∷ 0 ∷ 8 ∷ 32 ∷ []
+pub delivered-laid : laid D′.mir ≡ 32 ∷ 0 ∷ 8 ∷ []
 delivered-laid = refl
 
 pub message-laid : laid (within D′.mir 1) ≡ 24 ∷ 0 ∷ 8 ∷ 10 ∷ 12 ∷ 16 ∷ []
 message-laid = refl
 
-pub transmitted-laid : laid T′.mir ≡ 7240 ∷ 0 ∷ 8 ∷ 16 ∷ 20 ∷ 24 ∷ 32 ∷ []
+pub transmitted-laid : laid T′.mir ≡ 32 ∷ 0 ∷ 8 ∷ 16 ∷ 20 ∷ 24 ∷ []
 transmitted-laid = refl
 
-pub acknowledged-laid : laid K′.mir ≡ 7568 ∷ 0 ∷ 8 ∷ 16 ∷ 360 ∷ []
+pub acknowledged-laid : laid K′.mir ≡ 360 ∷ 0 ∷ 8 ∷ 16 ∷ []
 acknowledged-laid = refl
 
 abbrev sacked : Ty
@@ -139,7 +139,7 @@ echoed-laid = refl
 pub made-laid : laid (within W′.mir 1) ≡ 24 ∷ 0 ∷ 4 ∷ 8 ∷ 10 ∷ 12 ∷ 16 ∷ 20 ∷ []
 made-laid = refl
 
-pub arrived-laid : laid R′.mir ≡ 13072 ∷ 0 ∷ 8 ∷ 16 ∷ 5856 ∷ 5864 ∷ []
+pub arrived-laid : laid R′.mir ≡ 5864 ∷ 0 ∷ 8 ∷ 16 ∷ 5856 ∷ []
 arrived-laid = refl
 
 pub verdict-laid : laid (within (within R′.mir 2) 0) ≡ 16 ∷ 0 ∷ 8 ∷ 12 ∷ 13 ∷ 14 ∷ 15 ∷ []

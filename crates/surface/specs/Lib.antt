@@ -1,5 +1,2 @@
--- The calls over a record without an enum: what each answers is what crate `calls` answers, packed, or 1 where the record names no state.
-pub mod Arrival
-pub mod Messages
-pub mod Transmit
-pub mod Acknowledging
+-- The calls over a record that the host lends: what each leaves is what crate `serving` leaves by value.
+pub mod LentLaws

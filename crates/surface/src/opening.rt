@@ -1,14 +1,12 @@
 // A record to start from, and our own INIT.
 use association::Association;
-use numbers::Tsn;
 use stored::Answer;
 use stored::Stored;
-use stored::answer;
 ghost use mathlib.Core.Path.{_≡_};
 ghost use Rattle.association.specs.Fresh.{closedAt};
 ghost use Rattle.calls.specs.Opening.{associating};
 ghost use Rattle.stored.specs.Stored.{unpacked, packed};
-ghost use Rattle.stored.specs.Answer.{Answered};
+ghost use Rattle.serving.specs.Served.{Answered};
 
 #[no_mangle]
 pub extern "C" fn ow_closed(port: u16) -> Stored
@@ -20,19 +18,16 @@ pub extern "C" fn ow_closed(port: u16) -> Stored
 
 #[no_mangle]
 pub extern "C" fn ow_associate(
-    s: Stored,
+    s: &mut Stored,
     tag: u32,
     tsn: u32,
     port: u16,
     streams: u16,
     out: &mut [u8],
 ) -> Answer
-    ensures { λ r. ⌜ Answered s (associating (unpacked s) tag (record { 0 = tsn }) port streams (now (out .entry))) (now (out .entry)) r (now (out .exit)) ⌝ }
+    ensures { λ r. ⌜ Answered (now (s .entry)) (associating (unpacked (now (s .entry))) tag (record { 0 = tsn }) port streams (now (out .entry))) (now (out .entry)) (record { told = r; association = now (s .exit) }) (now (out .exit)) ⌝ }
 {
-    if stored::is_named(s.state, s.tries) {
-        let a = stored::unpack(s);
-        let r = calls::associate(a, tag, Tsn(tsn), port, streams, out);
-        return answer::answered(r);
-    }
-    answer::unnamed(s)
+    let o = serving::opening::associate(*s, tag, tsn, port, streams, out);
+    *s = o.association;
+    o.told
 }

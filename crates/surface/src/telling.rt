@@ -1,58 +1,40 @@
 // ERROR and HEARTBEAT.
-use numbers::StreamId;
+use serving::telling::Value;
 use stored::Answer;
 use stored::Stored;
-use stored::answer;
-ghost use mathlib.Core.Path.{_≡_};
 ghost use Rattle.calls.specs.Telling.{tellingStream, tellingStale, beating};
 ghost use Rattle.stored.specs.Stored.{unpacked};
-ghost use Rattle.stored.specs.Answer.{Answered};
-
-// A value of the host: C hands over no array but in a struct.
-#[repr(C)]
-pub struct Value {
-    pub bytes: [u8; 8],
-}
+ghost use Rattle.serving.specs.Served.{Answered};
 
 #[no_mangle]
-pub extern "C" fn ow_error_stream(s: Stored, stream: u16, out: &mut [u8]) -> Answer
-    ensures { λ r. ⌜ Answered s (tellingStream (unpacked s) (record { 0 = stream }) (now (out .entry))) (now (out .entry)) r (now (out .exit)) ⌝ }
+pub extern "C" fn ow_error_stream(s: &mut Stored, stream: u16, out: &mut [u8]) -> Answer
+    ensures { λ r. ⌜ Answered (now (s .entry)) (tellingStream (unpacked (now (s .entry))) (record { 0 = stream }) (now (out .entry))) (now (out .entry)) (record { told = r; association = now (s .exit) }) (now (out .exit)) ⌝ }
 {
-    if stored::is_named(s.state, s.tries) {
-        let a = stored::unpack(s);
-        let r = calls::error_stream(a, StreamId(stream), out);
-        return answer::answered(r);
-    }
-    answer::unnamed(s)
+    let o = serving::telling::error_stream(*s, stream, out);
+    *s = o.association;
+    o.told
 }
 
 #[no_mangle]
 pub extern "C" fn ow_error_stale(
-    s: Stored,
+    s: &mut Stored,
     port: u16,
     tag: u32,
     late: u32,
     out: &mut [u8],
 ) -> Answer
-    ensures { λ r. ⌜ Answered s (tellingStale (unpacked s) port tag late (now (out .entry))) (now (out .entry)) r (now (out .exit)) ⌝ }
+    ensures { λ r. ⌜ Answered (now (s .entry)) (tellingStale (unpacked (now (s .entry))) port tag late (now (out .entry))) (now (out .entry)) (record { told = r; association = now (s .exit) }) (now (out .exit)) ⌝ }
 {
-    if stored::is_named(s.state, s.tries) {
-        let a = stored::unpack(s);
-        let r = calls::error_stale(a, port, tag, late, out);
-        return answer::answered(r);
-    }
-    answer::unnamed(s)
+    let o = serving::telling::error_stale(*s, port, tag, late, out);
+    *s = o.association;
+    o.told
 }
 
 #[no_mangle]
-pub extern "C" fn ow_heartbeat(s: Stored, value: Value, out: &mut [u8]) -> Answer
-    ensures { λ r. ⌜ Answered s (beating (unpacked s) (value .bytes) (now (out .entry))) (now (out .entry)) r (now (out .exit)) ⌝ }
+pub extern "C" fn ow_heartbeat(s: &mut Stored, value: Value, out: &mut [u8]) -> Answer
+    ensures { λ r. ⌜ Answered (now (s .entry)) (beating (unpacked (now (s .entry))) (value .bytes) (now (out .entry))) (now (out .entry)) (record { told = r; association = now (s .exit) }) (now (out .exit)) ⌝ }
 {
-    if stored::is_named(s.state, s.tries) {
-        let a = stored::unpack(s);
-        let bytes = value.bytes;
-        let r = calls::heartbeat(a, bytes, out);
-        return answer::answered(r);
-    }
-    answer::unnamed(s)
+    let o = serving::telling::heartbeat(*s, value, out);
+    *s = o.association;
+    o.told
 }

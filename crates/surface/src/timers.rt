@@ -1,57 +1,43 @@
 // Timers expire, and a round trip is measured.
 use stored::Answer;
 use stored::Stored;
-use stored::answer;
-ghost use mathlib.Core.Path.{_≡_};
 ghost use Rattle.states.specs.declared.call.Call.the-variants.{FirstTimer, SecondTimer};
 ghost use Rattle.calls.specs.Timers.{expiring, expiringThird, sampling};
 ghost use Rattle.stored.specs.Stored.{unpacked};
-ghost use Rattle.stored.specs.Answer.{Answered, AnsweredAlone};
+ghost use Rattle.serving.specs.Served.{Answered, AnsweredAlone};
 
 #[no_mangle]
-pub extern "C" fn ow_t1(s: Stored, out: &mut [u8]) -> Answer
-    ensures { λ r. ⌜ Answered s (expiring (unpacked s) FirstTimer (now (out .entry))) (now (out .entry)) r (now (out .exit)) ⌝ }
+pub extern "C" fn ow_t1(s: &mut Stored, out: &mut [u8]) -> Answer
+    ensures { λ r. ⌜ Answered (now (s .entry)) (expiring (unpacked (now (s .entry))) FirstTimer (now (out .entry))) (now (out .entry)) (record { told = r; association = now (s .exit) }) (now (out .exit)) ⌝ }
 {
-    if stored::is_named(s.state, s.tries) {
-        let a = stored::unpack(s);
-        let r = calls::t1(a, out);
-        return answer::answered(r);
-    }
-    answer::unnamed(s)
+    let o = serving::timers::t1(*s, out);
+    *s = o.association;
+    o.told
 }
 
 #[no_mangle]
-pub extern "C" fn ow_t2(s: Stored, out: &mut [u8]) -> Answer
-    ensures { λ r. ⌜ Answered s (expiring (unpacked s) SecondTimer (now (out .entry))) (now (out .entry)) r (now (out .exit)) ⌝ }
+pub extern "C" fn ow_t2(s: &mut Stored, out: &mut [u8]) -> Answer
+    ensures { λ r. ⌜ Answered (now (s .entry)) (expiring (unpacked (now (s .entry))) SecondTimer (now (out .entry))) (now (out .entry)) (record { told = r; association = now (s .exit) }) (now (out .exit)) ⌝ }
 {
-    if stored::is_named(s.state, s.tries) {
-        let a = stored::unpack(s);
-        let r = calls::t2(a, out);
-        return answer::answered(r);
-    }
-    answer::unnamed(s)
+    let o = serving::timers::t2(*s, out);
+    *s = o.association;
+    o.told
 }
 
 #[no_mangle]
-pub extern "C" fn ow_t3(s: Stored) -> Answer
-    ensures { λ r. ⌜ AnsweredAlone s (expiringThird (unpacked s)) r ⌝ }
+pub extern "C" fn ow_t3(s: &mut Stored) -> Answer
+    ensures { λ r. ⌜ AnsweredAlone (now (s .entry)) (expiringThird (unpacked (now (s .entry)))) (record { told = r; association = now (s .exit) }) ⌝ }
 {
-    if stored::is_named(s.state, s.tries) {
-        let a = stored::unpack(s);
-        let r = calls::t3(a);
-        return answer::answered(r);
-    }
-    answer::unnamed(s)
+    let o = serving::timers::t3(*s);
+    *s = o.association;
+    o.told
 }
 
 #[no_mangle]
-pub extern "C" fn ow_rtt(s: Stored, sample: u32) -> Answer
-    ensures { λ r. ⌜ AnsweredAlone s (sampling (unpacked s) sample) r ⌝ }
+pub extern "C" fn ow_rtt(s: &mut Stored, sample: u32) -> Answer
+    ensures { λ r. ⌜ AnsweredAlone (now (s .entry)) (sampling (unpacked (now (s .entry))) sample) (record { told = r; association = now (s .exit) }) ⌝ }
 {
-    if stored::is_named(s.state, s.tries) {
-        let a = stored::unpack(s);
-        let r = calls::rtt(a, sample);
-        return answer::answered(r);
-    }
-    answer::unnamed(s)
+    let o = serving::timers::rtt(*s, sample);
+    *s = o.association;
+    o.told
 }

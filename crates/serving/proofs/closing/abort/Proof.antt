@@ -1,0 +1,45 @@
+use Rattle.serving.specs.ServedLaws.{answered, unserved}
+use borrow.Author.Needs.{needs}
+use Rattle.serving.proofs.closing.abort.Statement.{statement}
+use Rattle.serving.proofs.closing.abort.Tie as tie
+
+is-named-requires : tie.Need-is-named-requires
+is-named-requires c κs = search needs
+
+unpack-requires : tie.Need-unpack-requires
+unpack-requires c κs = search needs
+
+reason-of-requires : tie.Need-reason-of-requires
+reason-of-requires c κs = search needs
+
+abort-requires : tie.Need-abort-requires
+abort-requires c κs = search needs
+
+answered-requires : tie.Need-answered-requires
+answered-requires c κs = search needs
+
+same-length : tie.Need-same-length
+same-length c = search needs
+
+returns : tie.Need-returns
+returns c = rw (← c .before .before .before .before .before .before .unpack .ensures, ← c .before .before .before .before .before .reason-of .ensures) (answered _ (c .before .before .before .before .before .before .before .before .is-named .ensures) (c .before .before .before .before .before .before .before .if1 .taken) (c .before .before .before .abort .ensures) (c .answered .ensures))
+
+unnamed-requires : tie.Need-unnamed-requires
+unnamed-requires c κs = search needs
+
+returns-2 : tie.Need-returns-2
+returns-2 c = unserved _ (c .before .before .is-named .ensures) (c .before .if1 .left) (c .unnamed .ensures)
+
+pub abort-spec : {M : Type 1} → statement M
+abort-spec =
+    tie.close
+    (tie.spec
+    is-named-requires
+    unpack-requires
+    reason-of-requires
+    abort-requires
+    answered-requires
+    same-length
+    returns
+    unnamed-requires
+    returns-2)
