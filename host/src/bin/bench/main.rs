@@ -36,6 +36,8 @@ fn main() {
 
 /// An emulator of instructions gives its name where a hypervisor would.
 fn processor() -> &'static str {
+    // Later compilers hold this to be safe; 1.63 does not.
+    #[allow(unused_unsafe)]
     let told = unsafe { __cpuid(0x4000_0000) };
     match [told.ebx, told.ecx, told.edx].map(u32::to_le_bytes) {
         [a, b, c] if [a, b, c].concat() == b"TCGTCGTCGTCG" => {
