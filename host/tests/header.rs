@@ -53,20 +53,20 @@ fn claims() -> String {
         ow_path Path { control clock flight running until tries }
         ow_sending Sending { acked next_tsn advertised oldest places next path }
         ow_association Record { state tries ends cookie receiving sending }
-        ow_answer Answer { number length over association }
+        ow_answer Answer { number length over }
         ow_peeked Peeked { number kind source tag window outs ins tsn at len }
         ow_lent Lent { tag tsn streams }
         ow_made Made { my_tag peer_tag streams_in streams_out my_tsn peer_tsn window }
         ow_echoed Echoed { word made }
         ow_verdict Verdict { at value fate number cause event }
-        ow_arrived Arrived { number count verdicts length association }
-        ow_handed_in HandedIn { number chunks association }
-        ow_transmitted Transmitted { number length resent first last association }
+        ow_arrived Arrived { number count verdicts length }
+        ow_handed_in HandedIn { number chunks }
+        ow_transmitted Transmitted { number length resent first last }
         ow_message Message { length stream unordered ssn ppid }
-        ow_delivered Delivered { number message association }
+        ow_delivered Delivered { number message }
         ow_blocks Blocks { count starts ends }
         ow_sacked Sacked { point window blocks dups listed }
-        ow_acknowledged Acknowledged { number length sack association }
+        ow_acknowledged Acknowledged { number length sack }
         ow_value Value { bytes }
     }
     numbers! { claims:
