@@ -1,18 +1,18 @@
 /*
- * Oilwhisper: an SCTP core (RFC 9260), one path, by value and without a heap.
+ * Oilwhisper: an SCTP core (RFC 9260), one path, without a heap.
  *
  * The host keeps one `struct ow_association` for each association and two areas of OW_AREA bytes beside it, one for receiving and one for sending.
- * Every call takes the record by value and gives it back inside its answer; the host puts it in the place of the one it had. A record has no pointer: it
- * may be copied, moved and kept anywhere. The library keeps nothing between calls, calls only C's memcpy and memset, and may be used from any number of
- * threads.
+ * A call is lent the record and changes it where it lies. A record has no pointer: between calls it may be copied, moved and kept anywhere. The library
+ * keeps nothing between calls, calls only C's memcpy and memset, and may be used from any number of threads: what one call may write, no other has meanwhile.
  *
  * Every call answers for every record, number and buffer, and has no rule that the host must keep but C's own:
+ *   - a record is lent by a pointer, which is not null and has a whole record behind it;
  *   - a slice is two parameters, a pointer and a count of bytes. The pointer is not null, not even for a count of 0, and so many bytes are there;
- *   - what a call may write (`uint8_t *`) overlaps nothing else that it was lent;
+ *   - what a call may write (the record, and each `uint8_t *`) overlaps nothing else that it was lent;
  *   - a `bool` is 0 or 1, in a record too.
  * Addresses and counts have 64 bits. A call works on copies of a record of 7 KB: give it 256 KB of stack.
  *
- * Every answer begins with `number`: 0, or one of the numbers below. A refused call gives the record back as it came and writes no byte; a packet that is
+ * Every answer begins with `number`: 0, or one of the numbers below. A refused call leaves the record as it came and writes no byte; a packet that is
  * let in may have refused chunks, each of which leaves all but what is said at OW_DUPLICATE and OW_STRAY. A call that is not refused writes the bytes of its
  * packet to `out`, exactly `length` of them, and no other. What goes to the peer is a whole SCTP packet, header and checksum in it.
  */
@@ -217,7 +217,6 @@ struct ow_answer {
     uint8_t number;
     size_t length;
     bool over;
-    struct ow_association association;
 };
 
 /*
@@ -225,7 +224,7 @@ struct ow_answer {
  * `tag`: our tag, not 0, and `tsn`: our first TSN, both random. `streams`: those wanted for sending, at least 1; over 128 are used as 128.
  * Refused 1, 18, 7, 4 (port 0), 8 (tag 0 or no streams).
  */
-struct ow_answer ow_associate(struct ow_association association, uint32_t tag, ow_tsn tsn, uint16_t port, uint16_t streams, uint8_t *out, size_t out_len);
+struct ow_answer ow_associate(struct ow_association *association, uint32_t tag, ow_tsn tsn, uint16_t port, uint16_t streams, uint8_t *out, size_t out_len);
 
 /* `kind` of what ow_peek saw. */
 #define OW_SAW_NOTHING 0
@@ -327,7 +326,6 @@ struct ow_arrived {
     size_t count;
     struct ow_verdict verdicts[OW_VERDICTS];
     size_t length;
-    struct ow_association association;
 };
 
 /*
@@ -335,7 +333,7 @@ struct ow_arrived {
  * out as one reply. `lent` and `cookie` serve an INIT, `echoed` a COOKIE ECHO; ow_peek says which it is.
  * Refused 1, 18 (`area` or `out`), 2, 3, 4, 5, 6: then there are no verdicts. What refuses a chunk is in its verdict.
  */
-struct ow_arrived ow_arrive(struct ow_association association, uint8_t *area, size_t area_len, const uint8_t *packet, size_t packet_len, struct ow_lent lent,
+struct ow_arrived ow_arrive(struct ow_association *association, uint8_t *area, size_t area_len, const uint8_t *packet, size_t packet_len, struct ow_lent lent,
                             const uint8_t *cookie, size_t cookie_len, struct ow_echoed echoed, uint8_t *out, size_t out_len);
 
 /* ---- Messages ---------------------------------------------------------------------------------------------------------------------------- */
@@ -344,14 +342,13 @@ struct ow_arrived ow_arrive(struct ow_association association, uint8_t *area, si
 struct ow_handed_in {
     uint8_t number;
     size_t chunks;
-    struct ow_association association;
 };
 
 /*
  * A message for a stream, whole or not at all: its chunks wait in `area` (the one for sending) until ow_transmit sends them. In OW_ESTABLISHED.
  * `ppid`: a number that goes with the message to the peer's host, as it is. Refused 1, 18, 7, 19, 20.
  */
-struct ow_handed_in ow_hand_in(struct ow_association association, uint8_t *area, size_t area_len, const uint8_t *message, size_t message_len, ow_stream stream,
+struct ow_handed_in ow_hand_in(struct ow_association *association, uint8_t *area, size_t area_len, const uint8_t *message, size_t message_len, ow_stream stream,
                                bool unordered, uint32_t ppid);
 
 /* `resent`: a chunk of the packet was sent before, so its round trip is not to be measured. `first`, `last`: TSNs of its chunks. 0 where nothing goes out. */
@@ -361,14 +358,13 @@ struct ow_transmitted {
     bool resent;
     ow_tsn first;
     ow_tsn last;
-    struct ow_association association;
 };
 
 /*
  * One packet of DATA chunks, as far as flight and the peer's window allow, or `length` 0: call it until it answers that. T3 runs while anything is outstanding.
  * In OW_ESTABLISHED, OW_SHUTDOWN_PENDING, OW_SHUTDOWN_RECEIVED. Refused 1, 18 (`area`, the one for sending, or `out`), 7.
  */
-struct ow_transmitted ow_transmit(struct ow_association association, const uint8_t *area, size_t area_len, uint8_t *out, size_t out_len);
+struct ow_transmitted ow_transmit(struct ow_association *association, const uint8_t *area, size_t area_len, uint8_t *out, size_t out_len);
 
 struct ow_message {
     size_t length;
@@ -381,14 +377,13 @@ struct ow_message {
 struct ow_delivered {
     uint8_t number;
     struct ow_message message;
-    struct ow_association association;
 };
 
 /*
  * Takes the next message, in any state: its bytes, `message.length` of them, go to `out`. Refused 1, 18 (`area`, the one for receiving; length 0), 17 (nothing to
  * take), 18 (`out`, which may have any count: `message.length` is the length needed).
  */
-struct ow_delivered ow_take(struct ow_association association, const uint8_t *area, size_t area_len, uint8_t *out, size_t out_len);
+struct ow_delivered ow_take(struct ow_association *association, const uint8_t *area, size_t area_len, uint8_t *out, size_t out_len);
 
 /* The first `count` gap blocks: start and end offsets from the point. Entries behind are 0. */
 struct ow_blocks {
@@ -410,36 +405,35 @@ struct ow_acknowledged {
     uint8_t number;
     size_t length;
     struct ow_sacked sack;
-    struct ow_association association;
 };
 
 /*
  * Tells the peer what has come: a SACK, and its values beside it; the duplicates listed are told with it. In OW_ESTABLISHED, OW_SHUTDOWN_PENDING,
  * OW_SHUTDOWN_SENT. When to call it is the host's (RFC 9260 section 6.2: every second packet with DATA, or 200 ms after one). Refused 1, 18, 7.
  */
-struct ow_acknowledged ow_sack(struct ow_association association, uint8_t *out, size_t out_len);
+struct ow_acknowledged ow_sack(struct ow_association *association, uint8_t *out, size_t out_len);
 
 /* ---- Timers ------------------------------------------------------------------------------------------------------------------------------ */
 
 /* They are the host's; each runs for `sending.path.clock.rto` milliseconds, which an expiry doubles. */
 
 /* T1 expires: INIT or COOKIE ECHO again, or closed (`over`). In OW_COOKIE_WAIT, OW_COOKIE_ECHOED. Refused 1, 18, 7. */
-struct ow_answer ow_t1(struct ow_association association, uint8_t *out, size_t out_len);
+struct ow_answer ow_t1(struct ow_association *association, uint8_t *out, size_t out_len);
 
 /* T2 expires: SHUTDOWN or SHUTDOWN ACK again, or closed (`over`). In OW_SHUTDOWN_SENT, OW_SHUTDOWN_ACK_SENT. Refused 1, 18, 7. */
-struct ow_answer ow_t2(struct ow_association association, uint8_t *out, size_t out_len);
+struct ow_answer ow_t2(struct ow_association *association, uint8_t *out, size_t out_len);
 
 /*
  * T3 expires: all that is outstanding is marked, and ow_transmit sends it again; or closed (`over`). Writes nothing. In OW_ESTABLISHED, OW_SHUTDOWN_PENDING,
  * OW_SHUTDOWN_RECEIVED. Refused 1, 7 (also with nothing outstanding).
  */
-struct ow_answer ow_t3(struct ow_association association);
+struct ow_answer ow_t3(struct ow_association *association);
 
 /*
  * A round trip of `sample` milliseconds was measured; over 60,000 count as 60,000. Which ones count is the host's to say: none of a chunk that was sent
  * again (RFC 9260 section 6.3.1 C5). In any state but OW_CLOSED. Refused 1, 7.
  */
-struct ow_answer ow_rtt(struct ow_association association, uint32_t sample);
+struct ow_answer ow_rtt(struct ow_association *association, uint32_t sample);
 
 /* ---- Closing and telling ----------------------------------------------------------------------------------------------------------------- */
 
@@ -447,22 +441,22 @@ struct ow_answer ow_rtt(struct ow_association association, uint32_t sample);
  * No more messages: OW_SHUTDOWN_PENDING until all that was handed in is acknowledged, or at once OW_SHUTDOWN_SENT with a SHUTDOWN, and T2 runs.
  * In OW_ESTABLISHED. Refused 1, 18, 7.
  */
-struct ow_answer ow_shutdown(struct ow_association association, uint8_t *out, size_t out_len);
+struct ow_answer ow_shutdown(struct ow_association *association, uint8_t *out, size_t out_len);
 
 /*
  * OW_CLOSED at once, and an ABORT goes out (from OW_COOKIE_WAIT none: no tag of the peer is known). `cause`: OW_CAUSE_NO_DATA, which takes the `tsn`,
  * OW_CAUSE_VIOLATION, or OW_CAUSE_USER, as which any other number counts. In any state but OW_CLOSED. Refused 1, 18, 7.
  */
-struct ow_answer ow_abort(struct ow_association association, uint8_t cause, ow_tsn tsn, uint8_t *out, size_t out_len);
+struct ow_answer ow_abort(struct ow_association *association, uint8_t cause, ow_tsn tsn, uint8_t *out, size_t out_len);
 
 /* Tells the peer that a stream is not agreed: an ERROR with cause 1. In OW_ESTABLISHED, OW_SHUTDOWN_PENDING, OW_SHUTDOWN_SENT. Refused 1, 18, 7. */
-struct ow_answer ow_error_stream(struct ow_association association, ow_stream stream, uint8_t *out, size_t out_len);
+struct ow_answer ow_error_stream(struct ow_association *association, ow_stream stream, uint8_t *out, size_t out_len);
 
 /*
  * Tells the peer that the cookie it echoed came `late` microseconds past its lifetime: an ERROR with cause 3. `port`: the one that the echo came from. `tag`: the
  * cookie's `peer_tag`. In OW_CLOSED. Refused 1, 18, 7.
  */
-struct ow_answer ow_error_stale(struct ow_association association, uint16_t port, uint32_t tag, uint32_t late, uint8_t *out, size_t out_len);
+struct ow_answer ow_error_stale(struct ow_association *association, uint16_t port, uint32_t tag, uint32_t late, uint8_t *out, size_t out_len);
 
 /* A value of the host, which the peer's HEARTBEAT ACK brings back. */
 struct ow_value {
@@ -470,7 +464,7 @@ struct ow_value {
 };
 
 /* A HEARTBEAT. In OW_ESTABLISHED, OW_SHUTDOWN_PENDING, OW_SHUTDOWN_RECEIVED. Refused 1, 18, 7. */
-struct ow_answer ow_heartbeat(struct ow_association association, struct ow_value value, uint8_t *out, size_t out_len);
+struct ow_answer ow_heartbeat(struct ow_association *association, struct ow_value value, uint8_t *out, size_t out_len);
 
 #ifdef __cplusplus
 }

@@ -65,33 +65,29 @@ impl<L: Library> Association<L> {
 
     pub fn arrive(&mut self, packet: &[u8], lent: &Lent, echoed: Echoed, out: &mut [u8]) -> Answer<Arrived> {
         let values = ffi::Lent { tag: lent.tag, tsn: lent.tsn, streams: lent.streams };
-        let answer = L::arrive(self.record, &mut self.received, packet, values, &lent.cookie, echoed_for_c(echoed), out);
-        self.record = answer.association;
+        let answer = L::arrive(&mut self.record, &mut self.received, packet, values, &lent.cookie, echoed_for_c(echoed), out);
         let verdicts = answer.verdicts.iter().take(answer.count).map(verdict_of).collect();
         answered(answer.number, Arrived { verdicts, reply: answer.length })
     }
 
     pub fn associate(&mut self, tag: u32, tsn: u32, port: u16, streams: u16, out: &mut [u8]) -> Answer<usize> {
-        self.keep(L::associate(self.record, tag, tsn, port, streams, out))
+        sent(L::associate(&mut self.record, tag, tsn, port, streams, out))
     }
 
     /// The number of chunks that the message was cut into.
     pub fn hand_in(&mut self, message: &[u8], stream: u16, unordered: bool, ppid: u32) -> Answer<usize> {
-        let answer = L::hand_in(self.record, &mut self.to_send, message, stream, unordered, ppid);
-        self.record = answer.association;
+        let answer = L::hand_in(&mut self.record, &mut self.to_send, message, stream, unordered, ppid);
         answered(answer.number, answer.chunks)
     }
 
     pub fn transmit(&mut self, out: &mut [u8]) -> Answer<Transmitted> {
-        let answer = L::transmit(self.record, &self.to_send, out);
-        self.record = answer.association;
+        let answer = L::transmit(&mut self.record, &self.to_send, out);
         answered(answer.number, Transmitted { length: answer.length, resent: answer.resent, first: answer.first, last: answer.last })
     }
 
     /// The buffer may have any length.
     pub fn take(&mut self, out: &mut [u8]) -> Result<Taken, NotTaken> {
-        let answer = L::take(self.record, &self.received, out);
-        self.record = answer.association;
+        let answer = L::take(&mut self.record, &self.received, out);
         let message = answer.message;
         match answer.number {
             0 => Ok(Taken { length: message.length, stream: message.stream, unordered: message.unordered, ssn: message.ssn, ppid: message.ppid }),
@@ -101,60 +97,46 @@ impl<L: Library> Association<L> {
     }
 
     pub fn sack(&mut self, out: &mut [u8]) -> Answer<Acknowledged> {
-        let answer = L::sack(self.record, out);
-        self.record = answer.association;
+        let answer = L::sack(&mut self.record, out);
         answered(answer.number, Acknowledged { length: answer.length, window: answer.sack.window })
     }
 
     pub fn t1(&mut self, out: &mut [u8]) -> Answer<Expired> {
-        self.keep_expiry(L::t1(self.record, out))
+        expired(L::t1(&mut self.record, out))
     }
 
     pub fn t2(&mut self, out: &mut [u8]) -> Answer<Expired> {
-        self.keep_expiry(L::t2(self.record, out))
+        expired(L::t2(&mut self.record, out))
     }
 
     pub fn t3(&mut self) -> Answer<Expired> {
-        self.keep_expiry(L::t3(self.record))
+        expired(L::t3(&mut self.record))
     }
 
     pub fn shutdown(&mut self, out: &mut [u8]) -> Answer<usize> {
-        self.keep(L::shutdown(self.record, out))
+        sent(L::shutdown(&mut self.record, out))
     }
 
     pub fn abort(&mut self, cause: Cause, out: &mut [u8]) -> Answer<usize> {
         let (number, tsn) = cause_for_c(cause);
-        self.keep(L::abort(self.record, number, tsn, out))
+        sent(L::abort(&mut self.record, number, tsn, out))
     }
 
     pub fn error_stream(&mut self, stream: u16, out: &mut [u8]) -> Answer<usize> {
-        self.keep(L::error_stream(self.record, stream, out))
+        sent(L::error_stream(&mut self.record, stream, out))
     }
 
     pub fn error_stale(&mut self, port: u16, tag: u32, late: u32, out: &mut [u8]) -> Answer<usize> {
-        self.keep(L::error_stale(self.record, port, tag, late, out))
+        sent(L::error_stale(&mut self.record, port, tag, late, out))
     }
 
     pub fn heartbeat(&mut self, value: [u8; 8], out: &mut [u8]) -> Answer<usize> {
-        self.keep(L::heartbeat(self.record, value, out))
+        sent(L::heartbeat(&mut self.record, value, out))
     }
 
     pub fn rtt(&mut self, sample: Duration) -> Answer<()> {
         let milliseconds = u32::try_from(sample.as_millis()).unwrap_or(u32::MAX);
-        self.keep(L::rtt(self.record, milliseconds)).map(|_| ())
-    }
-
-    fn keep(&mut self, answer: ffi::Answer) -> Answer<usize> {
-        self.record = answer.association;
-        answered(answer.number, answer.length)
-    }
-
-    fn keep_expiry(&mut self, answer: ffi::Answer) -> Answer<Expired> {
-        let over = answer.over;
-        self.keep(answer).map(|length| match over {
-            true => Expired::Over,
-            false => Expired::TriedAgain(length),
-        })
+        sent(L::rtt(&mut self.record, milliseconds)).map(|_| ())
     }
 }
 
@@ -163,6 +145,18 @@ fn answered<T>(number: u8, value: T) -> Answer<T> {
         0 => Ok(value),
         n => Err(Refusal(n)),
     }
+}
+
+/// The length of the packet that was written.
+fn sent(answer: ffi::Answer) -> Answer<usize> {
+    answered(answer.number, answer.length)
+}
+
+fn expired(answer: ffi::Answer) -> Answer<Expired> {
+    sent(answer).map(|length| match answer.over {
+        true => Expired::Over,
+        false => Expired::TriedAgain(length),
+    })
 }
 
 /// The state of a number. A record with any other number can do nothing: the core refuses it.

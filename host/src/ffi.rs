@@ -129,7 +129,8 @@ pub struct Sending {
     pub path: Path,
 }
 
-#[derive(Clone, Copy, Debug, PartialEq, Eq)]
+/// No `Copy`: a call is lent the record, and what copies one says so.
+#[derive(Clone, Debug, PartialEq, Eq)]
 #[repr(C)]
 pub struct Record {
     pub state: u8,
@@ -140,13 +141,12 @@ pub struct Record {
     pub sending: Sending,
 }
 
-#[derive(Clone, Copy)]
+#[derive(Clone, Copy, Debug, PartialEq, Eq)]
 #[repr(C)]
 pub struct Answer {
     pub number: u8,
     pub length: usize,
     pub over: bool,
-    pub association: Record,
 }
 
 #[derive(Clone, Copy, Debug, PartialEq, Eq)]
@@ -232,25 +232,24 @@ pub struct Verdict {
     pub event: u8,
 }
 
-#[derive(Clone, Copy)]
+/// No `Copy`: most packets have a chunk or two, and the array has room for all that can be.
+#[derive(Clone, Debug, PartialEq, Eq)]
 #[repr(C)]
 pub struct Arrived {
     pub number: u8,
     pub count: usize,
     pub verdicts: [Verdict; VERDICTS],
     pub length: usize,
-    pub association: Record,
 }
 
-#[derive(Clone, Copy)]
+#[derive(Clone, Copy, Debug, PartialEq, Eq)]
 #[repr(C)]
 pub struct HandedIn {
     pub number: u8,
     pub chunks: usize,
-    pub association: Record,
 }
 
-#[derive(Clone, Copy)]
+#[derive(Clone, Copy, Debug, PartialEq, Eq)]
 #[repr(C)]
 pub struct Transmitted {
     pub number: u8,
@@ -258,7 +257,6 @@ pub struct Transmitted {
     pub resent: bool,
     pub first: u32,
     pub last: u32,
-    pub association: Record,
 }
 
 #[derive(Clone, Copy, Debug, PartialEq, Eq)]
@@ -271,12 +269,11 @@ pub struct Message {
     pub ppid: u32,
 }
 
-#[derive(Clone, Copy)]
+#[derive(Clone, Copy, Debug, PartialEq, Eq)]
 #[repr(C)]
 pub struct Delivered {
     pub number: u8,
     pub message: Message,
-    pub association: Record,
 }
 
 #[derive(Clone, Copy, Debug, PartialEq, Eq)]
@@ -297,13 +294,12 @@ pub struct Sacked {
     pub listed: usize,
 }
 
-#[derive(Clone, Copy)]
+#[derive(Clone, Copy, Debug, PartialEq, Eq)]
 #[repr(C)]
 pub struct Acknowledged {
     pub number: u8,
     pub length: usize,
     pub sack: Sacked,
-    pub association: Record,
 }
 
 #[derive(Clone, Copy, Debug, PartialEq, Eq)]
@@ -316,9 +312,9 @@ pub struct Value {
 extern "C" {
     pub fn ow_closed(port: u16) -> Record;
     pub fn ow_peek(packet: *const u8, packet_len: usize) -> Peeked;
-    pub fn ow_associate(association: Record, tag: u32, tsn: u32, port: u16, streams: u16, out: *mut u8, out_len: usize) -> Answer;
+    pub fn ow_associate(association: *mut Record, tag: u32, tsn: u32, port: u16, streams: u16, out: *mut u8, out_len: usize) -> Answer;
     pub fn ow_arrive(
-        association: Record,
+        association: *mut Record,
         area: *mut u8,
         area_len: usize,
         packet: *const u8,
@@ -331,7 +327,7 @@ extern "C" {
         out_len: usize,
     ) -> Arrived;
     pub fn ow_hand_in(
-        association: Record,
+        association: *mut Record,
         area: *mut u8,
         area_len: usize,
         message: *const u8,
@@ -340,16 +336,16 @@ extern "C" {
         unordered: bool,
         ppid: u32,
     ) -> HandedIn;
-    pub fn ow_transmit(association: Record, area: *const u8, area_len: usize, out: *mut u8, out_len: usize) -> Transmitted;
-    pub fn ow_take(association: Record, area: *const u8, area_len: usize, out: *mut u8, out_len: usize) -> Delivered;
-    pub fn ow_sack(association: Record, out: *mut u8, out_len: usize) -> Acknowledged;
-    pub fn ow_t1(association: Record, out: *mut u8, out_len: usize) -> Answer;
-    pub fn ow_t2(association: Record, out: *mut u8, out_len: usize) -> Answer;
-    pub fn ow_t3(association: Record) -> Answer;
-    pub fn ow_rtt(association: Record, sample: u32) -> Answer;
-    pub fn ow_shutdown(association: Record, out: *mut u8, out_len: usize) -> Answer;
-    pub fn ow_abort(association: Record, cause: u8, tsn: u32, out: *mut u8, out_len: usize) -> Answer;
-    pub fn ow_error_stream(association: Record, stream: u16, out: *mut u8, out_len: usize) -> Answer;
-    pub fn ow_error_stale(association: Record, port: u16, tag: u32, late: u32, out: *mut u8, out_len: usize) -> Answer;
-    pub fn ow_heartbeat(association: Record, value: Value, out: *mut u8, out_len: usize) -> Answer;
+    pub fn ow_transmit(association: *mut Record, area: *const u8, area_len: usize, out: *mut u8, out_len: usize) -> Transmitted;
+    pub fn ow_take(association: *mut Record, area: *const u8, area_len: usize, out: *mut u8, out_len: usize) -> Delivered;
+    pub fn ow_sack(association: *mut Record, out: *mut u8, out_len: usize) -> Acknowledged;
+    pub fn ow_t1(association: *mut Record, out: *mut u8, out_len: usize) -> Answer;
+    pub fn ow_t2(association: *mut Record, out: *mut u8, out_len: usize) -> Answer;
+    pub fn ow_t3(association: *mut Record) -> Answer;
+    pub fn ow_rtt(association: *mut Record, sample: u32) -> Answer;
+    pub fn ow_shutdown(association: *mut Record, out: *mut u8, out_len: usize) -> Answer;
+    pub fn ow_abort(association: *mut Record, cause: u8, tsn: u32, out: *mut u8, out_len: usize) -> Answer;
+    pub fn ow_error_stream(association: *mut Record, stream: u16, out: *mut u8, out_len: usize) -> Answer;
+    pub fn ow_error_stale(association: *mut Record, port: u16, tag: u32, late: u32, out: *mut u8, out_len: usize) -> Answer;
+    pub fn ow_heartbeat(association: *mut Record, value: Value, out: *mut u8, out_len: usize) -> Answer;
 }

@@ -53,20 +53,20 @@ fn claims() -> String {
         ow_path Path { control clock flight running until tries }
         ow_sending Sending { acked next_tsn advertised oldest places next path }
         ow_association Record { state tries ends cookie receiving sending }
-        ow_answer Answer { number length over association }
+        ow_answer Answer { number length over }
         ow_peeked Peeked { number kind source tag window outs ins tsn at len }
         ow_lent Lent { tag tsn streams }
         ow_made Made { my_tag peer_tag streams_in streams_out my_tsn peer_tsn window }
         ow_echoed Echoed { word made }
         ow_verdict Verdict { at value fate number cause event }
-        ow_arrived Arrived { number count verdicts length association }
-        ow_handed_in HandedIn { number chunks association }
-        ow_transmitted Transmitted { number length resent first last association }
+        ow_arrived Arrived { number count verdicts length }
+        ow_handed_in HandedIn { number chunks }
+        ow_transmitted Transmitted { number length resent first last }
         ow_message Message { length stream unordered ssn ppid }
-        ow_delivered Delivered { number message association }
+        ow_delivered Delivered { number message }
         ow_blocks Blocks { count starts ends }
         ow_sacked Sacked { point window blocks dups listed }
-        ow_acknowledged Acknowledged { number length sack association }
+        ow_acknowledged Acknowledged { number length sack }
         ow_value Value { bytes }
     }
     numbers! { claims:
@@ -168,34 +168,62 @@ fn a_wrong_claim_is_refused() {
     assert!(complaints("cc", "c", "_Static_assert", "CLAIM(OW_STALE == 16);\n").contains("OW_STALE"));
 }
 
-/// The declarations of the header and of `ffi`: the same functions with as many parameters.
+/// The declarations of the header and of `ffi`: the same functions, in C and in Rust.
 #[test]
 fn every_function_is_declared_alike() {
-    let header = include_str!("../../include/oilwhisper.h");
-    let rust = include_str!("../src/ffi.rs");
-    let expected: Vec<(String, usize)> = functions(header, "struct ow_");
-    let declared: Vec<(String, usize)> = functions(rust, "pub fn ow_");
+    let header = declarations(include_str!("../../include/oilwhisper.h"), "struct ow_");
+    let declared = declarations(include_str!("../src/ffi.rs"), "pub fn ow_");
+    let expected: Vec<String> = header.iter().map(|declaration| rust_of(declaration)).collect();
     assert_eq!(expected.len(), 17);
     for function in &expected {
-        assert!(declared.contains(function), "{:?}", function);
+        assert!(declared.contains(function), "{} is not among {:#?}", function, declared);
     }
     assert_eq!(declared.len(), expected.len());
 }
 
-/// The names of declared functions and how many parameters each has; a declaration begins a line with these words and ends with a semicolon.
-fn functions(text: &str, begins: &str) -> Vec<(String, usize)> {
+/// The declarations of functions, each without its semicolon and on one line; one begins a line with these words.
+fn declarations(text: &str, begins: &str) -> Vec<String> {
     let mut found = Vec::new();
     for (at, _) in text.match_indices(begins) {
         let starts_line = text[..at].chars().rev().take_while(|c| *c != '\n').all(char::is_whitespace);
         let declaration = text[at..].split(';').next().unwrap_or_default();
-        if !starts_line || declaration.contains('{') {
-            continue;
-        }
-        if let Some((head, rest)) = declaration.split_once('(') {
-            let name = head.rsplit(' ').next().unwrap_or_default().to_string();
-            let parameters = rest.split(')').next().unwrap_or_default();
-            found.push((name, parameters.split(',').filter(|part| !part.trim().is_empty()).count()));
+        if starts_line && declaration.contains('(') && !declaration.contains('{') {
+            let line = declaration.split_whitespace().collect::<Vec<_>>().join(" ");
+            found.push(line.replace("( ", "(").replace(", )", ")"));
         }
     }
     found
+}
+
+/// A declaration of C, `struct ow_peeked ow_peek(const uint8_t *packet, size_t packet_len)`, in Rust.
+fn rust_of(declaration: &str) -> String {
+    let (head, parameters) = declaration.split_once('(').expect("a function has parameters");
+    let (answer, name) = head.rsplit_once(' ').expect("an answer stands before the name");
+    let parameters: Vec<String> = parameters.trim_end_matches(')').split(", ").map(parameter_of).collect();
+    format!("pub fn {}({}) -> {}", name, parameters.join(", "), type_of(answer))
+}
+
+fn parameter_of(parameter: &str) -> String {
+    let (of, name) = parameter.rsplit_once(' ').expect("a type stands before the name");
+    match (name.strip_prefix('*'), of.strip_prefix("const ")) {
+        (Some(name), Some(of)) => format!("{}: *const {}", name, type_of(of)),
+        (Some(name), None) => format!("{}: *mut {}", name, type_of(of)),
+        (None, _) => format!("{}: {}", name, type_of(of)),
+    }
+}
+
+/// A type of C in Rust; a struct's name loses `ow_` and its underscores there.
+fn type_of(of: &str) -> String {
+    match of {
+        "uint8_t" => "u8".into(),
+        "uint16_t" | "ow_stream" => "u16".into(),
+        "uint32_t" | "ow_tsn" => "u32".into(),
+        "size_t" => "usize".into(),
+        "bool" => "bool".into(),
+        "struct ow_association" => "Record".into(),
+        _ => {
+            let words = of.strip_prefix("struct ow_").unwrap_or_else(|| panic!("{} is no type of the header", of)).split('_');
+            words.map(|word| word[..1].to_uppercase() + &word[1..]).collect()
+        }
+    }
 }

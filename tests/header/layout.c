@@ -99,11 +99,10 @@ AT(clock, 1, srtt);
 AT(clock, 2, rttvar);
 AT(clock, 3, rto);
 
-SIZE(answer, 4);
+SIZE(answer, 3);
 AT(answer, 0, number);
 AT(answer, 1, length);
 AT(answer, 2, over);
-AT(answer, 3, association);
 
 SIZE(peeked, 10);
 AT(peeked, 0, number);
@@ -117,15 +116,13 @@ AT(peeked, 7, tsn);
 AT(peeked, 8, at);
 AT(peeked, 9, len);
 
-SIZE(handed_in, 3);
+SIZE(handed_in, 2);
 AT(handed_in, 0, number);
 AT(handed_in, 1, chunks);
-AT(handed_in, 2, association);
 
-SIZE(delivered, 3);
+SIZE(delivered, 2);
 AT(delivered, 0, number);
 AT(delivered, 1, message);
-AT(delivered, 2, association);
 
 SIZE(message, 5);
 AT(message, 0, length);
@@ -134,19 +131,17 @@ AT(message, 2, unordered);
 AT(message, 3, ssn);
 AT(message, 4, ppid);
 
-SIZE(transmitted, 6);
+SIZE(transmitted, 5);
 AT(transmitted, 0, number);
 AT(transmitted, 1, length);
 AT(transmitted, 2, resent);
 AT(transmitted, 3, first);
 AT(transmitted, 4, last);
-AT(transmitted, 5, association);
 
-SIZE(acknowledged, 4);
+SIZE(acknowledged, 3);
 AT(acknowledged, 0, number);
 AT(acknowledged, 1, length);
 AT(acknowledged, 2, sack);
-AT(acknowledged, 3, association);
 
 SIZE(sacked, 5);
 AT(sacked, 0, point);
@@ -181,12 +176,11 @@ AT(made, 4, my_tsn);
 AT(made, 5, peer_tsn);
 AT(made, 6, window);
 
-SIZE(arrived, 5);
+SIZE(arrived, 4);
 AT(arrived, 0, number);
 AT(arrived, 1, count);
 AT(arrived, 2, verdicts);
 AT(arrived, 3, length);
-AT(arrived, 4, association);
 
 SIZE(verdict, 6);
 AT(verdict, 0, at);

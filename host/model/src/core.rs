@@ -1,4 +1,4 @@
-//! The calls of the core, so that a driver can make them of any implementation. A record is changed where it stands.
+//! The calls of the core, so that a driver can make them of any implementation. A record is changed where it lies.
 
 use crate::record::*;
 use crate::{arrive, association, calls};

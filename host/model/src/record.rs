@@ -188,8 +188,9 @@ pub struct Echoed {
     pub made: Made,
 }
 
-// ---- Answers (the record is not among them: a call changes it where it stands)
+// ---- Answers
 
+#[repr(C)]
 #[derive(Clone, Copy, Debug, Default, PartialEq, Eq)]
 pub struct Answer {
     pub number: u8,
@@ -252,6 +253,7 @@ pub struct Verdict {
 /// What stands behind the verdicts of a packet's chunks.
 pub const NO_VERDICT: Verdict = Verdict { at: 0, value: 0, fate: UNREAD, number: 0, cause: CAUSE_NONE, event: NO_EVENT };
 
+#[repr(C)]
 #[derive(Clone, Copy, Debug, PartialEq, Eq)]
 pub struct Arrived {
     pub number: u8,
@@ -260,12 +262,14 @@ pub struct Arrived {
     pub length: usize,
 }
 
+#[repr(C)]
 #[derive(Clone, Copy, Debug, Default, PartialEq, Eq)]
 pub struct HandedIn {
     pub number: u8,
     pub chunks: usize,
 }
 
+#[repr(C)]
 #[derive(Clone, Copy, Debug, Default, PartialEq, Eq)]
 pub struct Transmitted {
     pub number: u8,
@@ -285,6 +289,7 @@ pub struct Message {
     pub ppid: u32,
 }
 
+#[repr(C)]
 #[derive(Clone, Copy, Debug, Default, PartialEq, Eq)]
 pub struct Delivered {
     pub number: u8,
@@ -309,6 +314,7 @@ pub struct Sacked {
     pub listed: usize,
 }
 
+#[repr(C)]
 #[derive(Clone, Copy, Debug, PartialEq, Eq)]
 pub struct Acknowledged {
     pub number: u8,

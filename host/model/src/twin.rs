@@ -48,9 +48,10 @@ impl<'m> Twin<'m> {
         &self.sides[0].out[..length]
     }
 
-    /// Makes the call of both. On a difference: what differs.
+    /// Makes the call of both. On a difference, or where a refused call changed the record: what differs.
     pub fn call(&mut self, call: &Call) -> Result<Reply, String> {
         let [l, r] = &mut self.sides;
+        let came = l.a;
         let left = self.makers[0].make(call, l);
         let right = self.makers[1].make(call, r);
         if left != right {
@@ -58,6 +59,9 @@ impl<'m> Twin<'m> {
         }
         if l.a != r.a {
             return Err(unlike("the records", &l.a, &r.a));
+        }
+        if left.number() != 0 && l.a != came {
+            return Err(unlike("refused, and the records before and after", &came, &l.a));
         }
         let out = lent_out(call);
         if l.out[..out] != r.out[..out] {

@@ -7,13 +7,13 @@ use model::{drive, is_sound, Model};
 const CALLS: usize = 300_000;
 const SEED: u64 = 9260;
 
-/// The model, and what 01 says of every call: "1 … leaves all", a refused call leaves the record, no byte but the answer's is written, bounds are kept.
+/// The model, and what 01 says of every call: "1 … leaves all", a refused call leaves record and areas, no byte but the answer's is written, bounds are kept.
 struct Watched;
 
 impl Maker for Watched {
     fn make(&self, call: &Call, b: &mut Buffers) -> Reply {
         let a = b.a;
-        let out = b.out.clone();
+        let (out, receive, send) = (b.out.clone(), b.receive.clone(), b.send.clone());
         let reply = Model.make(call, b);
         if matches!(call, Call::Peek { .. }) {
             return reply;
@@ -21,6 +21,7 @@ impl Maker for Watched {
         let number = reply.number();
         assert_eq!(number == 1, !is_sound(&a) && !matches!(call, Call::Closed { .. }), "{call:?}");
         assert!(number == 0 || b.a == a, "refused, and the record changed: {call:?}");
+        assert!(number == 0 || (b.receive == receive && b.send == send), "refused, and an area changed: {call:?}");
         assert!(number == 1 || is_sound(&b.a), "bounds: {call:?}");
         let written = match &reply {
             Reply::Delivered(d) if number == 0 => d.message.length,
@@ -51,7 +52,11 @@ impl Maker for Bent {
 }
 
 fn is_found(what: &str, bend: fn(&Call, &mut Buffers, &mut Reply)) {
-    let difference = drive(&Model, &Bent(bend), SEED, CALLS).err().unwrap_or_else(|| panic!("{what} was not found"));
+    is_found_beside(&Model, what, bend);
+}
+
+fn is_found_beside(other: &dyn Maker, what: &str, bend: fn(&Call, &mut Buffers, &mut Reply)) {
+    let difference = drive(other, &Bent(bend), SEED, CALLS).err().unwrap_or_else(|| panic!("{what} was not found"));
     assert!(difference.what.contains(what), "{what} was expected: {difference}");
 }
 
@@ -82,4 +87,16 @@ fn a_bent_core_is_found() {
             b.send[0] ^= 1;
         }
     });
+}
+
+/// Also where both cores are wrong alike.
+#[test]
+fn a_refusal_that_changes_the_record_is_found() {
+    let bend = |_: &Call, b: &mut Buffers, reply: &mut Reply| {
+        if reply.number() == 7 {
+            b.a.ends.local_port ^= 1;
+        }
+    };
+    is_found("records", bend);
+    is_found_beside(&Bent(bend), "refused, and the records", bend);
 }

@@ -36,6 +36,8 @@ fn main() {
 
 /// An emulator of instructions gives its name where a hypervisor would.
 fn processor() -> &'static str {
+    // Later compilers hold this to be safe; 1.63 does not.
+    #[allow(unused_unsafe)]
     let told = unsafe { __cpuid(0x4000_0000) };
     match [told.ebx, told.ecx, told.edx].map(u32::to_le_bytes) {
         [a, b, c] if [a, b, c].concat() == b"TCGTCGTCGTCG" => {
@@ -104,8 +106,8 @@ fn print_filling() {
 }
 
 fn print_needs() {
-    println!("\nBytes that a call needs on the stack and bytes that it copies or clears, of which the record is {}", size_of::<Record>());
-    println!("and the answer of ow_arrive {}. Emulation does not change these.", size_of::<Arrived>());
+    println!("\nBytes that a call needs on the stack, with its answer, and bytes that it copies or clears. The answer of ow_arrive");
+    println!("has {}, the record {}. Emulation does not change these.", size_of::<Arrived>(), size_of::<Record>());
     println!("{:<22} {:>10} {:>10}", "", "stack", "copied");
     for needs in needs::all() {
         println!("{:<22} {:>10} {:>10}", needs.name, needs.stack, needs.copied);

@@ -33,7 +33,7 @@ extern "C" fn run(argument: *mut c_void) -> *mut c_void {
     argument
 }
 
-/// What a call needs, with the record that is handed over and the answer.
+/// What a call needs, with the answer.
 pub struct Needs {
     pub name: &'static str,
     pub stack: usize,
@@ -66,32 +66,35 @@ fn overwritten(mut call: Call) -> usize {
     }
 }
 
-/// What each call needs beyond what a thread with no call does; the deepest first.
+/// What each call needs beyond what a thread with no call does; the deepest first. Each call is made of an end of its own.
 pub fn all() -> Vec<Needs> {
-    let Filled { mut arriving, mut holding, mut handing_in, mut transmitting, mut sent, data, sack } = fill(127);
-    let mut closed = Lone::new(Proved::closed(5001));
+    let Filled { arriving, holding, handing_in, transmitting, sent, data, sack } = fill(127);
+    let closed = Lone::new(Proved::closed(5001));
     let Opened { init, .. } = open();
     let unknown = checksum::packet(1472);
     let lent = Lent { tag: 2, tsn: 3, streams: 8 };
     let empty = needs("", &Needs { name: "", stack: 0, copied: 0 }, &mut || ());
     let mut all = Vec::new();
-    let mut measure = |name, call: Call| all.push(needs(name, &empty, call));
-    measure("ow_arrive, a DATA", &mut || _ = arriving.arrive(&data));
-    measure("ow_arrive, a SACK", &mut || _ = sent.arrive(&sack));
-    measure("ow_arrive, an INIT", &mut || {
-        _ = Proved::arrive(closed.record, &mut closed.area, &init, lent, &[7; 32], Echoed::default(), &mut closed.out)
+    let mut measure = |name, end: &Lone, call: &dyn Fn(&mut Lone)| {
+        let mut end = end.clone();
+        all.push(needs(name, &empty, &mut || call(&mut end)));
+    };
+    measure("ow_arrive, a DATA", &arriving, &|end| end.arrive(&data));
+    measure("ow_arrive, a SACK", &sent, &|end| end.arrive(&sack));
+    measure("ow_arrive, an INIT", &closed, &|end| {
+        _ = Proved::arrive(&mut end.record, &mut end.area, &init, lent, &[7; 32], Echoed::default(), &mut end.out)
     });
-    measure("ow_take", &mut || _ = holding.take());
-    measure("ow_sack", &mut || _ = holding.sack());
-    measure("ow_hand_in", &mut || _ = handing_in.hand_in());
-    measure("ow_transmit", &mut || _ = transmitting.transmit());
-    measure("ow_t3", &mut || _ = Proved::t3(sent.record));
-    measure("ow_rtt", &mut || _ = Proved::rtt(sent.record, 100));
-    measure("ow_heartbeat", &mut || _ = Proved::heartbeat(sent.record, [0; 8], &mut sent.out));
-    measure("ow_shutdown", &mut || _ = Proved::shutdown(sent.record, &mut sent.out));
-    measure("ow_abort", &mut || _ = Proved::abort(sent.record, 12, 0, &mut sent.out));
-    measure("ow_associate", &mut || _ = Proved::associate(closed.record, 1, 1, 5000, 8, &mut closed.out));
-    measure("ow_peek", &mut || _ = Proved::peek(&unknown));
+    measure("ow_take", &holding, &|end| end.take());
+    measure("ow_sack", &holding, &|end| _ = end.sack());
+    measure("ow_hand_in", &handing_in, &|end| end.hand_in());
+    measure("ow_transmit", &transmitting, &|end| _ = end.transmit());
+    measure("ow_t3", &sent, &|end| _ = Proved::t3(&mut end.record));
+    measure("ow_rtt", &sent, &|end| _ = Proved::rtt(&mut end.record, 100));
+    measure("ow_heartbeat", &sent, &|end| _ = Proved::heartbeat(&mut end.record, [0; 8], &mut end.out));
+    measure("ow_shutdown", &sent, &|end| _ = Proved::shutdown(&mut end.record, &mut end.out));
+    measure("ow_abort", &sent, &|end| _ = Proved::abort(&mut end.record, 12, 0, &mut end.out));
+    measure("ow_associate", &closed, &|end| _ = Proved::associate(&mut end.record, 1, 1, 5000, 8, &mut end.out));
+    measure("ow_peek", &closed, &|_| _ = Proved::peek(&unknown));
     all.sort_by_key(|needs| std::cmp::Reverse(needs.stack));
     all
 }
