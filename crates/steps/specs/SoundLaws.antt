@@ -28,7 +28,7 @@ use Rattle.delivery.specs.Laws.{arrived-shaped, arrived-sound}
 use Rattle.sending.specs.Acknowledge as sender
 use Rattle.sending.specs.KeptLaws as sending
 use Rattle.states.specs.declared.state.State.the-variants.{Established, ShutdownSent, ShutdownReceived, ShutdownAckSent}
-use Rattle.states.specs.RowsLaws.{knowsPeer}
+use Rattle.states.specs.Calls.{knowsPeer}
 use Rattle.association.specs.declared.ends.Association.{Association}
 use Rattle.association.specs.declared.ends.Ends.{Ends}
 use Rattle.association.specs.Fresh.{withState, withReceiving, withSending}

@@ -32,7 +32,8 @@ use Rattle.states.specs.declared.state.State.{State}
 use Rattle.states.specs.declared.state.State.the-variants.{Closed, Established}
 use Rattle.states.specs.declared.rows.Row.{Row}
 use Rattle.states.specs.declared.rows.Row.the-variants.{Refused, ReadData, ReadLateData, AnswerInit, TakeInitAck, ReadSack, ReadSackPending, ReadSackReceived, EchoHeartbeat, ClearTries, BecomeClosed, ReadShutdown, CrossShutdown, RepeatShutdownAck, ReflectComplete, SendComplete, PassError, ReadError, ReadEcho, BecomeEstablished, BecomeComplete, PassUnknown, TellUnknown}
-use Rattle.states.specs.RowsLaws.{each-state, awaitsAck, finds, row-finds, reads-knows}
+use Rattle.states.specs.Calls.{awaitsAck}
+use Rattle.states.specs.RowsLaws.{each-state, finds, row-finds, reads-knows}
 use Rattle.association.specs.declared.ends.Association.{Association}
 use Rattle.association.specs.declared.ends.Cookie.{Cookie}
 use Rattle.association.specs.declared.ends.Ends.{Ends}
