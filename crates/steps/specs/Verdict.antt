@@ -86,8 +86,8 @@ ending s = record {
 }
 
 -- what was done as a step, with no bytes but those counted
-abbrev pub stepOf : Done → Step
-stepOf d = record {
+abbrev pub asStep : Done → Step
+asStep d = record {
   association = d .association;
   fate = d .fate;
   named = d .named;
@@ -99,4 +99,4 @@ stepOf d = record {
 
 -- the same, of a step whose reply is written
 abbrev pub unreadBy : Done → Done
-unreadBy d = doneWith (d .written) (ending (stepOf d))
+unreadBy d = doneWith (d .written) (ending (asStep d))
