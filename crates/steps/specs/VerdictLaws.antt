@@ -1,4 +1,4 @@
--- A step with no reply, and the bytes of a part. Assumes nothing.
+-- What is told of a step with its reply, or with none, and the bytes of a part. Assumes nothing.
 use Prim.Native.Nat.{ℕ, _+_, _-_, _≤_}
 use mathlib.Core.Path.{_≡_, refl, sym, ap, _∙_}
 use mathlib.Core.List.{List, []}
@@ -11,6 +11,7 @@ use Rattle.chunks.specs.declared.frame.Part.{Part}
 use mathlib.Core.Bool.{Bool, true, false, not}
 use lib.Dec.{ltb, leb, eqb}
 use Rattle.scans.specs.Scan.{pick}
+use Rattle.scans.specs.Upto.{pick-keeps}
 use Rattle.chunks.specs.Frame.{bytesIn}
 use Rattle.chunks.specs.FrameLaws.{one-to-is}
 use Rattle.chunks.specs.CookieChunk.{longestCookie, isCookie, cookieEchoBytes}
@@ -85,8 +86,7 @@ unfolding dataRead
 data-quiet a s o = refl
 
 either-quiet : (t : Bool) (x y : Step) → x .reply ≡ [] → y .reply ≡ [] → pick t x y .reply ≡ []
-either-quiet true x y e f = e
-either-quiet false x y e f = f
+either-quiet = pick-keeps (λ (s : Step). s .reply ≡ [])
 
 module _ (a : Association) (s : List ℕ) where
   pub read-data-quiet : readData a s .reply ≡ []
