@@ -4,6 +4,7 @@ use mathlib.Core.List.{List}
 use lib.Dec.{eqb}
 use lib.ListN.{replicate}
 use Rattle.scans.specs.Scan.{pick}
+use Rattle.numbers.specs.Circle.{tsn0}
 use Rattle.numbers.specs.Blocks.{noBlocks}
 use Rattle.numbers.specs.Profile.{rail}
 use Rattle.chunks.specs.declared.sack.Sack.{Sack}
@@ -25,10 +26,10 @@ chunkOf k = record { point = k .point; window = k .window; blocks = k .blocks; d
 -- of a refused call: no SACK
 abbrev pub noSack : Sack
 noSack = record {
-  point = record { 0 = 0 };
+  point = tsn0;
   window = 0;
   blocks = noBlocks;
-  dups = replicate 16 (record { 0 = 0 });
+  dups = replicate 16 tsn0;
   listed = 0;
 }
 

@@ -8,9 +8,9 @@ use Rattle.chunks.specs.Cause.{caused, code, information}
 use Rattle.chunks.specs.Frame.{framed}
 use Rattle.chunks.specs.ShutdownChunk.{shutdownBytes}
 use Rattle.sending.specs.Sending.{isBare}
-use Rattle.states.specs.declared.state.State.{State}
-use Rattle.states.specs.declared.state.State.the-variants.{Closed, CookieWait, CookieEchoed, Established, ShutdownPending, ShutdownSent, ShutdownReceived, ShutdownAckSent}
+use Rattle.states.specs.declared.state.State.the-variants.{Closed, ShutdownPending, ShutdownSent}
 use Rattle.states.specs.declared.call.Call.the-variants.{Shutdown, Abort}
+use Rattle.states.specs.Calls.{knowsPeer}
 use Rattle.association.specs.declared.ends.Association.{Association}
 use Rattle.association.specs.Fresh.{withState}
 use Rattle.calls.specs.declared.closing.Reason.{Reason}
@@ -36,17 +36,13 @@ causeOf Violation = ProtocolViolation
 abbrev pub abortBytes : Reason → List ℕ
 abortBytes why = framed 6 0 (caused (code (causeOf why)) (information (causeOf why)))
 
--- section 9.1: in COOKIE-WAIT no tag of the peer is known, and nothing goes out
-abbrev pub aborted : State → Association → Reason → Plan
-aborted (CookieWait n) a why = quietly (withState a Closed)
-aborted Closed a why = carrying (withState a Closed) (toPeer (a .ends)) (abortBytes why)
-aborted (CookieEchoed n) a why = carrying (withState a Closed) (toPeer (a .ends)) (abortBytes why)
-aborted Established a why = carrying (withState a Closed) (toPeer (a .ends)) (abortBytes why)
-aborted ShutdownPending a why = carrying (withState a Closed) (toPeer (a .ends)) (abortBytes why)
-aborted (ShutdownSent n) a why = carrying (withState a Closed) (toPeer (a .ends)) (abortBytes why)
-aborted ShutdownReceived a why = carrying (withState a Closed) (toPeer (a .ends)) (abortBytes why)
-aborted (ShutdownAckSent n) a why = carrying (withState a Closed) (toPeer (a .ends)) (abortBytes why)
+-- section 9.1; where no tag of the peer is known, in COOKIE-WAIT, nothing goes out
+abbrev pub aborted : Association → Reason → Plan
+aborted a why =
+    pick (knowsPeer (a .state))
+    (carrying (withState a Closed) (toPeer (a .ends)) (abortBytes why))
+    (quietly (withState a Closed))
 
 -- the host's own ABORT, or one that a verdict calls for
 unfoldable pub aborting : Association → Reason → List ℕ → Plan
-aborting a why out = unless (barred a (isShortOut out) Abort) a (aborted (a .state) a why)
+aborting a why out = unless (barred a (isShortOut out) Abort) a (aborted a why)

@@ -26,6 +26,7 @@ use Rattle.states.specs.declared.state.State.{State}
 use Rattle.states.specs.declared.call.Call.{Call}
 use Rattle.states.specs.declared.call.Call.the-variants.{Associate, HandIn, Acknowledge, ThirdTimer, Shutdown, Abort, Heartbeat, Sample, TellStale}
 use Rattle.states.specs.Tries.{triedAgain}
+use Rattle.states.specs.Calls.{knowsPeer}
 use Rattle.states.specs.RowsLaws.{each-state}
 use Rattle.association.specs.declared.ends.Association.{Association}
 use Rattle.association.specs.Fresh.{withReceiving, withSending}
@@ -41,7 +42,7 @@ use Rattle.calls.specs.Messages.{handedIn, handedArea, deliveredAs, taki
 use Rattle.calls.specs.Transmit.{transmitBar, transmitted, transmittedOut}
 use Rattle.calls.specs.Acknowledging.{acknowledged, acknowledgedOut}
 use Rattle.calls.specs.Timers.{triedTo, expiring, expiringThird, sampling}
-use Rattle.calls.specs.Closing.{shutting, aborted, aborting}
+use Rattle.calls.specs.Closing.{shutting, aborting}
 use Rattle.calls.specs.Telling.{tellingStream, tellingStale, beating}
 
 -- ---- calls that answer by a plan
@@ -89,12 +90,9 @@ module _ (a : Association) where
   unfolding shutting
   shutdown-leaves out = unless-leaves (barred a (isShortOut out) Shutdown) _ (pick-keeps (Leaves a) (isBare (a .sending)) _ _ (goes-on _ refl) (goes-on _ refl))
 
-  aborted-goes : (why : Reason) (s : State) → aborted s a why .number ≡ 0
-  aborted-goes why = each-state (λ s. aborted s a why .number ≡ 0) refl (λ n. refl) (λ n. refl) refl refl (λ n. refl) refl (λ n. refl)
-
   pub abort-leaves : (why : Reason) (out : List ℕ) → Leaves a (aborting a why out)
   unfolding aborting
-  abort-leaves why out = unless-leaves (barred a (isShortOut out) Abort) _ (goes-on _ (aborted-goes why (a .state)))
+  abort-leaves why out = unless-leaves (barred a (isShortOut out) Abort) _ (pick-keeps (Leaves a) (knowsPeer (a .state)) _ _ (goes-on _ refl) (goes-on _ refl))
 
   pub stream-leaves : (stream : StreamId) (out : List ℕ) → Leaves a (tellingStream a stream out)
   unfolding tellingStream

@@ -6,8 +6,10 @@ use lib.Dec.{eqb}
 use lib.ListN.{length}
 use Rattle.scans.specs.Scan.{pick}
 use Rattle.numbers.specs.declared.circle.StreamId.{StreamId}
+use Rattle.numbers.specs.Circle.{ssn0}
 use Rattle.numbers.specs.Numbering.{ring}
 use Rattle.numbers.specs.Profile.{rail}
+use Rattle.holding.specs.declared.taking.Message.{Message}
 use Rattle.holding.specs.declared.taking.Answer as took
 use Rattle.holding.specs.declared.taking.Answer.the-variants.{Taken, Nothing, Short}
 use Rattle.holding.specs.Taking.{written}
@@ -49,13 +51,13 @@ handedArea a area message stream =
 
 -- ---- taking
 
--- nothing is given; n is the length needed, if one is
+-- no message; n is the length needed, if one is
+abbrev pub noMessage : ℕ → Message
+noMessage n = record { length = n; stream = record { 0 = 0 }; unordered = false; ssn = ssn0; ppid = 0 }
+
+-- nothing is given
 abbrev pub undelivered : Association → ℕ → ℕ → Delivered
-undelivered a number n = record {
-  number = number;
-  message = record { length = n; stream = record { 0 = 0 }; unordered = false; ssn = record { 0 = 0 }; ppid = 0 };
-  association = a;
-}
+undelivered a number n = record { number = number; message = noMessage n; association = a }
 
 -- 17 "nothing to take"; "A take with a short buffer answers 18 with the length needed; 17 comes before that"
 abbrev pub deliveredAs : took.Answer → Association → Delivered

@@ -26,6 +26,7 @@ use Rattle.states.specs.declared.call.Call.{Call}
 use Rattle.states.specs.declared.call.Call.the-variants.{Associate, HandIn, Acknowledge, ThirdTimer, Shutdown, Abort, Heartbeat, Sample, TellStale}
 use Rattle.states.specs.Tries.{triedAgain, withinTries}
 use Rattle.states.specs.TriesLaws.{tries-kept, tried-keeps}
+use Rattle.states.specs.Calls.{knowsPeer}
 use Rattle.states.specs.RowsLaws.{each-state, shutdown-knows}
 use Rattle.association.specs.declared.ends.Association.{Association}
 use Rattle.association.specs.Fresh.{withState}
@@ -44,7 +45,7 @@ use Rattle.calls.specs.Messages.{handedIn, deliveredAs, taking, takeBar,
 use Rattle.calls.specs.Transmit.{transmitBar, transmitted}
 use Rattle.calls.specs.Acknowledging.{acknowledged}
 use Rattle.calls.specs.Timers.{backedOff, triedTo, expiring, expiringThird, sampling}
-use Rattle.calls.specs.Closing.{shutting, aborted, aborting}
+use Rattle.calls.specs.Closing.{shutting, aborting}
 use Rattle.calls.specs.Telling.{tellingStream, tellingStale, beating}
 
 -- ---- calls that answer by a plan
@@ -118,14 +119,9 @@ module _ (a : Association) (k : Kept a) where
       unless-keeps (barred a (isShortOut out) Shutdown) _
       (λ e. let o = shutdown-knows (a .state) (let-in a (isShortOut out) Shutdown e .1) in pick-keeps Keeps (isBare (a .sending)) _ _ (kept-moved a k o (ShutdownSent 0) refl refl) (kept-moved a k o ShutdownPending refl refl))
 
-  aborted-keeps : (why : Reason) (s : State) → Keeps (aborted s a why)
-  aborted-keeps why =
-      let c = kept-closed a k in
-      each-state (λ s. Keeps (aborted s a why)) c (λ n. c) (λ n. c) c c (λ n. c) c (λ n. c)
-
   pub abort-keeps : (why : Reason) (out : List ℕ) → Keeps (aborting a why out)
   unfolding aborting
-  abort-keeps why out = unless-keeps (barred a (isShortOut out) Abort) _ (λ e. aborted-keeps why (a .state))
+  abort-keeps why out = unless-keeps (barred a (isShortOut out) Abort) _ (λ e. pick-keeps Keeps (knowsPeer (a .state)) _ _ (kept-closed a k) (kept-closed a k))
 
   pub stream-keeps : (stream : StreamId) (out : List ℕ) → Keeps (tellingStream a stream out)
   unfolding tellingStream

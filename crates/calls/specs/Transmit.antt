@@ -5,6 +5,7 @@ use mathlib.Core.List.{List}
 use lib.Dec.{ltb, eqb}
 use lib.ListN.{drop, getD}
 use Rattle.scans.specs.Scan.{pick, foldFrom, either}
+use Rattle.numbers.specs.Circle.{tsn0}
 use Rattle.numbers.specs.Profile.{rail}
 use Rattle.octets.specs.Writing.{wroteCount, wroteAt}
 use Rattle.packets.specs.declared.header.Header.{Header}
@@ -80,7 +81,7 @@ unfoldable pub transmitted : Association → List ℕ → List ℕ → Transmitt
 transmitted a area out =
     pick (eqb (transmitBar a area out) 0)
     (transmittedAs a area out (filled railSizes rail (a .sending)))
-    (record { number = transmitBar a area out; length = 0; resent = false; first = record { 0 = 0 }; last = record { 0 = 0 }; association = a })
+    (record { number = transmitBar a area out; length = 0; resent = false; first = tsn0; last = tsn0; association = a })
 
 -- what then stands in the lent output
 unfoldable pub transmittedOut : Association → List ℕ → List ℕ → List ℕ

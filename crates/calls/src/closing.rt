@@ -10,11 +10,8 @@ use states::State;
 ghost use mathlib.Core.Path.{_≡_};
 ghost use Prim.Native.Nat.{_≤_};
 ghost use lib.ListN.{length};
-ghost use Rattle.association.specs.Fresh.{withState};
-ghost use Rattle.states.specs.declared.state.State.the-variants.{Closed};
-ghost use Rattle.calls.specs.Answer.{Done, carrying};
-ghost use Rattle.calls.specs.Packet.{toPeer};
-ghost use Rattle.calls.specs.Closing.{shutting, causeOf, abortBytes, aborted, aborting};
+ghost use Rattle.calls.specs.Answer.{Done};
+ghost use Rattle.calls.specs.Closing.{shutting, causeOf, aborted, aborting};
 
 // Why the host aborts: its user wants it, a DATA chunk had no data (9), or the peer broke the protocol (12, 16).
 pub enum Reason {
@@ -49,39 +46,26 @@ fn cause_of(why: Reason) -> Cause
     }
 }
 
-fn send(a: Association, why: Reason, out: &mut [u8]) -> Answer
+fn end(a: Association, why: Reason, out: &mut [u8]) -> Answer
     requires { ⌜ 12 ≤ length (now out) ⌝ }
-    ensures { λ r. ⌜ Done (carrying (withState a Closed) (toPeer (a .ends)) (abortBytes why)) (now (out .entry)) r (now (out .exit)) ⌝ }
+    ensures { λ r. ⌜ Done (aborted a why) (now (out .entry)) r (now (out .exit)) ⌝ }
 {
-    let c = cause_of(why);
-    let length = packet::send_abort(a.ends, c, out);
-    answer::told(a.moved(State::Closed), length)
-}
-
-fn end(state: State, a: Association, why: Reason, out: &mut [u8]) -> Answer
-    requires { ⌜ 12 ≤ length (now out) ⌝ }
-    ensures { λ r. ⌜ Done (aborted state a why) (now (out .entry)) r (now (out .exit)) ⌝ }
-{
-    match state {
-        State::CookieWait(_) => answer::told(a.moved(State::Closed), 0),
-        State::Closed => send(a, why, out),
-        State::CookieEchoed(_) => send(a, why, out),
-        State::Established => send(a, why, out),
-        State::ShutdownPending => send(a, why, out),
-        State::ShutdownSent(_) => send(a, why, out),
-        State::ShutdownReceived => send(a, why, out),
-        State::ShutdownAckSent(_) => send(a, why, out),
+    let state = a.state;
+    if state.knows_peer() {
+        let c = cause_of(why);
+        let length = packet::send_abort(a.ends, c, out);
+        return answer::told(a.moved(State::Closed), length);
     }
+    answer::told(a.moved(State::Closed), 0)
 }
 
 // The association is over at once, and the peer is told by an ABORT.
 pub fn abort(a: Association, why: Reason, out: &mut [u8]) -> Answer
     ensures { λ r. ⌜ Done (aborting a why (now (out .entry))) (now (out .entry)) r (now (out .exit)) ⌝ }
 {
-    let state = a.state;
     let n = answer::bar(a, out.len() < answer::OUTPUT, Call::Abort);
     if n == 0 {
-        return end(state, a, why, out);
+        return end(a, why, out);
     }
     answer::refused(a, n)
 }

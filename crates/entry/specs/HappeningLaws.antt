@@ -1,6 +1,6 @@
 -- What the functions that serve an event have to show. Assumes nothing.
 use Prim.Native.Nat.{ℕ}
-use mathlib.Core.Path.{_≡_, sym, ap, _∙_}
+use mathlib.Core.Path.{_≡_, refl, sym, ap, _∙_}
 use mathlib.Core.List.{List, []}
 use Rattle.association.specs.declared.ends.Association.{Association}
 use Rattle.calls.specs.declared.answer.Answer.{Answer}
@@ -10,13 +10,28 @@ use Rattle.events.specs.declared.told.Ran.{Ran}
 use Rattle.events.specs.Told.{ofAnswer}
 use Rattle.entry.specs.Happening.{Left}
 
+-- what is told of a call, and what then stands in the buffer that it writes
+pub record Gave (x : Ran) (y : List ℕ) (r : Ran) (exit : List ℕ) : Type 0 where
+  pub told : r ≡ x
+  pub bytes : exit ≡ y
+
+-- an answer that is what it must be is told as it must be
+pub gave : {X : Type 0} (f : X → Ran) {q x : X} {exit y : List ℕ} {r : Ran} → q ≡ x → exit ≡ y → r ≡ f q → Gave (f x) y r exit
+gave f e b t = record { told = t ∙ ap f e; bytes = b }
+
 -- a call goes as planned, and its answer is told
-pub record Followed (p : Plan) (out : List ℕ) (r : Ran) (exit : List ℕ) : Type 0 where
-  pub told : r ≡ ofAnswer (answerOf p out)
-  pub bytes : exit ≡ outOf p out
+abbrev pub Followed : Plan → List ℕ → Ran → List ℕ → Type 0
+Followed p out r exit = Gave (ofAnswer (answerOf p out)) (outOf p out) r exit
 
 pub followed : {p : Plan} {out exit : List ℕ} {q : Answer} {r : Ran} → Done p out q exit → r ≡ ofAnswer q → Followed p out r exit
-followed d e = record { told = e ∙ ap (λ (x : Answer). ofAnswer x) (d .answer); bytes = d .bytes }
+followed d e = gave (λ (x : Answer). ofAnswer x) (d .answer) (d .bytes) e
+
+-- the areas stay
+pub areas-stay : {x r : Ran} {y exit received sent : List ℕ} → Gave x y r exit → (r ≡ x) × ((received ≡ received) × ((sent ≡ sent) × (exit ≡ y)))
+areas-stay g = (g .told, (refl, (refl, g .bytes)))
+
+pub all-stay : {x r : Ran} {received sent out : List ℕ} → r ≡ x → (r ≡ x) × ((received ≡ received) × ((sent ≡ sent) × (out ≡ out)))
+all-stay e = areas-stay (record { told = e; bytes = refl })
 
 pub kept-told : {p : Plan} {q : Answer} {r : Ran} → Kept p q → r ≡ ofAnswer q → r ≡ ofAnswer (answerOf p [])
 kept-told d e = e ∙ ap (λ (x : Answer). ofAnswer x) (d .answer)

@@ -25,7 +25,7 @@ ghost use Rattle.calls.specs.Telling.{tellingStream, tellingStale, beating};
 ghost use Rattle.events.specs.Event.{eventOf};
 ghost use Rattle.events.specs.Told.{plainly, ofAnswer, ofHandedIn, ofTransmitted, ofAcknowledged, ofDelivered, ofArrived};
 ghost use Rattle.entry.specs.Happening.{lent, halves, unknownNumber, happened};
-ghost use Rattle.entry.specs.HappeningLaws.{Followed};
+ghost use Rattle.entry.specs.HappeningLaws.{Gave, Followed};
 
 fn packet(
     a: Association,
@@ -59,28 +59,28 @@ fn hand_in(
     unordered: bool,
     ppid: u32,
 ) -> Ran
-    ensures { λ r. ⌜ (r ≡ ofHandedIn (handedIn a (now (sent .entry)) (length (now (message .entry))) stream unordered ppid)) × (now (sent .exit) ≡ handedArea a (now (sent .entry)) (now (message .entry)) stream) ⌝ }
+    ensures { λ r. ⌜ Gave (ofHandedIn (handedIn a (now (sent .entry)) (length (now (message .entry))) stream unordered ppid)) (handedArea a (now (sent .entry)) (now (message .entry)) stream) r (now (sent .exit)) ⌝ }
 {
     let r = calls::hand_in(a, sent, message, stream, unordered, ppid);
     told::of_handed_in(r)
 }
 
 fn transmit(a: Association, sent: &[u8], out: &mut [u8]) -> Ran
-    ensures { λ r. ⌜ (r ≡ ofTransmitted (transmitted a (now (sent .entry)) (now (out .entry)))) × (now (out .exit) ≡ transmittedOut a (now (sent .entry)) (now (out .entry))) ⌝ }
+    ensures { λ r. ⌜ Gave (ofTransmitted (transmitted a (now (sent .entry)) (now (out .entry)))) (transmittedOut a (now (sent .entry)) (now (out .entry))) r (now (out .exit)) ⌝ }
 {
     let r = calls::transmit(a, sent, out);
     told::of_transmitted(r)
 }
 
 fn take(a: Association, received: &[u8], out: &mut [u8]) -> Ran
-    ensures { λ r. ⌜ (r ≡ ofDelivered (delivered a (now (received .entry)) (length (now (out .entry))))) × (now (out .exit) ≡ deliveredOut a (now (received .entry)) (now (out .entry))) ⌝ }
+    ensures { λ r. ⌜ Gave (ofDelivered (delivered a (now (received .entry)) (length (now (out .entry))))) (deliveredOut a (now (received .entry)) (now (out .entry))) r (now (out .exit)) ⌝ }
 {
     let r = calls::take(a, received, out);
     told::of_delivered(r)
 }
 
 fn acknowledge(a: Association, out: &mut [u8]) -> Ran
-    ensures { λ r. ⌜ (r ≡ ofAcknowledged (acknowledged a (now (out .entry)))) × (now (out .exit) ≡ acknowledgedOut a (now (out .entry))) ⌝ }
+    ensures { λ r. ⌜ Gave (ofAcknowledged (acknowledged a (now (out .entry)))) (acknowledgedOut a (now (out .entry))) r (now (out .exit)) ⌝ }
 {
     let r = calls::sack(a, out);
     told::of_acknowledged(r)

@@ -2,6 +2,7 @@
 use Prim.Native.Nat.{ℕ}
 use mathlib.Core.Bool.{Bool, false}
 use lib.ListN.{replicate}
+use Rattle.numbers.specs.Circle.{tsn0}
 use Rattle.chunks.specs.declared.sack.Sack.{Sack}
 use Rattle.holding.specs.declared.taking.Message.{Message}
 use Rattle.association.specs.declared.ends.Association.{Association}
@@ -10,6 +11,7 @@ use Rattle.calls.specs.declared.messages.HandedIn.{HandedIn}
 use Rattle.calls.specs.declared.messages.Delivered.{Delivered}
 use Rattle.calls.specs.declared.transmitting.Transmitted.{Transmitted}
 use Rattle.calls.specs.declared.acknowledging.Acknowledged.{Acknowledged}
+use Rattle.calls.specs.Messages.{noMessage}
 use Rattle.calls.specs.Acknowledging.{noSack}
 use Rattle.arriving.specs.declared.arrival.Arrived.{Arrived}
 use Rattle.arriving.specs.Verdict.{unreadAt}
@@ -19,10 +21,7 @@ use Rattle.events.specs.declared.told.Ran.{Ran}
 
 -- what an event tells that sends no DATA, takes no message, brings no packet
 abbrev pub noneWent : Went
-noneWent = record { resent = false; first = record { 0 = 0 }; last = record { 0 = 0 } }
-
-abbrev pub noMessage : Message
-noMessage = record { length = 0; stream = record { 0 = 0 }; unordered = false; ssn = record { 0 = 0 }; ppid = 0 }
+noneWent = record { resent = false; first = tsn0; last = tsn0 }
 
 abbrev pub noneSeen : Seen
 noneSeen = record { count = 0; verdicts = replicate 365 (unreadAt 0) }
@@ -34,7 +33,7 @@ telling number length over went sack message seen a = record {
 }
 
 abbrev pub plainly : ℕ → ℕ → Bool → Association → Ran
-plainly number length over a = telling number length over noneWent noSack noMessage noneSeen a
+plainly number length over a = telling number length over noneWent noSack (noMessage 0) noneSeen a
 
 abbrev pub ofAnswer : Answer → Ran
 ofAnswer r = plainly (r .number) (r .length) (r .over) (r .association)
@@ -45,13 +44,13 @@ ofHandedIn r = plainly (r .number) (r .chunks) false (r .association)
 
 abbrev pub ofTransmitted : Transmitted → Ran
 ofTransmitted r =
-    telling (r .number) (r .length) false (record { resent = r .resent; first = r .first; last = r .last }) noSack noMessage noneSeen (r .association)
+    telling (r .number) (r .length) false (record { resent = r .resent; first = r .first; last = r .last }) noSack (noMessage 0) noneSeen (r .association)
 
 abbrev pub ofAcknowledged : Acknowledged → Ran
-ofAcknowledged r = telling (r .number) (r .length) false noneWent (r .sack) noMessage noneSeen (r .association)
+ofAcknowledged r = telling (r .number) (r .length) false noneWent (r .sack) (noMessage 0) noneSeen (r .association)
 
 abbrev pub ofDelivered : Delivered → Ran
 ofDelivered r = telling (r .number) (r .message .length) false noneWent noSack (r .message) noneSeen (r .association)
 
 abbrev pub ofArrived : Arrived → Ran
-ofArrived r = telling (r .number) (r .length) false noneWent noSack noMessage (record { count = r .count; verdicts = r .verdicts }) (r .association)
+ofArrived r = telling (r .number) (r .length) false noneWent noSack (noMessage 0) (record { count = r .count; verdicts = r .verdicts }) (r .association)

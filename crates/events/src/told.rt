@@ -15,7 +15,8 @@ use numbers::Ssn;
 use numbers::StreamId;
 use numbers::Tsn;
 ghost use mathlib.Core.Path.{_≡_};
-ghost use Rattle.events.specs.Told.{noneWent, noMessage, noneSeen, telling, plainly, ofAnswer, ofHandedIn, ofTransmitted, ofAcknowledged, ofDelivered, ofArrived};
+ghost use Rattle.calls.specs.Messages.{noMessage};
+ghost use Rattle.events.specs.Told.{noneWent, noneSeen, telling, plainly, ofAnswer, ofHandedIn, ofTransmitted, ofAcknowledged, ofDelivered, ofArrived};
 
 // Of a packet of DATA: whether one of its chunks is sent again, and its first and last TSN.
 pub struct Went {
@@ -58,7 +59,7 @@ fn none_went() -> Went
 }
 
 fn no_message() -> Message
-    ensures { λ r. ⌜ r ≡ noMessage ⌝ }
+    ensures { λ r. ⌜ r ≡ noMessage 0 ⌝ }
 {
     Message {
         length: 0,

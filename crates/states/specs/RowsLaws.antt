@@ -12,7 +12,7 @@ use Rattle.states.specs.declared.rows.Row.{Row}
 use Rattle.states.specs.declared.rows.Row.the-variants.{Refused, ReadData, ReadLateData, AnswerInit, TakeInitAck, ReadSack, ReadSackPending, ReadSackReceived, EchoHeartbeat, ClearTries, BecomeClosed, ReadShutdown, CrossShutdown, RepeatShutdownAck, ReflectComplete, SendComplete, PassError, ReadError, ReadEcho, BecomeEstablished, BecomeComplete, PassUnknown, TellUnknown}
 use Rattle.states.specs.declared.call.Call.the-variants as call
 use Rattle.states.specs.Rows.{dataRow, initRow, initAckRow, sackRow, heartbeatRow, heartbeatAckRow, abortRow, shutdownRow, shutdownAckRow, errorRow, cookieEchoRow, cookieAckRow, shutdownCompleteRow, unknownRow, rowOf}
-use Rattle.states.specs.Calls.{readsData, permitted}
+use Rattle.states.specs.Calls.{awaitsAck, knowsPeer, readsData, permitted}
 
 -- what holds of each state holds of all
 pub each-state : (P : State → Type 0) → P Closed → ((n : ℕ) → P (CookieWait n)) → ((n : ℕ) → P (CookieEchoed n)) → P Established → P ShutdownPending
@@ -25,28 +25,6 @@ each-state P a b c d e f g h ShutdownPending = e
 each-state P a b c d e f g h (ShutdownSent n) = f n
 each-state P a b c d e f g h ShutdownReceived = g
 each-state P a b c d e f g h (ShutdownAckSent n) = h n
-
--- the peer's tag is known
-abbrev pub knowsPeer : State → Bool
-knowsPeer Closed = false
-knowsPeer (CookieWait n) = false
-knowsPeer (CookieEchoed n) = true
-knowsPeer Established = true
-knowsPeer ShutdownPending = true
-knowsPeer (ShutdownSent n) = true
-knowsPeer ShutdownReceived = true
-knowsPeer (ShutdownAckSent n) = true
-
--- an INIT ACK is waited for
-abbrev pub awaitsAck : State → Bool
-awaitsAck Closed = false
-awaitsAck (CookieWait n) = true
-awaitsAck (CookieEchoed n) = false
-awaitsAck Established = false
-awaitsAck ShutdownPending = false
-awaitsAck (ShutdownSent n) = false
-awaitsAck ShutdownReceived = false
-awaitsAck (ShutdownAckSent n) = false
 
 -- what a row finds of the state that it stands in: DATA is read in the three states, and a row that goes on to another state goes on from one that
 -- knows the peer

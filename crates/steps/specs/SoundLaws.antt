@@ -7,7 +7,7 @@ use native.Mathlib.Omega.{arith}
 use lib.Dec.{ltb, eqb}
 use lib.ListN.{length}
 use Rattle.scans.specs.Scan.{pick}
-use Rattle.scans.specs.Each.{All, clash}
+use Rattle.scans.specs.Each.{All, after-so, after-not}
 use Rattle.scans.specs.Upto.{pick-keeps}
 use Rattle.numbers.specs.Numbering.{ring}
 use Rattle.numbers.specs.Profile.{rail}
@@ -28,9 +28,8 @@ use Rattle.delivery.specs.Laws.{arrived-shaped, arrived-sound}
 use Rattle.sending.specs.Acknowledge as sender
 use Rattle.sending.specs.KeptLaws as sending
 use Rattle.states.specs.declared.state.State.the-variants.{Established, ShutdownSent, ShutdownReceived, ShutdownAckSent}
-use Rattle.states.specs.RowsLaws.{knowsPeer}
+use Rattle.states.specs.Calls.{knowsPeer}
 use Rattle.association.specs.declared.ends.Association.{Association}
-use Rattle.association.specs.declared.ends.Ends.{Ends}
 use Rattle.association.specs.Fresh.{withState, withReceiving, withSending}
 use Rattle.association.specs.Bounds.{areStreams}
 use Rattle.association.specs.BoundsLaws.{Ended, ended-ends}
@@ -40,8 +39,8 @@ use Rattle.steps.specs.declared.lent.Made.{Made}
 use Rattle.steps.specs.declared.lent.Echoed.{Echoed}
 use Rattle.steps.specs.declared.lent.Echoed.the-variants.{Bad, Stale, Good}
 use Rattle.steps.specs.Verdict.{Step}
-use Rattle.steps.specs.Lent.{isMade, heeded}
-use Rattle.steps.specs.Opening.{isPoor, isOdd, isPoorLent, answerInit, established, readEcho}
+use Rattle.steps.specs.Lent.{leastWindow, isMade, heeded}
+use Rattle.steps.specs.Opening.{isPoor, isOdd, isPoorLent, answerInit, madeEnds, established, readEcho}
 use Rattle.steps.specs.Carrying.{chunkOf, payloadOf, isKept, arrivalIn, arrivalOf, dataRead, readData, readLateData, blocksOf, heardBy, heardSack, sackRead, isLast, readSack, readSackPending, readSackReceived, echoHeartbeat, clearTries}
 use Rattle.steps.specs.Closing.{readError, heardShutdown, readShutdown, answerShutdown}
 use Rattle.steps.specs.Unknown.{passUnknown, tellUnknown}
@@ -74,22 +73,15 @@ heeded-so (Good m) w = go (isMade m) refl
 heeded-so (Stale m) w = tt
 heeded-so Bad w = tt
 
-abbrev madeEnds : Made → ℕ → ℕ → Ends
-madeEnds m local peer = record { «local_port» = local; «peer_port» = peer; «my_tag» = m .«my_tag»; «peer_tag» = m .«peer_tag»; «streams_in» = m .«streams_in»; «streams_out» = m .«streams_out» }
-
 made-ends : (m : Made) (local peer : ℕ) → isMade m ≡ true
     → Ended (madeEnds m local peer) true
 unfolding isMade
-made-ends m local peer e = go _ _ (ltb (m .window) 1500) _ refl refl refl e
-  where
-    go : (a b w i : Bool) → eqb (m .«my_tag») 0 ≡ a → eqb (m .«peer_tag») 0 ≡ b → areStreams (m .«streams_in») ≡ i
-        → pick a false (pick b false (pick w false (pick i (areStreams (m .«streams_out»)) false))) ≡ true
-        → Ended (madeEnds m local peer) true
-    go true b w i p q r e = clash e
-    go false true w i p q r e = clash e
-    go false false true i p q r e = clash e
-    go false false false false p q r e = clash e
-    go false false false true p q r e = record { mine = p; theirs = q; ins = r; outs = e }
+made-ends m local peer e =
+    let a = after-not (eqb (m .«my_tag») 0) _ e in
+    let b = after-not (eqb (m .«peer_tag») 0) _ (a .1) in
+    let w = after-not (ltb (m .window) leastWindow) _ (b .1) in
+    let i = after-so (areStreams (m .«streams_in»)) _ (w .1) in
+    record { mine = a .0; theirs = b .0; ins = i .0; outs = i .1 }
 
 -- "starts from a fresh record"
 pub established-kept : (a : Association) (source : ℕ) (m : Made) → Heeded (Good m) → Kept (established a source m)

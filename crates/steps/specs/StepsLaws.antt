@@ -9,7 +9,7 @@ use lib.Dec.{ltb, eqb}
 use lib.ListN.{length, drop, length-drop}
 use lib.Seq.{length-take-le}
 use Rattle.scans.specs.Scan.{pick}
-use Rattle.scans.specs.Each.{All, clash}
+use Rattle.scans.specs.Each.{All, clash, neither}
 use Rattle.scans.specs.Upto.{smaller-left}
 use Rattle.octets.specs.Bytes.{u8}
 use Rattle.numbers.specs.Numbering.{ring}
@@ -32,7 +32,8 @@ use Rattle.states.specs.declared.state.State.{State}
 use Rattle.states.specs.declared.state.State.the-variants.{Closed, Established}
 use Rattle.states.specs.declared.rows.Row.{Row}
 use Rattle.states.specs.declared.rows.Row.the-variants.{Refused, ReadData, ReadLateData, AnswerInit, TakeInitAck, ReadSack, ReadSackPending, ReadSackReceived, EchoHeartbeat, ClearTries, BecomeClosed, ReadShutdown, CrossShutdown, RepeatShutdownAck, ReflectComplete, SendComplete, PassError, ReadError, ReadEcho, BecomeEstablished, BecomeComplete, PassUnknown, TellUnknown}
-use Rattle.states.specs.RowsLaws.{each-state, awaitsAck, finds, row-finds, reads-knows}
+use Rattle.states.specs.Calls.{awaitsAck}
+use Rattle.states.specs.RowsLaws.{each-state, finds, row-finds, reads-knows}
 use Rattle.association.specs.declared.ends.Association.{Association}
 use Rattle.association.specs.declared.ends.Cookie.{Cookie}
 use Rattle.association.specs.declared.ends.Ends.{Ends}
@@ -54,14 +55,11 @@ use Rattle.steps.specs.SoundLaws.{Keeps, Heeded, answer-keeps, echo-keep
 
 not-poor : (v : Init) → isPoor v ≡ false → (eqb (v .tag) 0 ≡ false) × (1 ≤ v .outs) × (1 ≤ v .ins)
 unfolding isPoor
-not-poor v e = go _ _ _ refl refl refl e
-  where
-    go : (t o i : Bool) → eqb (v .tag) 0 ≡ t → eqb (v .outs) 0 ≡ o → eqb (v .ins) 0 ≡ i → pick t true (pick o true (pick i true (ltb (v .window) 1500))) ≡ false
-        → (eqb (v .tag) 0 ≡ false) × (1 ≤ v .outs) × (1 ≤ v .ins)
-    go true o i p q r e = clash (sym e)
-    go false true i p q r e = clash (sym e)
-    go false false true p q r e = clash (sym e)
-    go false false false p q r e = (p, omega (arith, eqb-false (v .outs) 0 q), omega (arith, eqb-false (v .ins) 0 r))
+not-poor v e =
+    let t = neither (eqb (v .tag) 0) _ e in
+    let o = neither (eqb (v .outs) 0) _ (t .1) in
+    let i = neither (eqb (v .ins) 0) _ (o .1) in
+    (t .0, omega (arith, eqb-false (v .outs) 0 (o .0)), omega (arith, eqb-false (v .ins) 0 (i .0)))
 
 -- the window bears on no bound
 window-kept : (s : Sending) (w : ℕ) → sending.Kept railSizes rail s → sending.Kept railSizes rail (withWindow s w)

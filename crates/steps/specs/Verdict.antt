@@ -85,14 +85,18 @@ ending s = record {
   reply = s .reply;
 }
 
--- the same, of a step whose reply is written
-abbrev pub unreadBy : Done → Done
-unreadBy d = record {
+-- what was done as a step, with no bytes but those counted
+abbrev pub asStep : Done → Step
+asStep d = record {
   association = d .association;
   fate = d .fate;
   named = d .named;
   event = d .event;
-  unread = true;
+  unread = d .unread;
   owed = d .owed;
-  written = d .written;
+  reply = [];
 }
+
+-- the same, of a step whose reply is written
+abbrev pub unreadBy : Done → Done
+unreadBy d = doneWith (d .written) (ending (asStep d))

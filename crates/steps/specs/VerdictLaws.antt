@@ -1,4 +1,4 @@
--- A step with no reply, and the bytes of a part. Assumes nothing.
+-- What is told of a step with its reply, or with none, and the bytes of a part. Assumes nothing.
 use Prim.Native.Nat.{ℕ, _+_, _-_, _≤_}
 use mathlib.Core.Path.{_≡_, refl, sym, ap, _∙_}
 use mathlib.Core.List.{List, []}
@@ -11,6 +11,7 @@ use Rattle.chunks.specs.declared.frame.Part.{Part}
 use mathlib.Core.Bool.{Bool, true, false, not}
 use lib.Dec.{ltb, leb, eqb}
 use Rattle.scans.specs.Scan.{pick}
+use Rattle.scans.specs.Upto.{pick-keeps}
 use Rattle.chunks.specs.Frame.{bytesIn}
 use Rattle.chunks.specs.FrameLaws.{one-to-is}
 use Rattle.chunks.specs.CookieChunk.{longestCookie, isCookie, cookieEchoBytes}
@@ -26,6 +27,7 @@ use Rattle.sending.specs.declared.acknowledging.Answer.{Answer}
 use Rattle.states.specs.declared.state.State.the-variants.{Closed, ShutdownSent}
 use Rattle.association.specs.declared.ends.Association.{Association}
 use Rattle.association.specs.Fresh.{withState, withReceiving, withSending}
+use Rattle.steps.specs.declared.verdict.Done.{Done}
 use Rattle.steps.specs.declared.verdict.Event.the-variants.{NoEvent, Down}
 use Rattle.steps.specs.declared.verdict.Reason.the-variants.{StaleCookie}
 use Rattle.steps.specs.declared.verdict.Owed.the-variants.{Shutdown}
@@ -35,13 +37,22 @@ use Rattle.steps.specs.Carrying.{isKept, arrivalOf, dataRead, readData, 
 use Rattle.steps.specs.Closing.{readError}
 use Rattle.steps.specs.Unknown.{passUnknown}
 
+-- what a function on a chunk promises: what was done of the step, and its reply in the output
+abbrev pub Told : List ℕ → Step → Done → List ℕ → Type 0
+Told space s d exit = (d ≡ doneIn space s) × (exit ≡ wroteBytes space (s .reply))
+
+pub written-told : (s : Step) {space exit : List ℕ} {n : ℕ} {d : Done} → Wrote space (s .reply) n exit → d ≡ doneWith n s → Told space s d exit
+written-told s w e = (e ∙ ap (λ (n : ℕ). doneWith n s) (w .count), w .bytes)
+
 -- nothing is written of it, and the output stays
+pub quiet-told : (space : List ℕ) (s : Step) {d : Done} → s .reply ≡ [] → d ≡ doneWith 0 s → Told space s d space
+quiet-told space s q e = written-told s (rw q (wrote-none space)) e
+
 pub quiet-done : (space : List ℕ) (s : Step) → s .reply ≡ [] → doneWith 0 s ≡ doneIn space s
-quiet-done space s e =
-    ap (λ (n : ℕ). doneWith n s) (wrote-none space .count ∙ ap (λ (bs : List ℕ). wroteCount space bs) (sym e))
+quiet-done space s e = quiet-told space s e refl .0
 
 pub quiet-space : (space : List ℕ) (bs : List ℕ) → bs ≡ [] → space ≡ wroteBytes space bs
-quiet-space space bs e = wrote-none space .bytes ∙ ap (λ (l : List ℕ). wroteBytes space l) (sym e)
+quiet-space space bs e = rw e (wrote-none space .bytes)
 
 -- a part of a slice, cut from where it starts to where it ends
 pub part-bytes : (p : Part) (s : List ℕ) → take (p .at + p .len - p .at) (drop (p .at) s) ≡ bytesIn s p
@@ -61,11 +72,9 @@ not-odd n e = one-to-is longestCookie n (not-false (isCookie n) e)
 pub cookie-short : (p : Part) (s : List ℕ) → isOdd (p .len) ≡ false → length (take (p .at + p .len - p .at) (drop (p .at) s)) ≤ longestCookie
 cookie-short p s h = omega (arith, length-take (p .at + p .len - p .at) (drop (p .at) s), not-odd (p .len) h .1)
 
-pub echo-few : (cookie : List ℕ) {xs ys : List ℕ} {n : ℕ} → Wrote xs (cookieEchoBytes cookie) n ys → n ≤ 260
-echo-few cookie w = omega (arith, wrote-most w, echo-within cookie)
-
-pub error-few : (s : List ℕ) {xs ys : List ℕ} {n : ℕ} → Wrote xs (errorParametersBytes s) n ys → n ≤ 1448
-error-few s w = omega (arith, wrote-most w, error-within s)
+-- a count of bytes written, within what their own bound allows
+pub few : {bs xs ys : List ℕ} {n most : ℕ} → Wrote xs bs n ys → length bs ≤ most → n ≤ most
+few w h = omega (arith, wrote-most w)
 
 pub echo-short : (cookie s : List ℕ) → length (cookieEchoBytes cookie) + length (errorParametersBytes s) ≤ 65532
 echo-short cookie s = omega (arith, echo-within cookie, error-within s)
@@ -77,8 +86,7 @@ unfolding dataRead
 data-quiet a s o = refl
 
 either-quiet : (t : Bool) (x y : Step) → x .reply ≡ [] → y .reply ≡ [] → pick t x y .reply ≡ []
-either-quiet true x y e f = e
-either-quiet false x y e f = f
+either-quiet = pick-keeps (λ (s : Step). s .reply ≡ [])
 
 module _ (a : Association) (s : List ℕ) where
   pub read-data-quiet : readData a s .reply ≡ []

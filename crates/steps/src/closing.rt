@@ -61,31 +61,32 @@ pub fn read_shutdown(mut a: Association, s: &[u8], space: &mut [u8]) -> Done
     Done::refused(a, o.number, sack_call(o.number))
 }
 
-// A SHUTDOWN that crosses ours.
-pub fn cross_shutdown(mut a: Association, s: &[u8], space: &mut [u8]) -> Done
-    ensures { λ r. ⌜ (r ≡ doneIn (now (space .entry)) (answerShutdown a (ShutdownAckSent 0) (now (s .entry)))) × (now (space .exit) ≡ wroteBytes (now (space .entry)) (answerShutdown a (ShutdownAckSent 0) (now (s .entry)) .reply)) ⌝ }
+// Answered at once, in the state that it leads to.
+fn answer_shutdown(mut a: Association, state: State, s: &[u8], space: &mut [u8]) -> Done
+    ensures { λ r. ⌜ (r ≡ doneIn (now (space .entry)) (answerShutdown a state (now (s .entry)))) × (now (space .exit) ≡ wroteBytes (now (space .entry)) (answerShutdown a state (now (s .entry)) .reply)) ⌝ }
 {
     let o = hear_shutdown(a, s);
     if o.number == 0 {
         let after = o.sending;
         a.sending = after;
-        return acknowledge_shutdown(a, State::ShutdownAckSent(0), space);
+        return acknowledge_shutdown(a, state, space);
     }
     Done::refused(a, o.number, sack_call(o.number))
 }
 
+// A SHUTDOWN that crosses ours.
+pub fn cross_shutdown(a: Association, s: &[u8], space: &mut [u8]) -> Done
+    ensures { λ r. ⌜ (r ≡ doneIn (now (space .entry)) (answerShutdown a (ShutdownAckSent 0) (now (s .entry)))) × (now (space .exit) ≡ wroteBytes (now (space .entry)) (answerShutdown a (ShutdownAckSent 0) (now (s .entry)) .reply)) ⌝ }
+{
+    answer_shutdown(a, State::ShutdownAckSent(0), s, space)
+}
+
 // A SHUTDOWN that comes again in SHUTDOWN-ACK-SENT: answered again, with the tries as they are.
-pub fn repeat_shutdown_ack(mut a: Association, s: &[u8], space: &mut [u8]) -> Done
+pub fn repeat_shutdown_ack(a: Association, s: &[u8], space: &mut [u8]) -> Done
     ensures { λ r. ⌜ (r ≡ doneIn (now (space .entry)) (answerShutdown a (a .state) (now (s .entry)))) × (now (space .exit) ≡ wroteBytes (now (space .entry)) (answerShutdown a (a .state) (now (s .entry)) .reply)) ⌝ }
 {
-    let o = hear_shutdown(a, s);
-    if o.number == 0 {
-        let after = o.sending;
-        a.sending = after;
-        let state = a.state;
-        return acknowledge_shutdown(a, state, space);
-    }
-    Done::refused(a, o.number, sack_call(o.number))
+    let state = a.state;
+    answer_shutdown(a, state, s, space)
 }
 
 // A SHUTDOWN ACK before there is an association.

@@ -1,3 +1,5 @@
+use Rattle.events.specs.Told.{ofAcknowledged}
+use Rattle.entry.specs.HappeningLaws.{gave}
 use borrow.Author.Needs.{needs}
 use Rattle.entry.proofs.running.acknowledge.Statement.{statement}
 use Rattle.entry.proofs.running.acknowledge.Tie as tie
@@ -12,7 +14,7 @@ same-length : tie.Need-same-length
 same-length c = search needs
 
 returns : tie.Need-returns
-returns c = (rw (← c .before .before .before .sack .ensures .0) (c .of-acknowledged .ensures), c .before .before .before .sack .ensures .1)
+returns c = gave ofAcknowledged (c .before .before .before .sack .ensures .0) (c .before .before .before .sack .ensures .1) (c .of-acknowledged .ensures)
 
 pub acknowledge-spec : {M : Type 1} → statement M
 acknowledge-spec =

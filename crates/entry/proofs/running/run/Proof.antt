@@ -1,5 +1,6 @@
 use mathlib.Core.Path.{refl}
 use Rattle.entry.specs.Happening.{happened}
+use Rattle.entry.specs.HappeningLaws.{areas-stay, all-stay}
 use borrow.Author.Needs.{needs}
 use Rattle.entry.proofs.running.run.Statement.{statement}
 use Rattle.entry.proofs.running.run.Tie as tie
@@ -115,14 +116,14 @@ same-length-3 c = search needs
 
 returns-2 : tie.Need-returns-2
 unfolding happened
-returns-2 c = rw (c .before .before .before .before .before .event2 .given .1) (c .before .before .associate .ensures .told, (refl, (refl, c .before .before .associate .ensures .bytes)))
+returns-2 c = rw (c .before .before .before .before .before .event2 .given .1) (areas-stay (c .before .before .associate .ensures))
 
 same-length-4 : tie.Need-same-length-4
 same-length-4 c = search needs
 
 returns-3 : tie.Need-returns-3
 unfolding happened
-returns-3 c = rw (c .before .before .before .before .before .event3 .given .1) (c .before .before .hand-in .ensures .0, (refl, (c .before .before .hand-in .ensures .1, refl)))
+returns-3 c = rw (c .before .before .before .before .before .event3 .given .1) (c .before .before .hand-in .ensures .told, (refl, (c .before .before .hand-in .ensures .bytes, refl)))
 
 same-length-5 : tie.Need-same-length-5
 same-length-5 c = search needs
@@ -132,7 +133,7 @@ same-length-6 c = search needs
 
 returns-4 : tie.Need-returns-4
 unfolding happened
-returns-4 c = rw (c .before .before .before .before .before .enum-told .given .1) (c .before .before .transmit .ensures .0, (refl, (refl, c .before .before .transmit .ensures .1)))
+returns-4 c = rw (c .before .before .before .before .before .enum-told .given .1) (areas-stay (c .before .before .transmit .ensures))
 
 same-length-7 : tie.Need-same-length-7
 same-length-7 c = search needs
@@ -142,75 +143,75 @@ same-length-8 c = search needs
 
 returns-5 : tie.Need-returns-5
 unfolding happened
-returns-5 c = rw (c .before .before .before .before .before .enum-told2 .given .1) (c .before .before .take .ensures .0, (refl, (refl, c .before .before .take .ensures .1)))
+returns-5 c = rw (c .before .before .before .before .before .enum-told2 .given .1) (areas-stay (c .before .before .take .ensures))
 
 same-length-9 : tie.Need-same-length-9
 same-length-9 c = search needs
 
 returns-6 : tie.Need-returns-6
 unfolding happened
-returns-6 c = rw (c .before .before .before .before .enum-told3 .given .1) (c .before .before .acknowledge .ensures .0, (refl, (refl, c .before .before .acknowledge .ensures .1)))
+returns-6 c = rw (c .before .before .before .before .enum-told3 .given .1) (areas-stay (c .before .before .acknowledge .ensures))
 
 same-length-10 : tie.Need-same-length-10
 same-length-10 c = search needs
 
 returns-7 : tie.Need-returns-7
 unfolding happened
-returns-7 c = rw (c .before .before .before .before .enum-told4 .given .1) (c .before .before .first-timer .ensures .told, (refl, (refl, c .before .before .first-timer .ensures .bytes)))
+returns-7 c = rw (c .before .before .before .before .enum-told4 .given .1) (areas-stay (c .before .before .first-timer .ensures))
 
 same-length-11 : tie.Need-same-length-11
 same-length-11 c = search needs
 
 returns-8 : tie.Need-returns-8
 unfolding happened
-returns-8 c = rw (c .before .before .before .before .enum-told5 .given .1) (c .before .before .second-timer .ensures .told, (refl, (refl, c .before .before .second-timer .ensures .bytes)))
+returns-8 c = rw (c .before .before .before .before .enum-told5 .given .1) (areas-stay (c .before .before .second-timer .ensures))
 
 returns-9 : tie.Need-returns-9
 unfolding happened
-returns-9 c = rw (c .before .enum-told6 .given .1) (c .third-timer .ensures, (refl, (refl, refl)))
+returns-9 c = rw (c .before .enum-told6 .given .1) (all-stay (c .third-timer .ensures))
 
 same-length-12 : tie.Need-same-length-12
 same-length-12 c = search needs
 
 returns-10 : tie.Need-returns-10
 unfolding happened
-returns-10 c = rw (c .before .before .before .before .enum-told7 .given .1) (c .before .before .shutdown .ensures .told, (refl, (refl, c .before .before .shutdown .ensures .bytes)))
+returns-10 c = rw (c .before .before .before .before .enum-told7 .given .1) (areas-stay (c .before .before .shutdown .ensures))
 
 same-length-13 : tie.Need-same-length-13
 same-length-13 c = search needs
 
 returns-11 : tie.Need-returns-11
 unfolding happened
-returns-11 c = rw (c .before .before .before .before .before .event4 .given .1) (c .before .before .abort .ensures .told, (refl, (refl, c .before .before .abort .ensures .bytes)))
+returns-11 c = rw (c .before .before .before .before .before .event4 .given .1) (areas-stay (c .before .before .abort .ensures))
 
 same-length-14 : tie.Need-same-length-14
 same-length-14 c = search needs
 
 returns-12 : tie.Need-returns-12
 unfolding happened
-returns-12 c = rw (c .before .before .before .before .before .event5 .given .1) (c .before .before .error-stream .ensures .told, (refl, (refl, c .before .before .error-stream .ensures .bytes)))
+returns-12 c = rw (c .before .before .before .before .before .event5 .given .1) (areas-stay (c .before .before .error-stream .ensures))
 
 same-length-15 : tie.Need-same-length-15
 same-length-15 c = search needs
 
 returns-13 : tie.Need-returns-13
 unfolding happened
-returns-13 c = rw (c .before .before .before .before .before .event6 .given .1) (c .before .before .error-stale .ensures .told, (refl, (refl, c .before .before .error-stale .ensures .bytes)))
+returns-13 c = rw (c .before .before .before .before .before .event6 .given .1) (areas-stay (c .before .before .error-stale .ensures))
 
 same-length-16 : tie.Need-same-length-16
 same-length-16 c = search needs
 
 returns-14 : tie.Need-returns-14
 unfolding happened
-returns-14 c = rw (c .before .before .before .before .before .event7 .given .1) (c .before .before .heartbeat .ensures .told, (refl, (refl, c .before .before .heartbeat .ensures .bytes)))
+returns-14 c = rw (c .before .before .before .before .before .event7 .given .1) (areas-stay (c .before .before .heartbeat .ensures))
 
 returns-15 : tie.Need-returns-15
 unfolding happened
-returns-15 c = rw (c .before .before .event8 .given .1) (c .sample .ensures, (refl, (refl, refl)))
+returns-15 c = rw (c .before .before .event8 .given .1) (all-stay (c .sample .ensures))
 
 returns-16 : tie.Need-returns-16
 unfolding happened
-returns-16 c = rw (c .before .enum-told8 .given .1) (c .unknown .ensures, (refl, (refl, refl)))
+returns-16 c = rw (c .before .enum-told8 .given .1) (all-stay (c .unknown .ensures))
 
 pub run-spec : {M : Type 1} → statement M
 run-spec =

@@ -1,3 +1,5 @@
+use Rattle.events.specs.Told.{ofDelivered}
+use Rattle.entry.specs.HappeningLaws.{gave}
 use borrow.Author.Needs.{needs}
 use Rattle.entry.proofs.running.take.Statement.{statement}
 use Rattle.entry.proofs.running.take.Tie as tie
@@ -12,7 +14,7 @@ same-length : tie.Need-same-length
 same-length c = search needs
 
 returns : tie.Need-returns
-returns c = (rw (← c .before .before .before .take .ensures .0) (c .of-delivered .ensures), c .before .before .before .take .ensures .1)
+returns c = gave ofDelivered (c .before .before .before .take .ensures .0) (c .before .before .before .take .ensures .1) (c .of-delivered .ensures)
 
 pub take-spec : {M : Type 1} → statement M
 take-spec = tie.close (tie.spec take-requires of-delivered-requires same-length returns)

@@ -1,3 +1,5 @@
+use Rattle.events.specs.Told.{ofTransmitted}
+use Rattle.entry.specs.HappeningLaws.{gave}
 use borrow.Author.Needs.{needs}
 use Rattle.entry.proofs.running.transmit.Statement.{statement}
 use Rattle.entry.proofs.running.transmit.Tie as tie
@@ -12,7 +14,7 @@ same-length : tie.Need-same-length
 same-length c = search needs
 
 returns : tie.Need-returns
-returns c = (rw (← c .before .before .before .transmit .ensures .0) (c .of-transmitted .ensures), c .before .before .before .transmit .ensures .1)
+returns c = gave ofTransmitted (c .before .before .before .transmit .ensures .0) (c .before .before .before .transmit .ensures .1) (c .of-transmitted .ensures)
 
 pub transmit-spec : {M : Type 1} → statement M
 transmit-spec =

@@ -1,5 +1,6 @@
+use mathlib.Core.Path.{refl}
 use borrow.Author.Tests.{eq-eqb, ne-eqb}
-use Rattle.octets.specs.WritingLaws.{wrote-none}
+use Rattle.steps.specs.VerdictLaws.{quiet-told}
 use Rattle.steps.specs.Closing.{readShutdown}
 use borrow.Author.Needs.{needs}
 use Rattle.steps.proofs.closing.read_shutdown.Statement.{statement}
@@ -33,7 +34,7 @@ same-length c = search needs
 -- src/closing.rt:61:13
 returns : tie.Need-returns
 unfolding readShutdown
-returns c = (rw (← c .before .before .before .before .before .before .before .before .before .hear-shutdown .ensures, eq-eqb _ _ (c .before .before .before .before .before .before .before .if1 .taken), ← c .before .before .before .before .before .is-empty .ensures, c .before .before .before .before .if2 .taken) (c .before .before .acknowledge-shutdown .ensures .0), rw (← c .before .before .before .before .before .before .before .before .before .hear-shutdown .ensures, eq-eqb _ _ (c .before .before .before .before .before .before .before .if1 .taken), ← c .before .before .before .before .before .is-empty .ensures, c .before .before .before .before .if2 .taken) (c .before .before .acknowledge-shutdown .ensures .1))
+returns c = rw (← c .before .before .before .before .before .before .before .before .before .hear-shutdown .ensures, eq-eqb _ _ (c .before .before .before .before .before .before .before .if1 .taken), ← c .before .before .before .before .before .is-empty .ensures, c .before .before .before .before .if2 .taken) (c .before .before .acknowledge-shutdown .ensures)
 
 -- src/closing.rt:63:31
 moved-requires : tie.Need-moved-requires
@@ -46,7 +47,7 @@ accepted-requires c κs = search needs
 -- src/closing.rt:63:9
 returns-2 : tie.Need-returns-2
 unfolding readShutdown
-returns-2 c = (rw (← c .before .before .before .before .before .before .before .hear-shutdown .ensures, eq-eqb _ _ (c .before .before .before .before .before .if1 .taken), ← c .before .before .before .is-empty .ensures, c .before .before .if2 .left, ← c .before .moved .ensures, ← wrote-none (c .before .before .before .before .before .before .before .before .before .before .args .space .now) .count) (c .accepted .ensures), rw (← c .before .before .before .before .before .before .before .hear-shutdown .ensures, eq-eqb _ _ (c .before .before .before .before .before .if1 .taken), ← c .before .before .before .is-empty .ensures, c .before .before .if2 .left) (wrote-none (c .before .before .before .before .before .before .before .before .before .before .args .space .now) .bytes))
+returns-2 c = rw (← c .before .before .before .before .before .before .before .hear-shutdown .ensures, eq-eqb _ _ (c .before .before .before .before .before .if1 .taken), ← c .before .before .before .is-empty .ensures, c .before .before .if2 .left) (quiet-told _ _ refl (rw (← c .before .moved .ensures) (c .accepted .ensures)))
 
 -- src/closing.rt:65:32
 sack-call-requires : tie.Need-sack-call-requires
@@ -59,7 +60,7 @@ refused-requires c κs = search needs
 -- src/closing.rt:53:1
 returns-3 : tie.Need-returns-3
 unfolding readShutdown
-returns-3 c = (rw (← c .before .before .before .before .hear-shutdown .ensures, ne-eqb _ _ (c .before .before .if1 .left), ← c .before .sack-call .ensures, ← wrote-none (c .before .before .before .before .before .before .before .args .space .now) .count) (c .refused .ensures), rw (← c .before .before .before .before .hear-shutdown .ensures, ne-eqb _ _ (c .before .before .if1 .left)) (wrote-none (c .before .before .before .before .before .before .before .args .space .now) .bytes))
+returns-3 c = rw (← c .before .before .before .before .hear-shutdown .ensures, ne-eqb _ _ (c .before .before .if1 .left)) (quiet-told _ _ refl (rw (← c .before .sack-call .ensures) (c .refused .ensures)))
 
 pub read-shutdown-spec : {M : Type 1} → statement M
 read-shutdown-spec =

@@ -1,11 +1,12 @@
+use mathlib.Core.Path.{refl}
 use borrow.Author.Tests.{eq-eqb, ne-eqb}
-use Rattle.octets.specs.WritingLaws.{wrote-none}
+use Rattle.steps.specs.VerdictLaws.{quiet-told}
 use Rattle.steps.specs.Closing.{answerShutdown}
 use borrow.Author.Needs.{needs}
-use Rattle.steps.proofs.closing.cross_shutdown.Statement.{statement}
-use Rattle.steps.proofs.closing.cross_shutdown.Tie as tie
-use Rattle.steps.proofs.closing.cross_shutdown.Reads as reads
-use Rattle.steps.proofs.closing.cross_shutdown.Lts as lts
+use Rattle.steps.proofs.closing.answer_shutdown.Statement.{statement}
+use Rattle.steps.proofs.closing.answer_shutdown.Tie as tie
+use Rattle.steps.proofs.closing.answer_shutdown.Reads as reads
+use Rattle.steps.proofs.closing.answer_shutdown.Lts as lts
 use Rattle.steps.proofs.carrying.sack_call.Reads as sack-call-reads
 use Rattle.steps.proofs.closing.acknowledge_shutdown.Reads as acknowledge-shutdown-reads
 use Rattle.steps.proofs.closing.hear_shutdown.Reads as hear-shutdown-reads
@@ -26,7 +27,7 @@ same-length c = search needs
 -- src/closing.rt:76:9
 returns : tie.Need-returns
 unfolding answerShutdown
-returns c = (rw (← c .before .before .before .before .before .before .before .hear-shutdown .ensures, eq-eqb _ _ (c .before .before .before .before .before .if1 .taken)) (c .before .before .acknowledge-shutdown .ensures .0), rw (← c .before .before .before .before .before .before .before .hear-shutdown .ensures, eq-eqb _ _ (c .before .before .before .before .before .if1 .taken)) (c .before .before .acknowledge-shutdown .ensures .1))
+returns c = rw (← c .before .before .before .before .before .before .before .hear-shutdown .ensures, eq-eqb _ _ (c .before .before .before .before .before .if1 .taken)) (c .before .before .acknowledge-shutdown .ensures)
 
 -- src/closing.rt:78:32
 sack-call-requires : tie.Need-sack-call-requires
@@ -39,10 +40,10 @@ refused-requires c κs = search needs
 -- src/closing.rt:69:1
 returns-2 : tie.Need-returns-2
 unfolding answerShutdown
-returns-2 c = (rw (← c .before .before .before .before .hear-shutdown .ensures, ne-eqb _ _ (c .before .before .if1 .left), ← c .before .sack-call .ensures, ← wrote-none (c .before .before .before .before .before .before .before .args .space .now) .count) (c .refused .ensures), rw (← c .before .before .before .before .hear-shutdown .ensures, ne-eqb _ _ (c .before .before .if1 .left)) (wrote-none (c .before .before .before .before .before .before .before .args .space .now) .bytes))
+returns-2 c = rw (← c .before .before .before .before .hear-shutdown .ensures, ne-eqb _ _ (c .before .before .if1 .left)) (quiet-told _ _ refl (rw (← c .before .sack-call .ensures) (c .refused .ensures)))
 
-pub cross-shutdown-spec : {M : Type 1} → statement M
-cross-shutdown-spec =
+pub answer-shutdown-spec : {M : Type 1} → statement M
+answer-shutdown-spec =
     tie.close
     (tie.spec
     hear-shutdown-requires
