@@ -146,19 +146,18 @@ readSack a s = sackRead a (heardSack a s)
 abbrev pub isLast : Answer → Bool
 isLast o = pick (eqb (o .number) 0) (isBare (o .sending)) false
 
--- SHUTDOWN-PENDING: once all is acknowledged, SHUTDOWN goes out (section 9.2)
-unfoldable pub readSackPending : Association → List ℕ → Step
-readSackPending a s =
-    pick (isLast (heardSack a s))
-    (owing (withState (withSending a (heardSack a s .sending)) (ShutdownSent 0)) NoEvent Shutdown)
-    (sackRead a (heardSack a s))
+-- once all is acknowledged, the record goes on by the step `last` (section 9.2)
+abbrev pub sackReadThen : (Association → Step) → Association → Answer → Step
+sackReadThen last a o = pick (isLast o) (last (withSending a (o .sending))) (sackRead a o)
 
--- SHUTDOWN-RECEIVED: the same with SHUTDOWN ACK
+-- SHUTDOWN-PENDING: SHUTDOWN goes out
+unfoldable pub readSackPending : Association → List ℕ → Step
+readSackPending a s = sackReadThen (λ (q : Association). owing (withState q (ShutdownSent 0)) NoEvent Shutdown) a (heardSack a s)
+
+-- SHUTDOWN-RECEIVED: SHUTDOWN ACK goes out
 unfoldable pub readSackReceived : Association → List ℕ → Step
 readSackReceived a s =
-    pick (isLast (heardSack a s))
-    (accepted (withState (withSending a (heardSack a s .sending)) (ShutdownAckSent 0)) NoEvent shutdownAckBytes)
-    (sackRead a (heardSack a s))
+    sackReadThen (λ (q : Association). accepted (withState q (ShutdownAckSent 0)) NoEvent shutdownAckBytes) a (heardSack a s)
 
 -- ---- HEARTBEAT
 
