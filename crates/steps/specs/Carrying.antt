@@ -34,8 +34,9 @@ use Rattle.steps.specs.declared.verdict.Fate.the-variants.{Accepted, Ref
 use Rattle.steps.specs.declared.verdict.Named.{Named}
 use Rattle.steps.specs.declared.verdict.Named.the-variants.{NoCall, AbortNoData, AbortViolation, ErrorStream}
 use Rattle.steps.specs.declared.verdict.Event.the-variants.{NoEvent}
-use Rattle.steps.specs.declared.verdict.Owed.the-variants.{Nothing, Shutdown}
-use Rattle.steps.specs.Verdict.{Step, accepted, owing, refused}
+use Rattle.steps.specs.declared.verdict.Owed.the-variants.{Shutdown}
+use Rattle.steps.specs.declared.verdict.Told.{Told}
+use Rattle.steps.specs.Verdict.{Step, accepted, owing, refused, quiet}
 
 -- ---- DATA
 
@@ -86,17 +87,13 @@ arrivalIn r streams s = arrived (ring (2 ^ 32)) rail r (asHeld (chunkOf s) (leng
 abbrev pub arrivalOf : Association → List ℕ → Arrival
 arrivalOf a s = arrivalIn (a .receiving) (a .ends .«streams_in») s
 
+-- what the host is told of it
+abbrev pub toldData : Verdict → List ℕ → Told
+toldData v s = record { fate = fateOf v; named = callOf v (chunkOf s .tsn) (chunkOf s .stream) }
+
 -- what becomes of a DATA that the receiving side answers so
 unfoldable pub dataRead : Association → List ℕ → Arrival → Step
-dataRead a s o = record {
-  association = withReceiving a (o .receiving);
-  fate = fateOf (o .verdict);
-  named = callOf (o .verdict) (chunkOf s .tsn) (chunkOf s .stream);
-  event = NoEvent;
-  unread = false;
-  owed = Nothing;
-  reply = [];
-}
+dataRead a s o = quiet (withReceiving a (o .receiving)) (toldData (o .verdict) s)
 
 -- in ESTABLISHED and SHUTDOWN-PENDING (section 6.2)
 unfoldable pub readData : Association → List ℕ → Step
@@ -132,6 +129,10 @@ heardSack a s = heardBy (a .sending) s
 -- "16 with cause 13"
 abbrev pub sackCall : ℕ → Named
 sackCall n = pick (eqb n 16) AbortViolation NoCall
+
+-- what the host is told of an acknowledgement with this number
+abbrev pub toldSack : ℕ → Told
+toldSack n = record { fate = pick (eqb n 0) Accepted (Refused n); named = sackCall n }
 
 -- 15 and 16 leave all
 abbrev pub sackRead : Association → Answer → Step
