@@ -9,6 +9,7 @@ use Rattle.steps.specs.declared.verdict.Reason.{Reason}
 use Rattle.steps.specs.declared.verdict.Reason.the-variants.{Aborted, StaleCookie, HostName, ShutDown}
 use Rattle.steps.specs.declared.verdict.Event.{Event}
 use Rattle.steps.specs.declared.verdict.Event.the-variants.{NoEvent, Up, Down}
+use Rattle.steps.specs.declared.verdict.Told.{Told}
 use Rattle.steps.specs.Verdict.{numberOf, causeOf}
 use Rattle.arriving.specs.declared.verdict.Verdict.{Verdict}
 
@@ -45,6 +46,17 @@ eventCode (Down r) = reasonCode r
 -- a chunk behind one that leaves the rest of the packet unread
 abbrev pub unreadAt : ℕ → Verdict
 unreadAt at = record { at = at; value = 0; fate = 6; number = 0; cause = 0; event = 0 }
+
+-- the verdict of one that makes nothing happen
+abbrev pub toldAt : ℕ → Told → Verdict
+toldAt at t = record {
+  at = at;
+  value = valueOf (t .named);
+  fate = fateCode (t .fate);
+  number = numberOf (t .fate);
+  cause = causeOf (t .named);
+  event = 0;
+}
 
 -- the verdict of the chunk that begins at `at`
 abbrev pub verdictOf : ℕ → Done → Verdict

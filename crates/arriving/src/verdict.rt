@@ -4,9 +4,10 @@ use steps::Event;
 use steps::Fate;
 use steps::Named;
 use steps::Reason;
+use steps::Told;
 ghost use mathlib.Core.Path.{_≡_};
 ghost use Rattle.steps.specs.Verdict.{numberOf, causeOf};
-ghost use Rattle.arriving.specs.Verdict.{fateCode, valueOf, reasonCode, eventCode, unreadAt, verdictOf};
+ghost use Rattle.arriving.specs.Verdict.{fateCode, valueOf, reasonCode, eventCode, unreadAt, toldAt, verdictOf};
 
 // Where the chunk begins in its packet; its fate; the number of a refusal; the call that it names, by its cause, and the TSN or stream that this call
 // takes; what happened to the association.
@@ -104,6 +105,22 @@ impl Verdict {
             fate: 6,
             number: 0,
             cause: 0,
+            event: 0,
+        }
+    }
+
+    // A chunk that makes nothing happen.
+    pub fn told(at: usize, t: Told) -> Verdict
+        ensures { λ r. ⌜ r ≡ toldAt at t ⌝ }
+    {
+        let fate = t.fate;
+        let named = t.named;
+        Verdict {
+            at,
+            value: value_of(named),
+            fate: fate_code(fate),
+            number: number_of(fate),
+            cause: cause_of(named),
             event: 0,
         }
     }

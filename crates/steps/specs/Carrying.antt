@@ -34,8 +34,9 @@ use Rattle.steps.specs.declared.verdict.Fate.the-variants.{Accepted, Ref
 use Rattle.steps.specs.declared.verdict.Named.{Named}
 use Rattle.steps.specs.declared.verdict.Named.the-variants.{NoCall, AbortNoData, AbortViolation, ErrorStream}
 use Rattle.steps.specs.declared.verdict.Event.the-variants.{NoEvent}
-use Rattle.steps.specs.declared.verdict.Owed.the-variants.{Nothing, Shutdown}
-use Rattle.steps.specs.Verdict.{Step, accepted, owing, refused}
+use Rattle.steps.specs.declared.verdict.Owed.the-variants.{Shutdown}
+use Rattle.steps.specs.declared.verdict.Told.{Told}
+use Rattle.steps.specs.Verdict.{Step, accepted, owing, refused, quiet}
 
 -- ---- DATA
 
@@ -86,17 +87,13 @@ arrivalIn r streams s = arrived (ring (2 ^ 32)) rail r (asHeld (chunkOf s) (leng
 abbrev pub arrivalOf : Association → List ℕ → Arrival
 arrivalOf a s = arrivalIn (a .receiving) (a .ends .«streams_in») s
 
+-- what the host is told of it
+abbrev pub toldData : Verdict → List ℕ → Told
+toldData v s = record { fate = fateOf v; named = callOf v (chunkOf s .tsn) (chunkOf s .stream) }
+
 -- what becomes of a DATA that the receiving side answers so
 unfoldable pub dataRead : Association → List ℕ → Arrival → Step
-dataRead a s o = record {
-  association = withReceiving a (o .receiving);
-  fate = fateOf (o .verdict);
-  named = callOf (o .verdict) (chunkOf s .tsn) (chunkOf s .stream);
-  event = NoEvent;
-  unread = false;
-  owed = Nothing;
-  reply = [];
-}
+dataRead a s o = quiet (withReceiving a (o .receiving)) (toldData (o .verdict) s)
 
 -- in ESTABLISHED and SHUTDOWN-PENDING (section 6.2)
 unfoldable pub readData : Association → List ℕ → Step
@@ -133,6 +130,10 @@ heardSack a s = heardBy (a .sending) s
 abbrev pub sackCall : ℕ → Named
 sackCall n = pick (eqb n 16) AbortViolation NoCall
 
+-- what the host is told of an acknowledgement with this number
+abbrev pub toldSack : ℕ → Told
+toldSack n = record { fate = pick (eqb n 0) Accepted (Refused n); named = sackCall n }
+
 -- 15 and 16 leave all
 abbrev pub sackRead : Association → Answer → Step
 sackRead a o =
@@ -146,19 +147,18 @@ readSack a s = sackRead a (heardSack a s)
 abbrev pub isLast : Answer → Bool
 isLast o = pick (eqb (o .number) 0) (isBare (o .sending)) false
 
--- SHUTDOWN-PENDING: once all is acknowledged, SHUTDOWN goes out (section 9.2)
-unfoldable pub readSackPending : Association → List ℕ → Step
-readSackPending a s =
-    pick (isLast (heardSack a s))
-    (owing (withState (withSending a (heardSack a s .sending)) (ShutdownSent 0)) NoEvent Shutdown)
-    (sackRead a (heardSack a s))
+-- once all is acknowledged, the record goes on by the step `last` (section 9.2)
+abbrev pub sackReadThen : (Association → Step) → Association → Answer → Step
+sackReadThen last a o = pick (isLast o) (last (withSending a (o .sending))) (sackRead a o)
 
--- SHUTDOWN-RECEIVED: the same with SHUTDOWN ACK
+-- SHUTDOWN-PENDING: SHUTDOWN goes out
+unfoldable pub readSackPending : Association → List ℕ → Step
+readSackPending a s = sackReadThen (λ (q : Association). owing (withState q (ShutdownSent 0)) NoEvent Shutdown) a (heardSack a s)
+
+-- SHUTDOWN-RECEIVED: SHUTDOWN ACK goes out
 unfoldable pub readSackReceived : Association → List ℕ → Step
 readSackReceived a s =
-    pick (isLast (heardSack a s))
-    (accepted (withState (withSending a (heardSack a s .sending)) (ShutdownAckSent 0)) NoEvent shutdownAckBytes)
-    (sackRead a (heardSack a s))
+    sackReadThen (λ (q : Association). accepted (withState q (ShutdownAckSent 0)) NoEvent shutdownAckBytes) a (heardSack a s)
 
 -- ---- HEARTBEAT
 

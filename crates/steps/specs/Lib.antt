@@ -7,6 +7,7 @@ pub mod Closing
 pub mod Unknown
 pub mod Steps
 pub mod VerdictLaws
+pub mod SideLaws
 pub mod SoundLaws
 pub mod StepsLaws
 pub mod HeldLaws

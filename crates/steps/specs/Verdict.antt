@@ -15,6 +15,7 @@ use Rattle.steps.specs.declared.verdict.Event.the-variants.{NoEvent}
 use Rattle.steps.specs.declared.verdict.Owed.{Owed}
 use Rattle.steps.specs.declared.verdict.Owed.the-variants.{Nothing}
 use Rattle.steps.specs.declared.verdict.Done.{Done}
+use Rattle.steps.specs.declared.verdict.Told.{Told}
 
 -- the number of 01 for a fate
 abbrev pub numberOf : Fate → ℕ
@@ -72,6 +73,10 @@ owing a e o = record { association = a; fate = Accepted; named = NoCall; event =
 -- refused, with the call that it names
 abbrev pub refused : Association → ℕ → Named → Step
 refused a n c = record { association = a; fate = Refused n; named = c; event = NoEvent; unread = false; owed = Nothing; reply = [] }
+
+-- told so, with nothing else done
+abbrev pub quiet : Association → Told → Step
+quiet a t = record { association = a; fate = t .fate; named = t .named; event = NoEvent; unread = false; owed = Nothing; reply = [] }
 
 -- the rest of the packet is left unread
 abbrev pub ending : Step → Step

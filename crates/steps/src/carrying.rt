@@ -4,6 +4,7 @@ use crate::verdict::Event;
 use crate::verdict::Fate;
 use crate::verdict::Named;
 use crate::verdict::Owed;
+use crate::verdict::Told;
 use association::Association;
 use delivery::Arrival;
 use delivery::Receiving;
@@ -18,7 +19,7 @@ use states::State;
 ghost use mathlib.Core.Path.{_≡_};
 ghost use Rattle.octets.specs.Writing.{wroteBytes};
 ghost use Rattle.steps.specs.Verdict.{doneIn, doneWith};
-ghost use Rattle.steps.specs.Carrying.{chunkOf, isKept, fateOf, callOf, arrivalIn, dataRead, readData, readLateData, areaData, areaIn, blocksOf, heardBy, sackCall, readSack, readSackPending, readSackReceived, echoHeartbeat, clearTries};
+ghost use Rattle.steps.specs.Carrying.{chunkOf, isKept, fateOf, callOf, arrivalIn, toldData, dataRead, readData, readLateData, areaData, areaIn, blocksOf, heardBy, sackCall, toldSack, readSack, readSackPending, readSackReceived, echoHeartbeat, clearTries};
 
 fn chunk_of(s: &[u8]) -> Chunk
     ensures { λ r. ⌜ r ≡ chunkOf (now (s .entry)) ⌝ }
@@ -81,7 +82,7 @@ fn is_kept(v: Verdict) -> bool
 }
 
 // The receiver's answer to a DATA chunk.
-fn hear_data(receiving: Receiving, streams: u16, area: &mut [u8], s: &[u8]) -> Arrival
+pub fn hear_data(receiving: Receiving, streams: u16, area: &mut [u8], s: &[u8]) -> Arrival
     ensures { λ r. ⌜ (r ≡ arrivalIn receiving streams (now (s .entry))) × (now (area .exit) ≡ areaIn receiving streams (now (area .entry)) (now (s .entry))) ⌝ }
 {
     let c = chunk_of(s);
@@ -91,19 +92,32 @@ fn hear_data(receiving: Receiving, streams: u16, area: &mut [u8], s: &[u8]) -> A
     receiving.arrive(area, c, &s[from..to], streams)
 }
 
-fn data_read(mut a: Association, o: Arrival, s: &[u8]) -> Done
-    ensures { λ r. ⌜ r ≡ doneWith 0 (dataRead a (now (s .entry)) o) ⌝ }
+// What the host is told of it.
+pub fn tell_data(v: Verdict, s: &[u8]) -> Told
+    ensures { λ r. ⌜ r ≡ toldData v (now (s .entry)) ⌝ }
 {
     let c = chunk_of(s);
     let tsn = c.tsn;
     let stream = c.stream;
+    Told {
+        fate: fate_of(v),
+        named: call_of(v, tsn, stream),
+    }
+}
+
+fn data_read(mut a: Association, o: Arrival, s: &[u8]) -> Done
+    ensures { λ r. ⌜ r ≡ doneWith 0 (dataRead a (now (s .entry)) o) ⌝ }
+{
     let v = o.verdict;
+    let t = tell_data(v, s);
+    let fate = t.fate;
+    let named = t.named;
     let after = o.receiving;
     a.receiving = after;
     Done {
         association: a,
-        fate: fate_of(v),
-        named: call_of(v, tsn, stream),
+        fate,
+        named,
         event: Event::NoEvent,
         unread: false,
         owed: Owed::Nothing,
@@ -156,7 +170,7 @@ fn blocks_of(s: &[u8]) -> Blocks
     }
 }
 
-fn hear_sack(sending: Sending, s: &[u8]) -> Answer
+pub fn hear_sack(sending: Sending, s: &[u8]) -> Answer
     ensures { λ r. ⌜ r ≡ heardBy sending (now (s .entry)) ⌝ }
 {
     let h = chunks::sack::read_sack(s);
@@ -173,6 +187,22 @@ pub fn sack_call(number: u8) -> Named
         return Named::AbortViolation;
     }
     Named::NoCall
+}
+
+// What the host is told of an acknowledgement with this number.
+pub fn tell_sack(number: u8) -> Told
+    ensures { λ r. ⌜ r ≡ toldSack number ⌝ }
+{
+    if number == 0 {
+        return Told {
+            fate: Fate::Accepted,
+            named: Named::NoCall,
+        };
+    }
+    Told {
+        fate: Fate::Refused(number),
+        named: sack_call(number),
+    }
 }
 
 // A SACK in ESTABLISHED.

@@ -59,6 +59,12 @@ pub struct Done {
     pub written: usize,
 }
 
+// The fate of a chunk and the call that it names.
+pub struct Told {
+    pub fate: Fate,
+    pub named: Named,
+}
+
 impl Done {
     // Accepted, with so many bytes in the reply.
     pub fn accepted(association: Association, event: Event, written: usize) -> Done
