@@ -9,9 +9,11 @@ use places::Place;
 ghost use mathlib.Core.Path.{_≡_};
 ghost use Prim.Native.Nat.{_≤_, _<_, _*_};
 ghost use lib.ListN.{length};
+ghost use Rattle.scans.specs.Scan.{count};
 ghost use Rattle.numbers.specs.Profile.{rail, placeAt};
 ghost use Rattle.octets.specs.Bytes.{laid};
-ghost use Rattle.sending.specs.HandIn.{chunksOf, isRefused, takes, partLen, partOf, chunkAt, waitingAt, laidOut, storedIn, waited, handedIn, areaAfter};
+ghost use Rattle.places.specs.Places.{hasStatus};
+ghost use Rattle.sending.specs.HandIn.{chunksOf, isRefused, takes, partLen, partOf, chunkAt, waitingAt, laidOut, storedIn, handedIn, areaAfter};
 
 // A message as it is handed in: `first` is the order of its first chunk.
 pub struct Message {
@@ -20,6 +22,11 @@ pub struct Message {
     pub stream: StreamId,
     pub ppid: u32,
     pub unordered: bool,
+}
+
+pub struct Room {
+    pub free: usize,
+    pub waiting: usize,
 }
 
 // The number, 0 if none; how many chunks were cut; the record.
@@ -104,27 +111,6 @@ fn waiting_at(m: Message, n: usize, k: usize) -> Place
     }
 }
 
-// The places with the chunks of the message.
-fn laid_out(places: [Place; Rail::PLACES], m: Message, n: usize) -> [Place; Rail::PLACES]
-    requires { ⌜ (n ≡ chunksOf rail (m .len)) × (n ≤ 128) ⌝ }
-    ensures { λ r. ⌜ r ≡ laidOut rail m n places ⌝ }
-{
-    let mut ps = places;
-    let mut k: usize = 0;
-    let mut i: usize = 0;
-    while i < Rail::PLACES {
-        let p = places[i];
-        if takes(p, k, n) {
-            ps[i] = waiting_at(m, n, k);
-            k += 1;
-            i += 1;
-        } else {
-            i += 1;
-        }
-    }
-    ps
-}
-
 // The payload of chunk k into the bytes of place i.
 fn store(area: &mut [u8], message: &[u8], i: usize, k: usize)
     requires { ⌜ (i < 128) × (k < 128) ⌝ }
@@ -134,10 +120,35 @@ fn store(area: &mut [u8], message: &[u8], i: usize, k: usize)
     octets::bytes::put_all(area, Rail::PAYLOAD * i, part);
 }
 
-// The area with the payloads of the message.
-fn store_all(area: &mut [u8], message: &[u8], places: [Place; Rail::PLACES], n: usize)
-    requires { ⌜ n ≤ 128 ⌝ }
-    ensures { λ _. ⌜ now (area .exit) ≡ storedIn rail n (now (message .entry)) places (now (area .entry)) ⌝ }
+// How many places are free, and how many wait.
+fn room_of(places: [Place; Rail::PLACES]) -> Room
+    ensures { λ r. ⌜ (r .free ≡ count (hasStatus 0) places) × (r .waiting ≡ count (hasStatus 1) places) × (r .free ≤ 128) × (r .waiting ≤ 128) ⌝ }
+{
+    let mut free: usize = 0;
+    let mut waiting: usize = 0;
+    let mut i: usize = 0;
+    while i < Rail::PLACES {
+        let p = places[i];
+        free += (p.status == Place::FREE) as usize;
+        waiting += (p.status == Place::WAITING) as usize;
+        i += 1;
+    }
+    Room {
+        free: free,
+        waiting: waiting,
+    }
+}
+
+// The places with the chunks of the message, and the area with its payloads.
+fn lay_out(
+    mut places: [Place; Rail::PLACES],
+    area: &mut [u8],
+    message: &[u8],
+    m: Message,
+    n: usize,
+) -> [Place; Rail::PLACES]
+    requires { ⌜ (n ≡ chunksOf rail (m .len)) × (n ≤ 128) ⌝ }
+    ensures { λ r. ⌜ (r ≡ laidOut rail m n places) × (now (area .exit) ≡ storedIn rail n (now (message .entry)) places (now (area .entry))) ⌝ }
 {
     let mut k: usize = 0;
     let mut i: usize = 0;
@@ -145,38 +156,19 @@ fn store_all(area: &mut [u8], message: &[u8], places: [Place; Rail::PLACES], n: 
         let p = places[i];
         if takes(p, k, n) {
             store(area, message, i, k);
+            places[i] = waiting_at(m, n, k);
             k += 1;
             i += 1;
         } else {
             i += 1;
         }
     }
-}
-
-// The record with the message cut and waiting.
-fn waited(mut s: Sending, len: usize, stream: StreamId, unordered: bool, ppid: u32) -> Sending
-    requires { ⌜ chunksOf rail len ≤ 128 ⌝ }
-    ensures { λ r. ⌜ r ≡ waited rail s len stream unordered ppid ⌝ }
-{
-    let before = s.places;
-    let waiting = places::all::having(before, Place::WAITING);
-    let first = std::num::wrapping_add_u32(s.oldest, waiting as u32);
-    let m = Message {
-        len: len,
-        first: first,
-        stream: stream,
-        ppid: ppid,
-        unordered: unordered,
-    };
-    let n = chunks(len);
-    let after = laid_out(before, m, n);
-    s.places = after;
-    s
+    places
 }
 
 // A message for a stream, of which so many are agreed.
 pub fn hand_in(
-    s: Sending,
+    mut s: Sending,
     area: &mut [u8],
     message: &[u8],
     stream: StreamId,
@@ -197,18 +189,27 @@ pub fn hand_in(
         };
     }
     let n = chunks(len);
-    if places::all::having(before, Place::FREE) < n {
+    let r = room_of(before);
+    if r.free < n {
         return Handed {
             number: 20,
             chunks: 0,
             sending: s,
         };
     }
-    store_all(area, message, before, n);
-    let t = waited(s, len, stream, unordered, ppid);
+    let first = std::num::wrapping_add_u32(s.oldest, r.waiting as u32);
+    let m = Message {
+        len: len,
+        first: first,
+        stream: stream,
+        ppid: ppid,
+        unordered: unordered,
+    };
+    let after = lay_out(before, area, message, m, n);
+    s.places = after;
     Handed {
         number: 0,
         chunks: n,
-        sending: t,
+        sending: s,
     }
 }
