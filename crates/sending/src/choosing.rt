@@ -3,16 +3,21 @@ use crate::sending::Sending;
 use numbers::Rail;
 use numbers::Ssn;
 use numbers::Tsn;
+use path::Path;
 use path::RailPath;
 use places::Chunk;
 use places::Place;
 ghost use mathlib.Core.Path.{_≡_};
-ghost use Prim.Native.Nat.{_≤_, _<_, _-_, _+_, _*_};
+ghost use Prim.Native.Nat.{ℕ, _≤_, _<_, _+_};
 ghost use lib.Dec.{ltb, eqb};
+ghost use lib.ListN.{getD};
 ghost use Rattle.scans.specs.Scan.{pick, either};
 ghost use Rattle.path.specs.Sizes.{railSizes};
 ghost use Rattle.numbers.specs.Profile.{rail};
-ghost use Rattle.sending.specs.Choose.{rankOf, better, bestOf, sizeOf, goes, nextSsn, counted, numbered, put, again, first, sent, tsnOf, going, begun, filling, filled};
+ghost use Rattle.places.specs.Places.{weightOf};
+ghost use Rattle.sending.specs.Sending.{noPlace, withFlight};
+ghost use Rattle.sending.specs.Choose.{rankOf, better, sizeOf, goes, nextSsn, counted, numbered, again, first, sent, tsnOf, filling, filled};
+ghost use Rattle.sending.specs.ChooseParts.{loadedBy, stepped};
 
 // The lowest rank, and its place.
 pub struct Best {
@@ -36,6 +41,26 @@ pub struct Chosen {
     pub resent: bool,
     pub first: Tsn,
     pub last: Tsn,
+}
+
+// A packet beside its record: the payload in flight, the room left, and what it holds so far.
+pub struct Load {
+    pub payload: u32,
+    pub room: u32,
+    pub count: usize,
+    pub places: [u16; RailPath::BUNDLED],
+    pub resent: bool,
+    pub first: Tsn,
+    pub last: Tsn,
+}
+
+// What a place that goes out changes in the record: itself, the numbers and the path.
+pub struct Step {
+    pub place: Place,
+    pub next_tsn: Tsn,
+    pub oldest: u32,
+    pub next: [Ssn; Rail::STREAMS],
+    pub path: Path,
 }
 
 // Marked by TSN, then waiting by the order of handing in, then none.
@@ -62,22 +87,6 @@ fn better(b: Best, i: usize, p: Place, acked: Tsn, oldest: u32) -> Best
     b
 }
 
-fn best_of(places: [Place; Rail::PLACES], acked: Tsn, oldest: u32) -> Best
-    ensures { λ r. ⌜ (r ≡ bestOf acked oldest places) × (r .place < 128) ⌝ }
-{
-    let mut b = Best {
-        rank: 8589934592,
-        place: 0,
-    };
-    let mut i: usize = 0;
-    while i < Rail::PLACES {
-        let p = places[i];
-        b = better(b, i, p, acked, oldest);
-        i += 1;
-    }
-    b
-}
-
 // A chunk's bytes in a packet: header, payload and padding.
 fn size(p: Place) -> u32
     ensures { λ r. ⌜ r ≡ sizeOf p ⌝ }
@@ -86,10 +95,9 @@ fn size(p: Place) -> u32
 }
 
 // Whether the next one goes.
-fn goes(f: Chosen, b: Best, p: Place) -> bool
-    ensures { λ r. ⌜ r ≡ goes f b p ⌝ }
+fn goes(s: Sending, l: Load, b: Best, p: Place) -> bool
+    ensures { λ r. ⌜ r ≡ goes (loadedBy s l) b p ⌝ }
 {
-    let s = f.sending;
     let path = s.path;
     let k = path.control;
     if 8589934592 <= b.rank {
@@ -98,7 +106,7 @@ fn goes(f: Chosen, b: Best, p: Place) -> bool
     if k.cwnd <= path.flight {
         return false;
     }
-    if f.room < size(p) {
+    if l.room < size(p) {
         return false;
     }
     if b.rank < 4294967296 {
@@ -107,7 +115,7 @@ fn goes(f: Chosen, b: Best, p: Place) -> bool
     if path.flight == 0 {
         return true;
     }
-    let window = path::measure::less(s.advertised, f.payload);
+    let window = path::measure::less(s.advertised, l.payload);
     p.chunk.len as u32 <= window
 }
 
@@ -157,57 +165,67 @@ fn numbered(s: Sending, mut c: Chunk) -> Chunk
     c
 }
 
-// The record with the place, and so much more in flight.
-fn put(mut s: Sending, i: usize, q: Place) -> Sending
-    requires { ⌜ (i < 128) × (s .path .flight ≤ 4294900000) ⌝ }
-    ensures { λ r. ⌜ (r ≡ put s i q) × (r .path .flight ≤ s .path .flight + 65551) ⌝ }
+// The path with the place in flight.
+fn flown(mut path: Path, q: Place) -> Path
+    requires { ⌜ path .flight ≤ 4294900000 ⌝ }
+    ensures { λ r. ⌜ (r ≡ withFlight path (path .flight + weightOf q)) × (r .flight ≤ path .flight + 65551) ⌝ }
 {
-    let w = q.weight();
-    let mut p = s.path;
-    p.flight += w;
-    s.places[i] = q;
-    s.path = p;
-    s
+    path.flight += q.weight();
+    path
 }
 
 // A marked place is sent again.
-fn again(s: Sending, i: usize, mut p: Place) -> Sending
-    requires { ⌜ (i < 128) × (s .path .flight ≤ 4294900000) ⌝ }
-    ensures { λ r. ⌜ (r ≡ again s i p) × (r .path .flight ≤ s .path .flight + 65551) ⌝ }
+fn again(s: Sending, mut p: Place) -> Step
+    requires { ⌜ s .path .flight ≤ 4294900000 ⌝ }
+    ensures { λ r. ⌜ ((i : ℕ) → stepped s i r ≡ again s i p) × (r .path .flight ≤ s .path .flight + 65551) ⌝ }
 {
     p.status = Place::FLYING;
-    put(s, i, p)
+    let before = s.path;
+    let path = flown(before, p);
+    let t = s.next_tsn;
+    let ns = s.next;
+    Step {
+        place: p,
+        next_tsn: t,
+        oldest: s.oldest,
+        next: ns,
+        path,
+    }
 }
 
 // A waiting place is sent for the first time.
-fn first(s: Sending, i: usize, p: Place) -> Sending
-    requires { ⌜ (i < 128) × (s .path .flight ≤ 4294900000) ⌝ }
-    ensures { λ r. ⌜ (r ≡ first rail s i p) × (r .path .flight ≤ s .path .flight + 65551) ⌝ }
+fn first(s: Sending, p: Place) -> Step
+    requires { ⌜ s .path .flight ≤ 4294900000 ⌝ }
+    ensures { λ r. ⌜ ((i : ℕ) → stepped s i r ≡ first rail s i p) × (r .path .flight ≤ s .path .flight + 65551) ⌝ }
 {
     let c = p.chunk;
     let h = numbered(s, c);
     let mut q = p;
     q.status = Place::FLYING;
     q.chunk = h;
-    let mut r = put(s, i, q);
+    let before = s.path;
+    let path = flown(before, q);
     let old = s.next;
     let ns = counted(old, c);
     let t = s.next_tsn;
     let u = t.after(1);
-    r.next = ns;
-    r.next_tsn = u;
-    r.oldest = std::num::wrapping_add_u32(s.oldest, 1);
-    r
+    Step {
+        place: q,
+        next_tsn: u,
+        oldest: std::num::wrapping_add_u32(s.oldest, 1),
+        next: ns,
+        path,
+    }
 }
 
-fn sent(s: Sending, i: usize, p: Place) -> Sending
-    requires { ⌜ (i < 128) × (s .path .flight ≤ 4294900000) ⌝ }
-    ensures { λ r. ⌜ (r ≡ sent rail s i p) × (r .path .flight ≤ s .path .flight + 65551) ⌝ }
+fn sent(s: Sending, p: Place) -> Step
+    requires { ⌜ s .path .flight ≤ 4294900000 ⌝ }
+    ensures { λ r. ⌜ ((i : ℕ) → stepped s i r ≡ sent rail s i p) × (r .path .flight ≤ s .path .flight + 65551) ⌝ }
 {
     if p.status == Place::MARKED {
-        return again(s, i, p);
+        return again(s, p);
     }
-    first(s, i, p)
+    first(s, p)
 }
 
 // The TSN that a place goes out with.
@@ -221,69 +239,69 @@ fn tsn_of(s: Sending, p: Place) -> Tsn
     s.next_tsn
 }
 
-fn first_of(f: Chosen, t: Tsn) -> Tsn
-    ensures { λ r. ⌜ r ≡ pick (ltb (f .count) 1) t (f .first) ⌝ }
+fn first_of(l: Load, t: Tsn) -> Tsn
+    ensures { λ r. ⌜ r ≡ pick (ltb (l .count) 1) t (l .first) ⌝ }
 {
-    if f.count < 1 {
+    if l.count < 1 {
         return t;
     }
-    f.first
+    l.first
 }
 
-fn is_again(f: Chosen, p: Place) -> bool
-    ensures { λ r. ⌜ r ≡ either (f .resent) (eqb (p .status) 3) ⌝ }
+fn is_again(l: Load, p: Place) -> bool
+    ensures { λ r. ⌜ r ≡ either (l .resent) (eqb (p .status) 3) ⌝ }
 {
-    f.resent || p.status == Place::MARKED
+    l.resent || p.status == Place::MARKED
 }
 
-fn going_of(f: Chosen) -> Going
-    ensures { λ r. ⌜ (r ≡ going f) × (r .place < 128) ⌝ }
+// The packet with place i more, which holds p.
+fn loaded(s: Sending, mut l: Load, i: usize, p: Place) -> Load
+    requires { ⌜ (i < 128) × (l .count < 26) × (l .payload ≤ 4294900000) ⌝ }
+    ensures { λ r. ⌜ (getD (s .places) i noPlace ≡ p → loadedBy (sent rail s i p) r ≡ filling rail (loadedBy s l) i) × (r .count ≡ l .count + 1) × (r .payload ≤ l .payload + 65535) ⌝ }
 {
-    let s = f.sending;
-    let ps = s.places;
-    let b = best_of(ps, s.acked, s.oldest);
-    let i = b.place;
-    let p = ps[i];
-    let g = goes(f, b, p);
-    Going { go: g, place: i }
-}
-
-// The packet with one place more.
-fn filled_with(f: Chosen, i: usize) -> Chosen
-    requires { ⌜ (i < 128) × (f .count < 26) × (f .sending .path .flight ≤ 4294900000) × (f .payload ≤ 4294900000) ⌝ }
-    ensures { λ r. ⌜ (r ≡ filling rail f i) × (r .sending .path .flight ≤ f .sending .path .flight + 65551) × (r .payload ≤ f .payload + 65535) ⌝ }
-{
-    let s = f.sending;
-    let ps = s.places;
-    let p = ps[i];
-    let n = f.count;
+    let n = l.count;
     let t = tsn_of(s, p);
-    let first = first_of(f, t);
-    let resent = is_again(f, p);
-    let sent = sent(s, i, p);
-    let mut r = f;
-    r.sending = sent;
-    r.payload += p.chunk.len as u32;
-    r.room = path::measure::less(f.room, size(p));
-    r.places[n] = i as u16;
-    r.count = n + 1;
-    r.resent = resent;
-    r.first = first;
-    r.last = t;
-    r
+    let first = first_of(l, t);
+    let resent = is_again(l, p);
+    l.payload += p.chunk.len as u32;
+    l.room = path::measure::less(l.room, size(p));
+    l.places[n] = i as u16;
+    l.count = n + 1;
+    l.resent = resent;
+    l.first = first;
+    l.last = t;
+    l
 }
 
-// A packet with nothing in it yet.
-fn begun(mut s: Sending) -> Chosen
-    ensures { λ r. ⌜ (r ≡ begun railSizes s) × (r .sending .path .flight ≤ 8390528) × (r .payload ≤ 8388480) ⌝ }
+// The packet with its record.
+fn whole(s: Sending, l: Load) -> Chosen
+    ensures { λ r. ⌜ r ≡ loadedBy s l ⌝ }
 {
-    let ps = s.places;
-    let w = places::all::tallied(ps, s.acked);
-    let mut p = s.path;
-    p.flight = w.flight;
-    s.path = p;
+    let ps = l.places;
+    let first = l.first;
+    let last = l.last;
     Chosen {
         sending: s,
+        payload: l.payload,
+        room: l.room,
+        count: l.count,
+        places: ps,
+        resent: l.resent,
+        first,
+        last,
+    }
+}
+
+// What goes into the next packet; nothing, where `count` is 0.
+pub fn choose(mut s: Sending) -> Chosen
+    ensures { λ r. ⌜ r ≡ filled railSizes rail s ⌝ }
+{
+    let before = s.places;
+    let w = places::all::tallied(before, s.acked);
+    let mut path = s.path;
+    path.flight = w.flight;
+    s.path = path;
+    let mut l = Load {
         payload: w.payload,
         room: RailPath::ROOM,
         count: 0,
@@ -291,23 +309,37 @@ fn begun(mut s: Sending) -> Chosen
         resent: false,
         first: Tsn(0),
         last: Tsn(0),
-    }
-}
-
-// What goes into the next packet; nothing, where `count` is 0.
-pub fn choose(s: Sending) -> Chosen
-    ensures { λ r. ⌜ r ≡ filled railSizes rail s ⌝ }
-{
-    let mut f = begun(s);
+    };
     let mut n: usize = 0;
     while n < RailPath::BUNDLED {
-        let g = going_of(f);
-        if g.go {
-            f = filled_with(f, g.place);
+        let mut b = Best {
+            rank: 8589934592,
+            place: 0,
+        };
+        let mut i: usize = 0;
+        while i < Rail::PLACES {
+            let p = s.places[i];
+            b = better(b, i, p, s.acked, s.oldest);
+            i += 1;
+        }
+        let at = b.place;
+        let p = s.places[at];
+        if goes(s, l, b, p) {
+            l = loaded(s, l, at, p);
+            let r = sent(s, p);
+            let q = r.place;
+            let t = r.next_tsn;
+            let ns = r.next;
+            let after = r.path;
+            s.places[at] = q;
+            s.next_tsn = t;
+            s.oldest = r.oldest;
+            s.next = ns;
+            s.path = after;
             n += 1;
         } else {
-            return f;
+            return whole(s, l);
         }
     }
-    f
+    whole(s, l)
 }
