@@ -1,11 +1,13 @@
 -- What the functions that fill a packet have to show. Assumes nothing.
-use Prim.Native.Nat.{ℕ, _+_, _-_, _≤_}
+use Prim.Native.Nat.{ℕ, _+_, _-_, _<_, _≤_}
 use mathlib.Core.Path.{_≡_, refl, sym, ap, _∙_}
 use mathlib.Core.List.{List, _++_}
 use native.Mathlib.Omega.{arith}
-use borrow.Author.Tests.{ltb-false, eq-eqb}
-use lib.ListN.{length, take, drop}
-use Rattle.scans.specs.Scan.{either}
+use native.Mathlib.Decide.{decLt}
+use borrow.Author.Tests.{lt-ltb, le-ltb, ltb-false, eq-eqb}
+use lib.Dec.{ltb}
+use lib.ListN.{length, take, drop, getD, List·getD-eq-default}
+use Rattle.scans.specs.Scan.{pick, either}
 use Rattle.scans.specs.Each.{neither}
 use Rattle.numbers.specs.Profile.{rail}
 use Rattle.octets.specs.BytesLaws.{part-is}
@@ -14,6 +16,7 @@ use Rattle.octets.specs.WritingLaws.{wrote-part, part-within, wrote-few}
 use Rattle.packets.specs.declared.header.Header.{Header}
 use Rattle.path.specs.Sizes.{railSizes}
 use Rattle.sending.specs.declared.choosing.Chosen.{Chosen}
+use Rattle.sending.specs.Sending.{noPlace}
 use Rattle.sending.specs.Choose.{filled}
 use Rattle.places.specs.declared.place.Place.{Place}
 use Rattle.states.specs.declared.call.Call.{Call}
@@ -24,7 +27,7 @@ use Rattle.calls.specs.Answer.{isShortArea, isShortOut, barred}
 use Rattle.calls.specs.AnswerLaws.{let-in}
 use Rattle.calls.specs.declared.transmitting.Transmitted.{Transmitted}
 use Rattle.calls.specs.Packet.{toPeer}
-use Rattle.calls.specs.Transmit.{chunkBytes, Bundle, added, bundled, bundleLength, bundleOut, transmitBar, transmitted, transmittedOut}
+use Rattle.calls.specs.Transmit.{chunkBytes, Bundle, added, turned, bundled, bundleLength, bundleOut, transmitBar, transmitted, transmittedOut}
 
 -- one chunk more: where it ends, and what stands in the output
 pub record Added (area : List ℕ) (p : Place) (i at : ℕ) (out : List ℕ) (r : ℕ) (exit : List ℕ) : Type 0 where
@@ -46,6 +49,19 @@ module _ (at : ℕ) (xs : List ℕ) {bs ys : List ℕ} {r : ℕ} (h : at ≤ len
       let e : exit ≡ wroteAt xs at (chunkBytes area p i) = m ∙ wrote-part at xs h w ∙ ap (λ (l : List ℕ). wroteAt xs at l) b in
       let t : r ≡ wroteCount (drop at xs) (chunkBytes area p i) = w .count ∙ (λ j. wroteCount (part-is xs at j) (b j)) in
       record { is = (λ j. record { at = at + t j; out = e j }); within = part-small; near = omega (arith, part-few) }
+
+-- a place read by an index that there is, and left where there is none such
+read-at : (ps : List Place) (i j : ℕ) {p : Place} → length ps ≡ 128 → j ≡ pick (ltb i 128) i 0 → p ≡ pick (ltb i 128) (getD ps j noPlace) noPlace → p ≡ getD ps i noPlace
+read-at ps i j l e q = q ∙ rw e (go (decLt i 128))
+  where
+    go : Dec (i < 128) → pick (ltb i 128) (getD ps (pick (ltb i 128) i 0) noPlace) noPlace ≡ getD ps i noPlace
+    go (yes h) = rw (lt-ltb i 128 h)
+    go (no h) = let m : 128 ≤ i = omega arith in rw (le-ltb i 128 m) (sym (List·getD-eq-default ps _ (omega arith)))
+
+-- a place chosen, with its chunk behind those before
+pub turned-one : (area : List ℕ) (count : ℕ) (ps : List Place) (t : Bundle) (k i : ℕ) {j : ℕ} {p : Place} {b : Bundle} → length ps ≡ 128 → k < count → j ≡ pick (ltb i 128) i 0
+    → p ≡ pick (ltb i 128) (getD ps j noPlace) noPlace → b ≡ added area p i t → b ≡ turned area count ps t k i
+turned-one area count ps t k i {j} l h e q s = rw (lt-ltb k count h) (s ∙ ap (λ (x : Place). added area x i t) (read-at ps i j l e q))
 
 -- the lent area and output are long enough
 pub both-roomy : (a : Association) (area out : List ℕ) (call : Call) {n : ℕ} → n ≡ barred a (either (isShortArea area) (isShortOut out)) call → n ≡ 0 → 12 ≤ length out

@@ -14,10 +14,10 @@ use places::Place;
 use sending::Chosen;
 use states::Call;
 ghost use mathlib.Core.Path.{_≡_};
-ghost use Prim.Native.Nat.{_≤_};
+ghost use Prim.Native.Nat.{_≤_, _<_};
 ghost use lib.Dec.{ltb};
-ghost use lib.ListN.{length, getD};
-ghost use Rattle.scans.specs.Scan.{either};
+ghost use lib.ListN.{length};
+ghost use Rattle.scans.specs.Scan.{pick, either};
 ghost use Rattle.sending.specs.Sending.{noPlace};
 ghost use Rattle.calls.specs.Transmit.{dataOf, Bundle, bundled, bundleLength, bundleOut, transmitted, transmittedOut};
 ghost use Rattle.calls.specs.TransmitLaws.{Added};
@@ -80,12 +80,24 @@ fn no_place() -> Place
     }
 }
 
-fn place_at(ps: [Place; Rail::PLACES], i: u16) -> Place
-    ensures { λ r. ⌜ r ≡ getD ps i noPlace ⌝ }
+// Where place i is read: at 0, if there is none such.
+fn spot(i: u16) -> usize
+    ensures { λ r. ⌜ (r ≡ pick (ltb i 128) i 0) × (r < 128) ⌝ }
 {
     let k = i as usize;
     if k < Rail::PLACES {
-        return ps[k];
+        return k;
+    }
+    0
+}
+
+// Place i, for which p was read.
+fn place_at(p: Place, i: u16) -> Place
+    ensures { λ r. ⌜ r ≡ pick (ltb i 128) p noPlace ⌝ }
+{
+    let k = i as usize;
+    if k < Rail::PLACES {
+        return p;
     }
     no_place()
 }
@@ -108,7 +120,6 @@ fn bundle(f: Chosen, area: &[u8], out: &mut [u8]) -> usize
     ensures { λ r. ⌜ _≡_ {A = Bundle} (record { at = r; out = now (out .exit) }) (bundled (now (area .entry)) f (now (out .entry))) ⌝ }
 {
     let s = f.sending;
-    let ps = s.places;
     let chosen = f.places;
     let count = f.count;
     let mut at: usize = 12;
@@ -116,7 +127,9 @@ fn bundle(f: Chosen, area: &[u8], out: &mut [u8]) -> usize
     while k < RailPath::BUNDLED {
         if k < count {
             let i = chosen[k];
-            let p = place_at(ps, i);
+            let j = spot(i);
+            let q = s.places[j];
+            let p = place_at(q, i);
             at = add(p, i, area, at, out);
             k += 1;
         } else {

@@ -3,21 +3,22 @@ use Prim.Native.Nat.{_-_, _≤_}
 use mathlib.Core.Path.{_≡_, refl}
 use native.Mathlib.Omega.{arith}
 use borrow.Author.Needs.{needs}
-use borrow.Author.Tests.{lt-ltb, le-ltb}
+use borrow.Author.Tests.{le-ltb}
 use lib.ListN.{length}
-use Rattle.scans.specs.Scan.{Folding, fold-more, fold-end}
+use Rattle.scans.specs.Scan.{long-mapped, Folding, fold-more, fold-end}
 use Rattle.calls.specs.Transmit.{turned, bundled}
+use Rattle.calls.specs.TransmitLaws.{turned-one}
 use Rattle.calls.proofs.transmitting.bundle.Statement.{statement}
 use Rattle.calls.proofs.transmitting.bundle.Tie as tie
 
 abbrev Inv-loop : tie.InvT-loop
-Inv-loop area out₀ ps chosen count at₀ k₀ out at k = Folding (turned area count ps) (record { at = 12; out = out₀ }) chosen 26 k (record { at = at; out = out }) × (at ≤ length out) × (length out ≡ length out₀) × (at ≤ 12 + 65532 * k)
+Inv-loop area out₀ s chosen count at₀ k₀ out at k = Folding (turned area count (s .places)) (record { at = 12; out = out₀ }) chosen 26 k (record { at = at; out = out }) × (at ≤ length out) × (length out ≡ length out₀) × (at ≤ 12 + 65532 * k) × (length (s .places) ≡ 128)
 
 abbrev μ-loop : tie.MeasureT-loop
-μ-loop area out₀ ps chosen count at₀ k₀ out at k = 26 - k
+μ-loop area out₀ s chosen count at₀ k₀ out at k = 26 - k
 
 loop-holds : tie.Need-loop-holds Inv-loop μ-loop
-loop-holds c = (record { long = search needs; rest = refl }, omega arith, refl, omega arith)
+loop-holds c = (record { long = search needs; rest = refl }, omega arith, refl, omega arith, search (needs, long-mapped))
 
 mul-i : tie.Need-mul-i Inv-loop μ-loop
 mul-i c = search needs
@@ -25,11 +26,20 @@ mul-i c = search needs
 array-read-i : tie.Need-array-read-i Inv-loop μ-loop
 array-read-i c = search needs
 
+spot-requires : tie.Need-spot-requires Inv-loop μ-loop
+spot-requires c κs = search needs
+
+mul-q : tie.Need-mul-q Inv-loop μ-loop
+mul-q c = search needs
+
+element-copy-out-q : tie.Need-element-copy-out-q Inv-loop μ-loop
+element-copy-out-q c = search needs
+
 place-at-requires : tie.Need-place-at-requires Inv-loop μ-loop
 place-at-requires c κs = search needs
 
 add-requires : tie.Need-add-requires Inv-loop μ-loop
-add-requires c κs = (c .before .before .before .before .loop .inv .1, omega (arith, c .before .before .before .before .loop .inv .3, c .before .before .before .loop-test .taken))
+add-requires c κs = (c .before .before .before .before .before .before .loop .inv .1, omega (arith, c .before .before .before .before .before .before .loop .inv .3, c .before .before .before .before .before .loop-test .taken))
 
 add-k : tie.Need-add-k Inv-loop μ-loop
 add-k c = search needs
@@ -38,7 +48,14 @@ loop-less : tie.Need-loop-less Inv-loop μ-loop
 loop-less c = search needs
 
 loop-again : tie.Need-loop-again Inv-loop μ-loop
-loop-again c = (fold-more (c .before .before .before .before .before .before .before .loop .inv .0) 0 _ (c .before .before .before .before .before .before .loop-test .taken) (rw (lt-ltb _ _ (c .before .before .before .before .before .if1 .taken), ← c .before .before .before .before .place-at .ensures) (c .before .before .add .ensures .is)), omega (arith, c .before .before .add .ensures .within, c .before .before .before .before .before .before .before .loop .inv .2), omega (arith, c .before .before .before .before .before .before .before .loop .inv .2), omega (arith, c .before .before .add .ensures .near, c .before .before .before .before .before .before .before .loop .inv .3))
+loop-again c =
+    let w = c .before .before .before .before .before .before .before .before .before .loop .inv in (
+      fold-more (w .0) 0 _ (c .before .before .before .before .before .before .before .before .loop-test .taken) (turned-one _ _ (c .before .before .before .before .before .before .before .before .before .before .before .before .before .before .args .f .sending .places) _ _ _ (w .4) (c .before .before .before .before .before .before .before .if1 .taken) (c .before .before .before .before .before .before .spot .ensures .0) (c .before .before .before .before .place-at .ensures) (c .before .before .add .ensures .is)),
+      omega (arith, c .before .before .add .ensures .within, w .2),
+      omega (arith, w .2),
+      omega (arith, c .before .before .add .ensures .near, w .3),
+      w .4,
+    )
 
 add-k-2 : tie.Need-add-k-2 Inv-loop μ-loop
 add-k-2 c = search needs
@@ -47,7 +64,7 @@ loop-less-2 : tie.Need-loop-less-2 Inv-loop μ-loop
 loop-less-2 c = search needs
 
 loop-again-2 : tie.Need-loop-again-2 Inv-loop μ-loop
-loop-again-2 c = (fold-more (c .before .before .loop .inv .0) 0 _ (c .before .loop-test .taken) (rw (le-ltb _ _ (c .if1 .left))), c .before .before .loop .inv .1, c .before .before .loop .inv .2, omega (arith, c .before .before .loop .inv .3))
+loop-again-2 c = (fold-more (c .before .before .loop .inv .0) 0 _ (c .before .loop-test .taken) (rw (le-ltb _ _ (c .if1 .left))), c .before .before .loop .inv .1, c .before .before .loop .inv .2, omega (arith, c .before .before .loop .inv .3), c .before .before .loop .inv .4)
 
 same-length : tie.Need-same-length Inv-loop μ-loop
 same-length c = omega (arith, c .before .loop .inv .2)
@@ -65,6 +82,9 @@ bundle-spec =
     loop-holds
     mul-i
     array-read-i
+    spot-requires
+    mul-q
+    element-copy-out-q
     place-at-requires
     add-requires
     add-k

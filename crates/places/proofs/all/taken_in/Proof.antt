@@ -2,17 +2,17 @@ use native.Mathlib.Omega.{arith}
 use borrow.Author.Needs.{needs}
 use mathlib.Core.Path.{refl}
 use Prim.Native.Nat.{_-_}
-use Rattle.scans.specs.Upto.{Topping, top-start, top-more, top-end, map-on}
-use Rattle.scans.specs.Scan.{long-mapped, Mapping, map-end, Summing, sum-start, sum-more, sum-end}
+use Rattle.scans.specs.Upto.{Topping, top-start, top-more, top-end}
+use Rattle.scans.specs.Scan.{long-mapped, Mapping, map-next, map-more, map-end, Summing, sum-start, sum-more, sum-end}
 use Rattle.places.specs.Sack.{settled, newlyBytes, newlyOffset, takenIn}
 use Rattle.places.proofs.all.taken_in.Statement.{statement}
 use Rattle.places.proofs.all.taken_in.Tie as tie
 
 abbrev Inv-loop : tie.InvT-loop
-Inv-loop k from places ys₀ newly₀ highest₀ i₀ ys newly highest i = Mapping (settled k) places 128 i ys × Summing (λ p. newlyBytes p (settled k p)) 65551 places 128 i newly × Topping (λ p. newlyOffset from p (settled k p)) places 128 i highest
+Inv-loop k from places₀ newly₀ highest₀ i₀ places newly highest i = Mapping (settled k) places₀ 128 i places × Summing (λ p. newlyBytes p (settled k p)) 65551 places₀ 128 i newly × Topping (λ p. newlyOffset from p (settled k p)) places₀ 128 i highest
 
 abbrev μ-loop : tie.MeasureT-loop
-μ-loop k from places ys₀ newly₀ highest₀ i₀ ys newly highest i = 128 - i
+μ-loop k from places₀ newly₀ highest₀ i₀ places newly highest i = 128 - i
 
 loop-holds : tie.Need-loop-holds Inv-loop μ-loop
 loop-holds c = (record { long = search (needs, long-mapped); so-far = refl }, sum-start _ _ _ 128 (search (needs, long-mapped)), top-start _ _ 128 (search (needs, long-mapped)))
@@ -38,11 +38,11 @@ newly-offset-requires c κs = search needs
 greater-requires : tie.Need-greater-requires Inv-loop μ-loop
 greater-requires c κs = search needs
 
-mul-ys : tie.Need-mul-ys Inv-loop μ-loop
-mul-ys c = search needs
+mul-places : tie.Need-mul-places Inv-loop μ-loop
+mul-places c = search needs
 
-array-set-from-ys : tie.Need-array-set-from-ys Inv-loop μ-loop
-array-set-from-ys c = search needs
+array-set-from-places : tie.Need-array-set-from-places Inv-loop μ-loop
+array-set-from-places c = search needs
 
 add-i : tie.Need-add-i Inv-loop μ-loop
 add-i c = search needs
@@ -51,7 +51,13 @@ loop-less : tie.Need-loop-less Inv-loop μ-loop
 loop-less c = search needs
 
 loop-again : tie.Need-loop-again Inv-loop μ-loop
-loop-again c = (map-on (c .before .before .before .before .before .before .loop .inv .0) _ _ (c .before .before .before .before .before .loop-test .taken) (c .before .before .before .settled .ensures), sum-more (c .before .before .before .before .before .before .loop .inv .1) _ _ (c .before .before .before .before .before .loop-test .taken) (rw (c .before .before .before .settled .ensures) at (c .before .before .newly-bytes .ensures .0)) (c .before .before .newly-bytes .ensures .1), top-more (c .before .before .before .before .before .before .loop .inv .2) _ _ (c .before .before .before .before .before .loop-test .taken) (rw (c .before .newly-offset .ensures, c .before .before .before .settled .ensures) at (c .greater .ensures)))
+loop-again c =
+    let w = c .before .before .before .before .before .before .loop .inv in
+    let h = c .before .before .before .before .before .loop-test .taken in (
+      map-more (w .0) _ _ h (c .before .before .before .settled .ensures),
+      sum-more (w .1) _ _ h (rw (map-next (w .0)) at (rw (c .before .before .before .settled .ensures) at (c .before .before .newly-bytes .ensures .0))) (c .before .before .newly-bytes .ensures .1),
+      top-more (w .2) _ _ h (rw (map-next (w .0)) at (rw (c .before .newly-offset .ensures, c .before .before .before .settled .ensures) at (c .greater .ensures))),
+    )
 
 returns : tie.Need-returns Inv-loop μ-loop
 unfolding takenIn
@@ -71,8 +77,8 @@ taken-in-spec =
     add-newly
     newly-offset-requires
     greater-requires
-    mul-ys
-    array-set-from-ys
+    mul-places
+    array-set-from-places
     add-i
     loop-less
     loop-again
