@@ -1,14 +1,12 @@
 -- What the functions that fill a packet have to show. Assumes nothing.
 use Prim.Native.Nat.{ℕ, _+_, _-_, _≤_}
-use mathlib.Core.Path.{_≡_, refl, sym, ap, _∙_}
-use mathlib.Core.Bool.{Bool, true, false}
+use mathlib.Core.Path.{_≡_, sym, ap, _∙_}
 use mathlib.Core.List.{List, _++_}
 use native.Mathlib.Omega.{arith}
 use borrow.Author.Tests.{ltb-false, eq-eqb}
-use lib.Dec.{ltb}
 use lib.ListN.{length, take, drop}
 use Rattle.scans.specs.Scan.{either}
-use Rattle.scans.specs.Each.{clash}
+use Rattle.scans.specs.Each.{neither}
 use Rattle.numbers.specs.Profile.{rail}
 use Rattle.octets.specs.BytesLaws.{part-is}
 use Rattle.octets.specs.Writing.{Wrote, wroteCount, wroteAt}
@@ -51,12 +49,7 @@ module _ (at : ℕ) (xs : List ℕ) {bs ys : List ℕ} {r : ℕ} (h : at ≤ len
 -- the lent area and output are long enough
 pub both-roomy : (a : Association) (area out : List ℕ) (call : Call) {n : ℕ} → n ≡ barred a (either (isShortArea area) (isShortOut out)) call → n ≡ 0 → 12 ≤ length out
 both-roomy a area out call e z =
-    go (isShortArea area) (isShortOut out) refl (let-in a (either (isShortArea area) (isShortOut out)) call (sym e ∙ z) .0)
-  where
-    go : (s t : Bool) → ltb (length out) 1472 ≡ t → either s t ≡ false → 12 ≤ length out
-    go true t q h = clash (sym h)
-    go false true q h = clash (sym h)
-    go false false q h = omega (arith, ltb-false (length out) 1472 q)
+    omega (arith, ltb-false (length out) 1472 (neither (isShortArea area) (isShortOut out) (let-in a (either (isShortArea area) (isShortOut out)) call (sym e ∙ z) .0) .1))
 
 -- the packet that goes out
 module _ (a : Association) (area out : List ℕ) {exit mid : List ℕ} {n at m : ℕ} {f : Chosen} {h : Header} {b : Association} where
