@@ -1,6 +1,6 @@
 -- What a packet that arrives leaves, case by case. Assumes nothing.
 use Prim.Native.Nat.{ℕ, _+_, _-_, _≤_}
-use mathlib.Core.Path.{_≡_, refl, sym}
+use mathlib.Core.Path.{_≡_, refl}
 use mathlib.Core.Bool.{Bool, true, false}
 use mathlib.Core.List.{List, [], _++_}
 use native.Mathlib.Omega.{arith}
@@ -8,7 +8,7 @@ use borrow.Author.Tests.{ltb-true, ltb-false, eqb-true}
 use lib.Dec.{ltb, eqb}
 use lib.ListN.{length, drop}
 use Rattle.scans.specs.Scan.{pick, either}
-use Rattle.scans.specs.Each.{clash}
+use Rattle.scans.specs.Each.{neither}
 use Rattle.scans.specs.Upto.{pick-keeps}
 use Rattle.octets.specs.Bytes.{laid}
 use Rattle.octets.specs.Walk.{overItems}
@@ -117,12 +117,9 @@ module _ (a : Association) (area packet : List ℕ) (lent : Lent) (cookie : List
   -- a packet is let in only where the output is long enough for any reply
   pub let-in-long : numberOf a area packet e out ≡ 0 → 1472 ≤ length out
   unfolding lentNumber
-  let-in-long h = go (ltb (length area) leastArea) (ltb (length out) leastOut) refl (first-none a (either (ltb (length area) leastArea) (ltb (length out) leastOut)) 0 (both h .0) .1)
-    where
-      go : (s t : Bool) → ltb (length out) leastOut ≡ t → either s t ≡ false → leastOut ≤ length out
-      go true t e n = clash (sym n)
-      go false true e n = clash (sym n)
-      go false false e n = ltb-false (length out) leastOut e
+  let-in-long h =
+      ltb-false (length out) leastOut
+      (neither (ltb (length area) leastArea) (ltb (length out) leastOut) (first-none a (either (ltb (length area) leastArea) (ltb (length out) leastOut)) 0 (both h .0) .1) .1)
 
   -- and only if it is well formed
   pub let-in-shape : numberOf a area packet e out ≡ 0 → shapeNumber packet ≡ 0
