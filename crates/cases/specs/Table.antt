@@ -30,6 +30,7 @@ block a b = record { from = a; to = b } ∷ []
 abbrev leaves : ℕ → ℕ → List Block → ℕ → Answer
 leaves number point blocks held = left (record { number = number; point = point; blocks = blocks; held = held })
 
+-- C1 to C13, each with 01's own sentence
 abbrev pub table : List Case
 table =
     -- "C1: from 4,294,967,295 to 0: +1. C2: from 0 to 4,294,967,295: -1."

@@ -55,6 +55,7 @@ planned p b = leaving (ofAnswer (answerOf p (b .out))) (outOf p (b .out)) b
 abbrev pub kept : Plan → Buffers → Left
 kept p b = leaving (ofAnswer (answerOf p [])) (b .out) b
 
+-- a packet arrives: the area for held chunks and the output change, the area for sending stays
 abbrev pub arriving : Association → Lent → Echoed → Buffers → Left
 arriving a l e b = record {
   ran = ofArrived (arrivedOf a (b .received) (b .input) l (b .cookie) e (b .out));
@@ -63,6 +64,7 @@ arriving a l e b = record {
   out = arrival.outOf a (b .received) (b .input) l (b .cookie) e (b .out);
 }
 
+-- a message is handed in: only the area for sending changes
 abbrev pub handing : Association → StreamId → Bool → ℕ → Buffers → Left
 handing a stream unordered ppid b = record {
   ran = ofHandedIn (handedIn a (b .sent) (length (b .input)) stream unordered ppid);
@@ -79,6 +81,7 @@ unknownNumber a = pick (isSound a) 7 1
 unfoldable pub halves : ℕ → ℕ → List ℕ
 halves x y = be32 x ++ be32 y
 
+-- "One thin entry updates a record": each event is the call of its name
 unfoldable pub happened : Association → Event → Buffers → Left
 happened a (Packet l e) b = arriving a l e b
 happened a (Associate tag tsn port streams) b = planned (associating a tag tsn port streams (b .out)) b

@@ -22,15 +22,18 @@ at vs i = getD vs i 0
 abbrev pub shortAt : List ℕ → ℕ → ℕ
 shortAt vs i = at vs i % 65536
 
+-- the i-th value as a TSN, as a stream
 abbrev pub tsnAt : List ℕ → ℕ → Tsn
 tsnAt vs i = record { 0 = at vs i }
 
 abbrev pub streamAt : List ℕ → ℕ → StreamId
 streamAt vs i = record { 0 = shortAt vs i }
 
+-- what the host lends beside a packet: its tag, its first TSN, how many streams it wants
 abbrev pub lentOf : List ℕ → Lent
 lentOf vs = record { tag = at vs 0; tsn = tsnAt vs 1; streams = shortAt vs 2 }
 
+-- what the echoed cookie was made from
 abbrev pub madeOf : List ℕ → Made
 madeOf vs = record {
   «my_tag» = at vs 3;
@@ -42,6 +45,7 @@ madeOf vs = record {
   window = at vs 9;
 }
 
+-- the events that take values: our INIT; a message that is handed in; an ERROR with cause 3
 abbrev pub associateOf : List ℕ → Event
 associateOf vs = Associate (at vs 0) (tsnAt vs 1) (shortAt vs 2) (shortAt vs 3)
 
@@ -51,6 +55,7 @@ handInOf vs unordered = HandIn (streamAt vs 0) unordered (at vs 1)
 abbrev pub staleOf : List ℕ → Event
 staleOf vs = ErrorStale (shortAt vs 0) (at vs 1) (at vs 2)
 
+-- the event of a number and its values; a number that is none of these is no event
 unfoldable pub eventOf : ℕ → List ℕ → Event
 eventOf k vs =
     pick (eqb k 0) (Packet (lentOf vs) Bad)

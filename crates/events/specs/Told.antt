@@ -26,6 +26,7 @@ noneWent = record { resent = false; first = tsn0; last = tsn0 }
 abbrev pub noneSeen : Seen
 noneSeen = record { count = 0; verdicts = replicate 365 (unreadAt 0) }
 
+-- all that an event can tell, and the record after it; below, what each call fills of it
 abbrev pub telling : ℕ → ℕ → Bool → Went → Sack → Message → Seen → Association → Ran
 telling number length over went sack message seen a = record {
   told = record { number = number; length = length; over = over; went = went; sack = sack; message = message; seen = seen };

@@ -91,6 +91,7 @@ honest = record {
   agreed = λ n l. refl;
 }
 
+-- a lent area; only its first two places are used
 abbrev area : List ℕ
 area = replicate 1024 0
 
@@ -101,9 +102,11 @@ out = 5 ∷ (5 ∷ (5 ∷ []))
 abbrev short : List ℕ
 short = 5 ∷ []
 
+-- the chunk of a number arrives
 abbrev comes : ℕ → Event
 comes n = arrive (chunk n) (payload n)
 
+-- the second before the first, across the wrap; both taken, the first at the second try; then an unordered one behind a gap, and the same again
 abbrev events : List Event
 events =
     comes (first + 1)
@@ -130,6 +133,7 @@ sackAt point window blocks dups n = record {
   listed = n;
 }
 
+-- a SACK without a block
 abbrev noBlock : Blocks
 noBlock = record { count = 0; starts = replicate 64 0; ends = replicate 64 0 }
 
@@ -137,6 +141,7 @@ noBlock = record { count = 0; starts = replicate 64 0; ends = replicate 64 0 }
 abbrev blockAt2 : Blocks
 blockAt2 = record { count = 1; starts = 2 ∷ replicate 63 0; ends = 2 ∷ replicate 63 0 }
 
+-- the message of a number, as a take gives it
 abbrev message : ℕ → Bool → Message
 message n kind = record { length = 2; stream = record { 0 = 0 }; unordered = kind; ssn = record { 0 = n }; ppid = 7 }
 

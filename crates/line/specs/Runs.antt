@@ -30,6 +30,7 @@ use Rattle.line.specs.Reduce.{reduceChunk, reduce, reduceTaken, reduceSa
 
 -- ---- what is asked, and what is answered
 
+-- a call of the receiver
 pub data Event : Type 0 where
   -- a chunk arrives, with its payload
   arrive : Chunk → List ℕ → Event
@@ -37,6 +38,7 @@ pub data Event : Type 0 where
   take : List ℕ → Event
   sack : Event
 
+-- what it answers
 pub data Answer : Type 0 where
   -- 0, 9 to 14
   judges : Verdict → Answer

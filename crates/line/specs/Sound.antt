@@ -75,6 +75,7 @@ come-ahead k t l =
 
 -- ---- the invariant
 
+-- what holds of a receiver on the line after any run: p is its point, and a number is gone once its message was taken
 pub record Sound (P : Profile) (base : ℕ) (chunk : ℕ → Chunk) (size : ℕ → ℕ) (p : ℕ) (come : List Bool) (hs : List Held) (next : List Ssn) (gone : ℕ → ℕ) (least : ℕ) : Type 0 where
   pub held-long : length hs ≡ P .places
   pub come-long : length come ≡ P .places

@@ -98,6 +98,7 @@ advanced-all : (next : List Ssn) (h : Held) → h .unordered ≡ true → advanc
 unfolding advanced
 advanced-all next h e = rw e
 
+-- the next expected number of the chunk's stream, one further
 abbrev onMore : List Ssn → Held → Ssn
 onMore next h = record { 0 = getD next (h .stream .0) ssn0 .0 + 1 }
 

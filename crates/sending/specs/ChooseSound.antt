@@ -214,6 +214,7 @@ key-alone : (a : Tsn) (o u : ℕ) (p : Place) → keyOf true a u p ≡ keyOf tru
 unfolding keyOf
 key-alone a o u p = refl
 
+-- a chunk that waits, sent: it gets the next TSN
 abbrev newPlace : Profile → Sending → Place → Place
 newPlace P s p = record { status = 2; misses = p .misses; chunk = numbered P s (p .chunk) }
 
