@@ -120,17 +120,11 @@ fn rule_for(state: State, ends: Ends, s: &[u8], echoed: Echoed) -> Rule
     ensures { λ r. ⌜ r ≡ ruleFor state ends (now (s .entry)) echoed ⌝ }
 {
     let kind = chunks::kind::kind_of(s);
-    let t = chunks::frame::reflected(s);
-    match state {
-        State::Closed => rule_closed(kind, echoed),
-        State::CookieWait(_) => rule_open(kind, t, false, ends),
-        State::CookieEchoed(_) => rule_open(kind, t, true, ends),
-        State::Established => rule_open(kind, t, true, ends),
-        State::ShutdownPending => rule_open(kind, t, true, ends),
-        State::ShutdownSent(_) => rule_open(kind, t, true, ends),
-        State::ShutdownReceived => rule_open(kind, t, true, ends),
-        State::ShutdownAckSent(_) => rule_open(kind, t, true, ends),
+    if state.is_closed() {
+        return rule_closed(kind, echoed);
     }
+    let t = chunks::frame::reflected(s);
+    rule_open(kind, t, state.knows_peer(), ends)
 }
 
 fn is_tag(rule: Rule, tag: u32) -> bool

@@ -7,7 +7,7 @@ use steps::Reason;
 use steps::Told;
 ghost use mathlib.Core.Path.{_≡_};
 ghost use Rattle.steps.specs.Verdict.{numberOf, causeOf};
-ghost use Rattle.arriving.specs.Verdict.{fateCode, valueOf, reasonCode, eventCode, unreadAt, toldAt, verdictOf};
+ghost use Rattle.arriving.specs.Verdict.{fateCode, valueOf, reasonCode, eventCode, codesAt, unreadAt, toldAt, verdictOf};
 
 // Where the chunk begins in its packet; its fate; the number of a refusal; the call that it names, by its cause, and the TSN or stream that this call
 // takes; what happened to the association.
@@ -95,42 +95,9 @@ fn event_code(e: Event) -> u8
 }
 
 impl Verdict {
-    // The chunk was not read.
-    pub fn unread(at: usize) -> Verdict
-        ensures { λ r. ⌜ r ≡ unreadAt at ⌝ }
+    fn codes(at: usize, fate: Fate, named: Named, event: Event) -> Verdict
+        ensures { λ r. ⌜ r ≡ codesAt at fate named event ⌝ }
     {
-        Verdict {
-            at,
-            value: 0,
-            fate: 6,
-            number: 0,
-            cause: 0,
-            event: 0,
-        }
-    }
-
-    // A chunk that makes nothing happen.
-    pub fn told(at: usize, t: Told) -> Verdict
-        ensures { λ r. ⌜ r ≡ toldAt at t ⌝ }
-    {
-        let fate = t.fate;
-        let named = t.named;
-        Verdict {
-            at,
-            value: value_of(named),
-            fate: fate_code(fate),
-            number: number_of(fate),
-            cause: cause_of(named),
-            event: 0,
-        }
-    }
-
-    pub fn of(at: usize, d: Done) -> Verdict
-        ensures { λ r. ⌜ r ≡ verdictOf at d ⌝ }
-    {
-        let fate = d.fate;
-        let named = d.named;
-        let event = d.event;
         Verdict {
             at,
             value: value_of(named),
@@ -139,5 +106,30 @@ impl Verdict {
             cause: cause_of(named),
             event: event_code(event),
         }
+    }
+
+    // The chunk was not read.
+    pub fn unread(at: usize) -> Verdict
+        ensures { λ r. ⌜ r ≡ unreadAt at ⌝ }
+    {
+        Verdict::codes(at, Fate::Unread, Named::NoCall, Event::NoEvent)
+    }
+
+    // A chunk that makes nothing happen.
+    pub fn told(at: usize, t: Told) -> Verdict
+        ensures { λ r. ⌜ r ≡ toldAt at t ⌝ }
+    {
+        let fate = t.fate;
+        let named = t.named;
+        Verdict::codes(at, fate, named, Event::NoEvent)
+    }
+
+    pub fn of(at: usize, d: Done) -> Verdict
+        ensures { λ r. ⌜ r ≡ verdictOf at d ⌝ }
+    {
+        let fate = d.fate;
+        let named = d.named;
+        let event = d.event;
+        Verdict::codes(at, fate, named, event)
     }
 }

@@ -36,7 +36,7 @@ use Rattle.steps.specs.declared.verdict.Named.the-variants.{NoCall, Abor
 use Rattle.steps.specs.declared.verdict.Event.the-variants.{NoEvent}
 use Rattle.steps.specs.declared.verdict.Owed.the-variants.{Shutdown}
 use Rattle.steps.specs.declared.verdict.Told.{Told}
-use Rattle.steps.specs.Verdict.{Step, accepted, owing, refused, quiet}
+use Rattle.steps.specs.Verdict.{Step, accepted, owing, quiet}
 
 -- ---- DATA
 
@@ -134,10 +134,9 @@ sackCall n = pick (eqb n 16) AbortViolation NoCall
 abbrev pub toldSack : ℕ → Told
 toldSack n = record { fate = pick (eqb n 0) Accepted (Refused n); named = sackCall n }
 
--- 15 and 16 leave all
+-- what becomes of a SACK that the sending side answers so; 15 and 16 leave that side as it was (`refused-sack`), and so all
 abbrev pub sackRead : Association → Answer → Step
-sackRead a o =
-    pick (eqb (o .number) 0) (accepted (withSending a (o .sending)) NoEvent []) (refused a (o .number) (sackCall (o .number)))
+sackRead a o = quiet (withSending a (o .sending)) (toldSack (o .number))
 
 -- in ESTABLISHED (section 6.2.1)
 unfoldable pub readSack : Association → List ℕ → Step

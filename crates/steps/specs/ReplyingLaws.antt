@@ -31,7 +31,7 @@ use Rattle.steps.specs.declared.verdict.Reason.the-variants.{HostName}
 use Rattle.steps.specs.Verdict.{Step, accepted}
 use Rattle.steps.specs.VerdictLaws.{read-data-quiet, late-data-quiet, read-sack-quiet, pending-quiet, clear-quiet, error-quiet, pass-quiet}
 use Rattle.steps.specs.Opening.{isOdd, isPoor, isPoorLent, nameRefused, ackOf, answerInit, takeInitAck, echoedBack, readEchoed, readEcho}
-use Rattle.steps.specs.Carrying.{isLast, heardSack, sackRead, readSackReceived, echoHeartbeat}
+use Rattle.steps.specs.Carrying.{isLast, heardSack, readSackReceived, echoHeartbeat}
 use Rattle.steps.specs.Closing.{heardShutdown, shutdownAcked, shutdownRead, readShutdown, answerShutdown}
 use Rattle.steps.specs.Unknown.{tellUnknown}
 use Rattle.steps.specs.Replying.{Replying}
@@ -67,12 +67,9 @@ module _ (room : ℕ) (cookie s : List ℕ) where
     unfolding readEcho
     echo-replies e source = pick-keeps Replies (isOdd (partFrom 4 s .len)) _ _ (silent refl) (echoed-replies source e)
 
-    sack-replies : (o : Answer) → Replies (sackRead a o)
-    sack-replies o = pick-keeps Replies (eqb (o .number) 0) _ _ (silent refl) (silent refl)
-
     received-replies : Replies (readSackReceived a s)
     unfolding readSackReceived
-    received-replies = pick-keeps Replies (isLast (heardSack a s)) _ _ (shutdown-ack refl) (sack-replies (heardSack a s))
+    received-replies = pick-keeps Replies (isLast (heardSack a s)) _ _ (shutdown-ack refl) (silent refl)
 
     heartbeat-replies : Replies (echoHeartbeat a s)
     unfolding echoHeartbeat

@@ -1,15 +1,15 @@
 -- What is told of a step with its reply, or with none, and the bytes of a part. Assumes nothing.
 use Prim.Native.Nat.{ℕ, _+_, _-_, _≤_}
-use mathlib.Core.Path.{_≡_, refl, sym, ap, _∙_}
+use mathlib.Core.Path.{_≡_, refl, ap, _∙_}
 use mathlib.Core.List.{List, []}
 use native.Mathlib.Omega.{arith}
 use borrow.Author.Tests.{lt-ltb, le-ltb, leb-true, leb-false, not-false}
 use lib.ListN.{length, take, drop, length-take}
-use Rattle.octets.specs.Writing.{wroteCount, wroteBytes, Wrote}
+use Rattle.octets.specs.Writing.{wroteBytes, Wrote}
 use Rattle.octets.specs.WritingLaws.{wrote-none, wrote-most}
 use Rattle.chunks.specs.declared.frame.Part.{Part}
 use mathlib.Core.Bool.{Bool, true, false, not}
-use lib.Dec.{ltb, leb, eqb}
+use lib.Dec.{ltb, leb}
 use Rattle.scans.specs.Scan.{pick}
 use Rattle.scans.specs.Upto.{pick-keeps}
 use Rattle.chunks.specs.Frame.{bytesIn}
@@ -23,7 +23,6 @@ use Rattle.chunks.specs.declared.kind.Handling.{Handling}
 use Rattle.chunks.specs.declared.kind.Handling.the-variants.{Stop, StopAndReport, Skip, SkipAndReport}
 use Rattle.parameters.specs.Stale.{staleIn}
 use Rattle.delivery.specs.declared.arrival.Arrival.{Arrival}
-use Rattle.sending.specs.declared.acknowledging.Answer.{Answer}
 use Rattle.states.specs.declared.state.State.the-variants.{Closed, ShutdownSent}
 use Rattle.association.specs.declared.ends.Association.{Association}
 use Rattle.association.specs.Fresh.{withState, withReceiving, withSending}
@@ -31,9 +30,9 @@ use Rattle.steps.specs.declared.verdict.Done.{Done}
 use Rattle.steps.specs.declared.verdict.Event.the-variants.{NoEvent, Down}
 use Rattle.steps.specs.declared.verdict.Reason.the-variants.{StaleCookie}
 use Rattle.steps.specs.declared.verdict.Owed.the-variants.{Shutdown}
-use Rattle.steps.specs.Verdict.{Step, doneWith, doneIn, accepted, owing, refused}
+use Rattle.steps.specs.Verdict.{Step, doneWith, doneIn, accepted, owing}
 use Rattle.steps.specs.Opening.{isOdd}
-use Rattle.steps.specs.Carrying.{isKept, arrivalOf, dataRead, readData, readLateData, heardSack, sackCall, sackRead, isLast, readSack, readSackPending, clearTries}
+use Rattle.steps.specs.Carrying.{isKept, arrivalOf, dataRead, readData, readLateData, heardSack, sackRead, isLast, readSack, readSackPending, clearTries}
 use Rattle.steps.specs.Closing.{readError}
 use Rattle.steps.specs.Unknown.{passUnknown}
 
@@ -98,18 +97,14 @@ module _ (a : Association) (s : List ℕ) where
   late-data-quiet =
       either-quiet (isKept (arrivalOf a s .verdict)) (owing (withState (withReceiving a (arrivalOf a s .receiving)) (ShutdownSent 0)) NoEvent Shutdown) (dataRead a s (arrivalOf a s)) refl (data-quiet a s (arrivalOf a s))
 
-  sack-read-quiet : (o : Answer) → sackRead a o .reply ≡ []
-  sack-read-quiet o =
-      either-quiet (eqb (o .number) 0) (accepted (withSending a (o .sending)) NoEvent []) (refused a (o .number) (sackCall (o .number))) refl refl
-
   pub read-sack-quiet : readSack a s .reply ≡ []
   unfolding readSack
-  read-sack-quiet = sack-read-quiet (heardSack a s)
+  read-sack-quiet = refl
 
   pub pending-quiet : readSackPending a s .reply ≡ []
   unfolding readSackPending
   pending-quiet =
-      either-quiet (isLast (heardSack a s)) (owing (withState (withSending a (heardSack a s .sending)) (ShutdownSent 0)) NoEvent Shutdown) (sackRead a (heardSack a s)) refl (sack-read-quiet (heardSack a s))
+      either-quiet (isLast (heardSack a s)) (owing (withState (withSending a (heardSack a s .sending)) (ShutdownSent 0)) NoEvent Shutdown) (sackRead a (heardSack a s)) refl refl
 
   pub clear-quiet : clearTries a .reply ≡ []
   unfolding clearTries

@@ -19,7 +19,7 @@ use states::State;
 ghost use mathlib.Core.Path.{_≡_};
 ghost use Rattle.octets.specs.Writing.{wroteBytes};
 ghost use Rattle.steps.specs.Verdict.{doneIn, doneWith};
-ghost use Rattle.steps.specs.Carrying.{chunkOf, isKept, fateOf, callOf, arrivalIn, toldData, dataRead, readData, readLateData, areaData, areaIn, blocksOf, heardBy, sackCall, toldSack, readSack, readSackPending, readSackReceived, echoHeartbeat, clearTries};
+ghost use Rattle.steps.specs.Carrying.{chunkOf, isKept, fateOf, callOf, arrivalIn, toldData, dataRead, readData, readLateData, areaData, areaIn, blocksOf, heardBy, sackCall, toldSack, sackRead, readSack, isLast, readSackPending, readSackReceived, echoHeartbeat, clearTries};
 
 fn chunk_of(s: &[u8]) -> Chunk
     ensures { λ r. ⌜ r ≡ chunkOf (now (s .entry)) ⌝ }
@@ -109,20 +109,9 @@ fn data_read(mut a: Association, o: Arrival, s: &[u8]) -> Done
     ensures { λ r. ⌜ r ≡ doneWith 0 (dataRead a (now (s .entry)) o) ⌝ }
 {
     let v = o.verdict;
-    let t = tell_data(v, s);
-    let fate = t.fate;
-    let named = t.named;
     let after = o.receiving;
     a.receiving = after;
-    Done {
-        association: a,
-        fate,
-        named,
-        event: Event::NoEvent,
-        unread: false,
-        owed: Owed::Nothing,
-        written: 0,
-    }
+    Done::quiet(a, tell_data(v, s))
 }
 
 // A DATA chunk in ESTABLISHED or SHUTDOWN-PENDING.
@@ -205,18 +194,32 @@ pub fn tell_sack(number: u8) -> Told
     }
 }
 
+fn sack_read(mut a: Association, o: Answer) -> Done
+    ensures { λ r. ⌜ r ≡ doneWith 0 (sackRead a o) ⌝ }
+{
+    let after = o.sending;
+    a.sending = after;
+    Done::quiet(a, tell_sack(o.number))
+}
+
 // A SACK in ESTABLISHED.
-pub fn read_sack(mut a: Association, s: &[u8]) -> Done
+pub fn read_sack(a: Association, s: &[u8]) -> Done
     ensures { λ r. ⌜ r ≡ doneWith 0 (readSack a (now (s .entry))) ⌝ }
 {
     let sending = a.sending;
     let o = hear_sack(sending, s);
+    sack_read(a, o)
+}
+
+// Taken in, and nothing is left to send.
+fn is_last(o: Answer) -> bool
+    ensures { λ r. ⌜ r ≡ isLast o ⌝ }
+{
     if o.number == 0 {
         let after = o.sending;
-        a.sending = after;
-        return Done::accepted(a, Event::NoEvent, 0);
+        return after.is_empty();
     }
-    Done::refused(a, o.number, sack_call(o.number))
+    false
 }
 
 // A SACK in SHUTDOWN-PENDING: once nothing is left to send, SHUTDOWN goes out.
@@ -225,19 +228,16 @@ pub fn read_sack_pending(mut a: Association, s: &[u8]) -> Done
 {
     let sending = a.sending;
     let o = hear_sack(sending, s);
-    if o.number == 0 {
+    if is_last(o) {
         let after = o.sending;
         a.sending = after;
-        if after.is_empty() {
-            return Done::owing(
-                a.moved(State::ShutdownSent(0)),
-                Event::NoEvent,
-                Owed::Shutdown,
-            );
-        }
-        return Done::accepted(a, Event::NoEvent, 0);
+        return Done::owing(
+            a.moved(State::ShutdownSent(0)),
+            Event::NoEvent,
+            Owed::Shutdown,
+        );
     }
-    Done::refused(a, o.number, sack_call(o.number))
+    sack_read(a, o)
 }
 
 // A SACK in SHUTDOWN-RECEIVED: once nothing is left to send, SHUTDOWN ACK goes out.
@@ -246,16 +246,13 @@ pub fn read_sack_received(mut a: Association, s: &[u8], space: &mut [u8]) -> Don
 {
     let sending = a.sending;
     let o = hear_sack(sending, s);
-    if o.number == 0 {
+    if is_last(o) {
         let after = o.sending;
         a.sending = after;
-        if after.is_empty() {
-            let n = chunks::shutdown::write_shutdown_ack(space);
-            return Done::accepted(a.moved(State::ShutdownAckSent(0)), Event::NoEvent, n);
-        }
-        return Done::accepted(a, Event::NoEvent, 0);
+        let n = chunks::shutdown::write_shutdown_ack(space);
+        return Done::accepted(a.moved(State::ShutdownAckSent(0)), Event::NoEvent, n);
     }
-    Done::refused(a, o.number, sack_call(o.number))
+    sack_read(a, o)
 }
 
 // A HEARTBEAT is echoed.
