@@ -1,4 +1,4 @@
-// The thin entry. Its proof is a walk over its MIR, which `tools/gen_entry` writes from `tools/entry.json`.
+// The thin entry, which `lending` proves from what `running::run_coded` promises.
 use crate::running;
 use association::Association;
 use events::Told;

@@ -1,3 +1,4 @@
--- Where the structs of a call have their fields, and that each promise leaves one outcome.
+-- The outcomes of the calls, where the structs of a call have their fields, and that each promise leaves one outcome.
+pub mod Outcomes
 pub mod Sizes
 pub mod Unique

@@ -1,5 +1,5 @@
 // What a host in C or Rust links: one function for each call, over a record without an enum that the host lends. `include/oilwhisper.h` says it in C.
-// The proof of each is a walk over its MIR, which `tools/gen_entry` writes from `tools/surface.json`; not so of `ow_closed` and `ow_peek`, which are lent no record.
+// What `lending` shows of a function over a lent record proves each of them but `ow_closed` and `ow_peek`, which are lent none.
 pub mod acknowledging;
 pub mod arrival;
 pub mod closing;
