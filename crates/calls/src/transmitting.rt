@@ -5,8 +5,6 @@ use crate::timers;
 use association::Association;
 use chunks::data::Data;
 use numbers::Rail;
-use numbers::Ssn;
-use numbers::StreamId;
 use numbers::Tsn;
 use path::RailPath;
 use places::Chunk;
@@ -59,27 +57,6 @@ fn data_of(c: Chunk) -> Data
     }
 }
 
-fn no_place() -> Place
-    ensures { λ r. ⌜ r ≡ noPlace ⌝ }
-{
-    let chunk = Chunk {
-        tsn: Tsn(0),
-        order: 0,
-        stream: StreamId(0),
-        ssn: Ssn(0),
-        ppid: 0,
-        len: 0,
-        begin: false,
-        end: false,
-        unordered: false,
-    };
-    Place {
-        status: Place::FREE,
-        misses: 0,
-        chunk,
-    }
-}
-
 // Where place i is read: at 0, if there is none such.
 fn spot(i: u16) -> usize
     ensures { λ r. ⌜ (r ≡ pick (ltb i 128) i 0) × (r < 128) ⌝ }
@@ -99,7 +76,7 @@ fn place_at(p: Place, i: u16) -> Place
     if k < Rail::PLACES {
         return p;
     }
-    no_place()
+    sending::no_place()
 }
 
 // The chunk of place i behind those that end at `at`.

@@ -26,6 +26,7 @@ use Rattle.sending.specs.declared.acknowledging.Answer.{Answer}
 use Rattle.sending.specs.declared.sending.Sending.{Sending}
 use Rattle.sending.specs.Acknowledge as sender
 use Rattle.sending.specs.Sending.{isBare, heard}
+use Rattle.states.specs.declared.state.State.{State}
 use Rattle.states.specs.declared.state.State.the-variants.{ShutdownSent, ShutdownAckSent}
 use Rattle.association.specs.declared.ends.Association.{Association}
 use Rattle.association.specs.Fresh.{withState, withReceiving, withSending}
@@ -99,11 +100,19 @@ dataRead a s o = quiet (withReceiving a (o .receiving)) (toldData (o .verdict) s
 unfoldable pub readData : Association → List ℕ → Step
 readData a s = dataRead a s (arrivalOf a s)
 
+-- SHUTDOWN goes out behind all else, and its tries begin (section 9.2)
+abbrev pub shutdownOwed : Association → Step
+shutdownOwed a = owing (withState a (ShutdownSent 0)) NoEvent Shutdown
+
+-- SHUTDOWN ACK goes out
+abbrev pub shutdownAcked : Association → State → Step
+shutdownAcked a state = accepted (withState a state) NoEvent shutdownAckBytes
+
 -- in SHUTDOWN-SENT a chunk that is held is answered by a SHUTDOWN (section 9.2), and the tries begin anew
 unfoldable pub readLateData : Association → List ℕ → Step
 readLateData a s =
     pick (isKept (arrivalOf a s .verdict))
-    (owing (withState (withReceiving a (arrivalOf a s .receiving)) (ShutdownSent 0)) NoEvent Shutdown)
+    (shutdownOwed (withReceiving a (arrivalOf a s .receiving)))
     (dataRead a s (arrivalOf a s))
 
 -- what then stands in the lent area
@@ -152,12 +161,11 @@ sackReadThen last a o = pick (isLast o) (last (withSending a (o .sending))) (sac
 
 -- SHUTDOWN-PENDING: SHUTDOWN goes out
 unfoldable pub readSackPending : Association → List ℕ → Step
-readSackPending a s = sackReadThen (λ (q : Association). owing (withState q (ShutdownSent 0)) NoEvent Shutdown) a (heardSack a s)
+readSackPending a s = sackReadThen shutdownOwed a (heardSack a s)
 
 -- SHUTDOWN-RECEIVED: SHUTDOWN ACK goes out
 unfoldable pub readSackReceived : Association → List ℕ → Step
-readSackReceived a s =
-    sackReadThen (λ (q : Association). accepted (withState q (ShutdownAckSent 0)) NoEvent shutdownAckBytes) a (heardSack a s)
+readSackReceived a s = sackReadThen (λ (q : Association). shutdownAcked q (ShutdownAckSent 0)) a (heardSack a s)
 
 -- ---- HEARTBEAT
 

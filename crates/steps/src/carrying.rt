@@ -19,7 +19,7 @@ use states::State;
 ghost use mathlib.Core.Path.{_≡_};
 ghost use Rattle.octets.specs.Writing.{wroteBytes};
 ghost use Rattle.steps.specs.Verdict.{doneIn, doneWith};
-ghost use Rattle.steps.specs.Carrying.{chunkOf, isKept, fateOf, callOf, arrivalIn, toldData, dataRead, readData, readLateData, areaData, areaIn, blocksOf, heardBy, sackCall, toldSack, sackRead, readSack, isLast, readSackPending, readSackReceived, echoHeartbeat, clearTries};
+ghost use Rattle.steps.specs.Carrying.{chunkOf, isKept, fateOf, callOf, arrivalIn, toldData, dataRead, readData, shutdownOwed, shutdownAcked, readLateData, areaData, areaIn, blocksOf, heardBy, sackCall, toldSack, sackRead, readSack, isLast, readSackPending, readSackReceived, echoHeartbeat, clearTries};
 
 fn chunk_of(s: &[u8]) -> Chunk
     ensures { λ r. ⌜ r ≡ chunkOf (now (s .entry)) ⌝ }
@@ -124,6 +124,25 @@ pub fn read_data(a: Association, area: &mut [u8], s: &[u8]) -> Done
     data_read(a, o, s)
 }
 
+// SHUTDOWN goes out behind all else, and its tries begin.
+fn owe_shutdown(a: Association) -> Done
+    ensures { λ r. ⌜ r ≡ doneWith 0 (shutdownOwed a) ⌝ }
+{
+    Done::owing(
+        a.moved(State::ShutdownSent(0)),
+        Event::NoEvent,
+        Owed::Shutdown,
+    )
+}
+
+// SHUTDOWN ACK goes out in a state of its own.
+pub(crate) fn acknowledge_shutdown(a: Association, state: State, space: &mut [u8]) -> Done
+    ensures { λ r. ⌜ (r ≡ doneIn (now (space .entry)) (shutdownAcked a state)) × (now (space .exit) ≡ wroteBytes (now (space .entry)) (shutdownAcked a state .reply)) ⌝ }
+{
+    let n = chunks::shutdown::write_shutdown_ack(space);
+    Done::accepted(a.moved(state), Event::NoEvent, n)
+}
+
 // A DATA chunk in SHUTDOWN-SENT: one that is held is answered by a SHUTDOWN, and the tries begin anew.
 pub fn read_late_data(mut a: Association, area: &mut [u8], s: &[u8]) -> Done
     ensures { λ r. ⌜ (r ≡ doneWith 0 (readLateData a (now (s .entry)))) × (now (area .exit) ≡ areaData a (now (area .entry)) (now (s .entry))) ⌝ }
@@ -135,11 +154,7 @@ pub fn read_late_data(mut a: Association, area: &mut [u8], s: &[u8]) -> Done
     if is_kept(v) {
         let after = o.receiving;
         a.receiving = after;
-        return Done::owing(
-            a.moved(State::ShutdownSent(0)),
-            Event::NoEvent,
-            Owed::Shutdown,
-        );
+        return owe_shutdown(a);
     }
     data_read(a, o, s)
 }
@@ -231,11 +246,7 @@ pub fn read_sack_pending(mut a: Association, s: &[u8]) -> Done
     if is_last(o) {
         let after = o.sending;
         a.sending = after;
-        return Done::owing(
-            a.moved(State::ShutdownSent(0)),
-            Event::NoEvent,
-            Owed::Shutdown,
-        );
+        return owe_shutdown(a);
     }
     sack_read(a, o)
 }
@@ -249,8 +260,7 @@ pub fn read_sack_received(mut a: Association, s: &[u8], space: &mut [u8]) -> Don
     if is_last(o) {
         let after = o.sending;
         a.sending = after;
-        let n = chunks::shutdown::write_shutdown_ack(space);
-        return Done::accepted(a.moved(State::ShutdownAckSent(0)), Event::NoEvent, n);
+        return acknowledge_shutdown(a, State::ShutdownAckSent(0), space);
     }
     sack_read(a, o)
 }
