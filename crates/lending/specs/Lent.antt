@@ -156,22 +156,24 @@ module _ {n : ℕ} where
     all-flat (s ∷ ss) ps x = ap (λ (vs : List Val). valOf (ps .0 .kind) (ps .0 .mach κs (x .0)) ∷ vs) (all-flat ss (ps .1) (x .1))
 
 -- ---- the contract: of the reference and of what stands behind it, with an `ensures` Q and no `requires`
-module _ (T R : RattleType) {n : ℕ} (ss : List (Slot (suc n))) (ls : Kepts ss) where
+module _ (T R : RattleType) {n : ℕ} (ss : List (Slot (suc n))) where
   abbrev signature : Signature
   signature = record { lifetimes = suc n; outlives = []; params = mutRefTo (0 ∷ []) tt (plain (λ _. T)) ∷ ss; result = plain (λ _. R) }
 
-  abbrev ended : Ended
-  ended = record { signature = signature; kept = (yes, ls) }
+  module _ (ls : Kepts ss) where
+    abbrev ended : Ended
+    ended = record { signature = signature; kept = (yes, ls) }
 
-  abbrev Ensures : {M : Type 1} → URA M → Type 2
-  Ensures 𝓤 = (κs : Lfts (suc n)) → Args signature κs → R .Denot → AtExit ended κs → SProp 𝓤
+    -- of the arguments, the answer and the parameters at exit
+    abbrev Ensures : {M : Type 1} → URA M → Type 2
+    Ensures 𝓤 = (κs : Lfts (suc n)) → Args signature κs → R .Denot → AtExit ended κs → SProp 𝓤
 
-  abbrev promise : {M : Type 1} (𝓤 : URA M) (H : Heap 𝓤) (A : Atoms 𝓤) → Ensures 𝓤 → Spec 𝓤 signature
-  promise 𝓤 H A Q = closing 𝓤 H A ended (λ κs a. record { ghost = Unit {0}; requires = λ _. emp 𝓤; ensures = λ _. Q κs a })
+    abbrev promise : {M : Type 1} (𝓤 : URA M) (H : Heap 𝓤) (A : Atoms 𝓤) → Ensures 𝓤 → Spec 𝓤 signature
+    promise 𝓤 H A Q = closing 𝓤 H A ended (λ κs a. record { ghost = Unit {0}; requires = λ _. emp 𝓤; ensures = λ _. Q κs a })
 
-module _ {T R O : RattleType} {t : Valued T} {r : Valued R} (o : Outcome t r O) {n : ℕ} (ss : List (Slot (suc n))) (ls : Kepts ss) (ps : Passes ss)
+module _ {T R O : RattleType} {t : Valued T} {r : Valued R} (o : Outcome t r O) {n : ℕ} (ss : List (Slot (suc n))) (ls : Kepts ss)
     {M : Type 1} (𝓤 : URA M) (H : Heap 𝓤) (A : Atoms 𝓤) (Q : Ensures T R ss ls 𝓤) where
-  module _ (κs : Lfts (suc n)) (qs : Shares (suc n)) (a : Args (signature T R ss ls) κs) where
+  module _ (κs : Lfts (suc n)) (qs : Shares (suc n)) (a : Args (signature T R ss) κs) where
     -- Q of the answer, the record and the other last values
     abbrev Said : R .Denot → T .Denot → Fins κs ss ls (a .1) → SProp 𝓤
     Said y h z = Q κs a y (at-last (a .0) h, outs κs ss ls (a .1) z)
@@ -193,43 +195,44 @@ module _ {T R O : RattleType} {t : Valued T} {r : Valued R} (o : Outcome t r O) 
 
   -- a run of `step` meets by value what the function is to meet
   abbrev pub Steps : Fun 𝓤 → Type 1
-  Steps run = (κs : Lfts (suc n)) (qs : Shares (suc n)) (a : Args (signature T R ss ls) κs) (vss : Valss (typesAt ss κs)) → ent 𝓤 (sep 𝓤 (Brought κs qs a vss) (emp 𝓤)) (run (t .val (a .0 .now) ∷ flat (typesAt ss κs) vss) (Stepped κs qs a))
+  Steps run = (κs : Lfts (suc n)) (qs : Shares (suc n)) (a : Args (signature T R ss) κs) (vss : Valss (typesAt ss κs)) → ent 𝓤 (sep 𝓤 (Brought κs qs a vss) (emp 𝓤)) (run (t .val (a .0 .now) ∷ flat (typesAt ss κs) vss) (Stepped κs qs a))
 
-  module _ (W : Given 𝓤 H A) (C : Calls 𝓤 H) (Λ : Loops 𝓤 H) (fm : FmC 𝓤 H (W .laws) C) (key : S.Name) (steps : Steps (C key)) where
+  module _ (ps : Passes ss) (W : Given 𝓤 H A) (C : Calls 𝓤 H) (Λ : Loops 𝓤 H) (fm : FmC 𝓤 H (W .laws) C) (key : S.Name) (steps : Steps (C key)) where
     -- the function's MIR, and the other parameters' machine values
     abbrev runs-code : Fun 𝓤
     runs-code = WpFn 𝓤 H C Λ (code o (kinds ss ps) (suc n) key)
 
-    abbrev spelt-out : (κs : Lfts (suc n)) → Args (signature T R ss ls) κs → Valss (typesAt ss κs)
+    abbrev spelt-out : (κs : Lfts (suc n)) → Args (signature T R ss) κs → Valss (typesAt ss κs)
     spelt-out κs a = valss (typesAt ss κs) (spells κs ss ps) (a .1)
 
     -- the walk, at each choice of lifetimes, shares and arguments
-    walk-at : (κs : Lfts (suc n)) (qs : Shares (suc n)) (a : Args (signature T R ss ls) κs) → Are (typesAt ss κs) (Ises (typesAt ss κs)) (a .1) (spelt-out κs a)
-        → ent 𝓤 (onEntry 𝓤 H A (signature T R ss ls) κs qs a (ptr-vals (a .0), spelt-out κs a)) (runs-code (ptr-vals (a .0) ++ flat (typesAt ss κs) (spelt-out κs a)) (Done κs qs a))
+    walk-at : (κs : Lfts (suc n)) (qs : Shares (suc n)) (a : Args (signature T R ss) κs) → Are (typesAt ss κs) (Ises (typesAt ss κs)) (a .1) (spelt-out κs a)
+        → ent 𝓤 (onEntry 𝓤 H A (signature T R ss) κs qs a (ptr-vals (a .0), spelt-out κs a)) (runs-code (ptr-vals (a .0) ++ flat (typesAt ss κs) (spelt-out κs a)) (Done κs qs a))
     walk-at κs qs a are =
         let P : SProp 𝓤 = Brought κs qs a (spelt-out κs a) in
-        subst (λ (us : List Val). ent 𝓤 (onEntry 𝓤 H A (signature T R ss ls) κs qs a (ptr-vals (a .0), spelt-out κs a)) (runs-code (ptr-vals (a .0) ++ us) (Done κs qs a))) (all-flat κs ss ps (a .1))
+        subst (λ (us : List Val). ent 𝓤 (onEntry 𝓤 H A (signature T R ss) κs qs a (ptr-vals (a .0), spelt-out κs a)) (runs-code (ptr-vals (a .0) ++ us) (Done κs qs a))) (all-flat κs ss ps (a .1))
         (walk o 𝓤 H A (Tokens κs qs a) (Fins κs ss ls (a .1)) (lastsOf κs ss ls (a .1)) (Said κs qs a) W (κs .0) (qs .0) (a .0 .ptr .0) (a .0 .ptr .1) (a .0 .name) (kinds ss ps) (machs κs ss ps (a .1)) (a .0 .now) C Λ
         (owns (typesAt ss κs) (a .1) (spelt-out κs a)) (all-fit κs 𝓤 H A W ss ps (a .1) are) fm (suc n) key
         (subst (λ (us : List Val). ent 𝓤 P (C key (t .val (a .0 .now) ∷ us) (Stepped κs qs a))) (sym (all-flat κs ss ps (a .1)))
         (via 𝓤 (sep 𝓤 P (emp 𝓤)) (via 𝓤 (sep 𝓤 (emp 𝓤) P) (emp∗ 𝓤 P) (comm∗ 𝓤 (emp 𝓤) P)) (steps κs qs a (spelt-out κs a)))))
 
-    meets : Meets 𝓤 H A (signature T R ss ls) runs-code (promise T R ss ls 𝓤 H A Q)
+    -- at the machine values that the types tell
+    meets : Meets 𝓤 H A (signature T R ss) runs-code (promise T R ss ls 𝓤 H A Q)
     meets y =
         let κs : Lfts (suc n) = y .0 .0 in
-        via 𝓤 (onEntry 𝓤 H A (signature T R ss ls) κs (y .0 .1) (y .0 .3) (y .0 .4)) (fst∗ 𝓤 _ (emp 𝓤))
-        (said 𝓤 H A (signature T R ss ls) κs (y .0 .1) (ptr-vals, spells κs ss ps) (mut-tells (named 0) (κs .0) T, all-told κs ss ps) (y .0 .3)
-        (λ vss. runs-code (flat (typesAt (signature T R ss ls .params) κs) vss) (Done κs (y .0 .1) (y .0 .3))) (y .0 .4) (λ are. walk-at κs (y .0 .1) (y .0 .3) (are .1)))
+        via 𝓤 (onEntry 𝓤 H A (signature T R ss) κs (y .0 .1) (y .0 .3) (y .0 .4)) (fst∗ 𝓤 _ (emp 𝓤))
+        (said 𝓤 H A (signature T R ss) κs (y .0 .1) (ptr-vals, spells κs ss ps) (mut-tells (named 0) (κs .0) T, all-told κs ss ps) (y .0 .3)
+        (λ vss. runs-code (flat (typesAt (signature T R ss .params) κs) vss) (Done κs (y .0 .1) (y .0 .3))) (y .0 .4) (λ are. walk-at κs (y .0 .1) (y .0 .3) (are .1)))
 
--- ---- the theorem, over the function's own MIR, in the environment γ in which its calls stand
+-- ---- the theorem. In the environment γ the function is `own`, of the MIR fn, and `key` is `step`
 module _ {T R O : RattleType} {t : Valued T} {r : Valued R} (o : Outcome t r O) {n : ℕ} (ss : List (Slot (suc n))) (ls : Kepts ss) (ps : Passes ss)
     {M : Type 1} (𝓤 : URA M) (H : Heap 𝓤) (𝓜 : Model 𝓤 H) (𝓖 : GhostRules 𝓤 H) (𝓡 : Running 𝓤 H 𝓜) (Q : Ensures T R ss ls 𝓤) where
   pub lent-meets : (γ : Env) (own key : S.Name) (fn : S.Fn) → Closed 𝓤 H (tables 𝓤 H 𝓜 𝓡 γ .C) (tables 𝓤 H 𝓜 𝓡 γ .Λ) own fn → code o (kinds ss ps) (suc n) key ≡ fn → (step : Routine) → γ key ≡ step
-      → Steps o ss ls ps 𝓤 H (𝓖 .A) Q (𝓡 .run step) → Meets 𝓤 H (𝓖 .A) (signature T R ss ls) (𝓡 .run (γ own)) (promise T R ss ls 𝓤 H (𝓖 .A) Q)
+      → Steps o ss ls 𝓤 H (𝓖 .A) Q (𝓡 .run step) → Meets 𝓤 H (𝓖 .A) (signature T R ss) (𝓡 .run (γ own)) (promise T R ss ls 𝓤 H (𝓖 .A) Q)
   unfolding tablesOf
   lent-meets γ own key fn closed is step calls steps =
       let W : Given 𝓤 H (𝓖 .A) = givenOf 𝓤 H 𝓜 𝓖 in
       let 𝓣 : Tables 𝓤 H = tablesOf 𝓤 H 𝓜 (tables 𝓤 H 𝓜 𝓡 γ) in
-      entered 𝓤 H (tripleOf 𝓤 H (𝓖 .A) (signature T R ss ls) (promise T R ss ls 𝓤 H (𝓖 .A) Q)) (tables 𝓤 H 𝓜 𝓡 γ .C) (tables 𝓤 H 𝓜 𝓡 γ .Λ) own fn closed
-      (subst (λ (g : S.Fn). Meets 𝓤 H (𝓖 .A) (signature T R ss ls) (WpFn 𝓤 H (𝓣 .C) (𝓣 .Λ) g) (promise T R ss ls 𝓤 H (𝓖 .A) Q)) is
-      (meets o ss ls ps 𝓤 H (𝓖 .A) Q W (𝓣 .C) (𝓣 .Λ) (fmOf 𝓤 H (W .laws) 𝓣) key (subst (λ (s : Routine). Steps o ss ls ps 𝓤 H (𝓖 .A) Q (𝓡 .run s)) (sym calls) steps)))
+      entered 𝓤 H (tripleOf 𝓤 H (𝓖 .A) (signature T R ss) (promise T R ss ls 𝓤 H (𝓖 .A) Q)) (tables 𝓤 H 𝓜 𝓡 γ .C) (tables 𝓤 H 𝓜 𝓡 γ .Λ) own fn closed
+      (subst (λ (g : S.Fn). Meets 𝓤 H (𝓖 .A) (signature T R ss) (WpFn 𝓤 H (𝓣 .C) (𝓣 .Λ) g) (promise T R ss ls 𝓤 H (𝓖 .A) Q)) is
+      (meets o ss ls 𝓤 H (𝓖 .A) Q ps W (𝓣 .C) (𝓣 .Λ) (fmOf 𝓤 H (W .laws) 𝓣) key (subst (λ (s : Routine). Steps o ss ls 𝓤 H (𝓖 .A) Q (𝓡 .run s)) (sym calls) steps)))
