@@ -444,41 +444,51 @@ fn same_told(m: Message, i: u32) -> bool {
     m.ppid == i
 }
 
+// A take that finds nothing, or too little room, leaves the output as it was.
+fn is_untouched(out: &[u8; ROOM]) -> bool {
+    same_bytes(out, 0, 24, 255)
+}
+
+fn same_nothing(out: &[u8; ROOM], i: u32) -> bool {
+    if i != NUMBERS {
+        return false;
+    }
+    is_untouched(out)
+}
+
+fn same_short(out: &[u8; ROOM], i: u32, k: u64, need: u32, room: u32) -> bool {
+    if i == NUMBERS {
+        return false;
+    }
+    if k != need as u64 {
+        return false;
+    }
+    if need <= room {
+        return false;
+    }
+    is_untouched(out)
+}
+
+fn same_taken(m: Message, out: &[u8; ROOM], i: u32, need: u32, room: u32) -> bool {
+    if i == NUMBERS {
+        return false;
+    }
+    if room < need {
+        return false;
+    }
+    if !same_told(m, i) {
+        return false;
+    }
+    same_message(out, i, chunks(i))
+}
+
 // The answer to a take into `room` bytes, where the line receiver's lowest message begins with number i.
 fn same_take(a: Answer, out: &[u8; ROOM], i: u32, room: u32) -> bool {
-    let n = chunks(i);
-    let need = length_of(i, n);
+    let need = length_of(i, chunks(i));
     match a {
-        Answer::Nothing => {
-            if i != NUMBERS {
-                return false;
-            }
-            same_bytes(out, 0, 24, 255)
-        }
-        Answer::Short(k) => {
-            if i == NUMBERS {
-                return false;
-            }
-            if k as u64 != need as u64 {
-                return false;
-            }
-            if need <= room {
-                return false;
-            }
-            same_bytes(out, 0, 24, 255)
-        }
-        Answer::Taken(m) => {
-            if i == NUMBERS {
-                return false;
-            }
-            if room < need {
-                return false;
-            }
-            if !same_told(m, i) {
-                return false;
-            }
-            same_message(out, i, n)
-        }
+        Answer::Nothing => same_nothing(out, i),
+        Answer::Short(k) => same_short(out, i, k as u64, need, room),
+        Answer::Taken(m) => same_taken(m, out, i, need, room),
     }
 }
 
@@ -596,18 +606,39 @@ fn random(x: u64) -> u64 {
     b ^ (b << 17)
 }
 
-// One event, as the number x says: near the point, up to 150 ahead, any before it; a take, a take into 3 bytes; a SACK.
-fn step(b: Both, area: &mut [u8; 65536], status: &mut [u8; 512], x: u64) -> Both {
-    let point = b.line.point as u64;
-    let y = x / 16;
-    match x % 16 {
-        0 | 1 | 2 | 3 | 4 | 5 | 6 => arrive(b, area, status, capped(point + y % 6)),
-        7 | 8 | 9 => arrive(b, area, status, capped(point + y % 150)),
-        10 => arrive(b, area, status, capped(y % (point + 1))),
-        11 => take(b, area, status, 3),
-        12 => sack(b, status),
-        _ => take(b, area, status, ROOM),
+// The number that arrives: near the point, up to 150 ahead, any before it.
+fn arriving(point: u32, kind: u64, y: u64) -> u32 {
+    let p = point as u64;
+    if kind < 7 {
+        return capped(p + y % 6);
     }
+    if kind < 10 {
+        return capped(p + y % 150);
+    }
+    capped(y % (p + 1))
+}
+
+// A take into 3 bytes, or into all.
+fn room_of(kind: u64) -> usize
+    ensures { λ r. ⌜ r ≤ 24 ⌝ }
+{
+    if kind == 11 {
+        return 3;
+    }
+    ROOM
+}
+
+// One event, as the number x says: a chunk that arrives, a take, a SACK.
+fn step(b: Both, area: &mut [u8; 65536], status: &mut [u8; 512], x: u64) -> Both {
+    let kind = x % 16;
+    if kind < 11 {
+        let i = arriving(b.line.point, kind, x / 16);
+        return arrive(b, area, status, i);
+    }
+    if kind == 12 {
+        return sack(b, status);
+    }
+    take(b, area, status, room_of(kind))
 }
 
 fn fresh() -> Both {
@@ -667,6 +698,18 @@ fn run(seed: u64) -> Both {
     b
 }
 
+fn answered(b: Both) {
+    let seen = b.seen;
+    text(b"  answered:");
+    print_seen(seen);
+    text(b" | 0 11 13 17 18\n");
+}
+
+fn ended(b: Both) {
+    said(b"  past the end of the TSNs:", 50 < b.line.point);
+    said(b"  past the end of the SSNs:", 65536 < b.line.next0);
+}
+
 fn plan(seed: u64) {
     let b = run(seed);
     text(b"plan ");
@@ -674,12 +717,8 @@ fn plan(seed: u64) {
     text(b": differences ");
     io::print_decimal(STDOUT_FILENO, b.differ as u64);
     text(b" | 0\n");
-    text(b"  answered:");
-    let seen = b.seen;
-    print_seen(seen);
-    text(b" | 0 11 13 17 18\n");
-    said(b"  past the end of the TSNs:", 50 < b.line.point);
-    said(b"  past the end of the SSNs:", 65536 < b.line.next0);
+    answered(b);
+    ended(b);
 }
 
 fn main() {

@@ -10,8 +10,10 @@ use crate::reading::value16;
 use crate::reading::value32;
 use crate::reading::word;
 use crate::showing;
+use arriving::Arrived;
 use association::Association;
 use calls::Answer;
+use calls::HandedIn;
 use calls::Peeked;
 use calls::Reason;
 use calls::Transmitted;
@@ -37,7 +39,7 @@ pub(crate) struct Host {
     pub(crate) made: Made,
 }
 
-// The record after an event, the length of the packet that it wrote, and where the text ends that says what it answered.
+// The record after an event, the length of the packet that it wrote, and how far what it answered is as it should be.
 pub(crate) struct Said {
     pub(crate) association: Association,
     pub(crate) length: usize,
@@ -151,20 +153,24 @@ fn composed(line: &[u8], last: &[u8], heard: usize, packet: &mut [u8]) -> usize 
     sealed(rest(line), packet)
 }
 
+fn arrived(a: Association, h: Host, packet: &[u8], area: &mut [u8], out: &mut [u8]) -> Arrived {
+    let lent = h.lent;
+    let cookie = h.cookie;
+    let echoed = echoed_of(h);
+    let kept = part(&cookie, 0, h.cookie_len);
+    arriving::arrive(a, area, packet, lent, kept, echoed, out)
+}
+
 fn arrives(
     a: Association,
     h: Host,
     packet: &[u8],
     area: &mut [u8],
     out: &mut [u8],
-    page: &mut [u8],
+    should: &[u8],
 ) -> Said {
-    let lent = h.lent;
-    let cookie = h.cookie;
-    let echoed = echoed_of(h);
-    let kept = part(&cookie, 0, h.cookie_len);
-    let r = arriving::arrive(a, area, packet, lent, kept, echoed, out);
-    let to = showing::say_arrived(page, 0, r);
+    let r = arrived(a, h, packet, area, out);
+    let to = showing::say_arrived(should, 0, r);
     let association = r.association;
     Said {
         association,
@@ -173,31 +179,31 @@ fn arrives(
     }
 }
 
-fn say_wish(page: &mut [u8], at: usize, v: Init) -> usize {
+fn say_wish(should: &[u8], at: usize, v: Init) -> usize {
     let tsn = v.tsn;
-    let a = say_named(page, at, b" streams ", v.outs as u64);
-    let b = say_named(page, a, b" ", v.ins as u64);
-    say_named(page, b, b" TSN ", tsn.0 as u64)
+    let a = say_named(should, at, b" streams ", v.outs as u64);
+    let b = say_named(should, a, b" ", v.ins as u64);
+    say_named(should, b, b" TSN ", tsn.0 as u64)
 }
 
-fn say_init(page: &mut [u8], v: Init, port: u16) -> usize {
-    let b = say_named(page, 0, b"INIT from ", port as u64);
-    let c = say_named(page, b, b" tag ", v.tag as u64);
-    let d = say_named(page, c, b" window ", v.window as u64);
-    say_wish(page, d, v)
+fn say_init(should: &[u8], v: Init, port: u16) -> usize {
+    let b = say_named(should, 0, b"INIT from ", port as u64);
+    let c = say_named(should, b, b" tag ", v.tag as u64);
+    let d = say_named(should, c, b" window ", v.window as u64);
+    say_wish(should, d, v)
 }
 
-fn say_echo(page: &mut [u8], from: usize, len: usize) -> usize {
-    let b = say_named(page, 0, b"echo at ", from as u64);
-    say_named(page, b, b" of ", len as u64)
+fn say_echo(should: &[u8], from: usize, len: usize) -> usize {
+    let b = say_named(should, 0, b"echo at ", from as u64);
+    say_named(should, b, b" of ", len as u64)
 }
 
-fn say_peeked(page: &mut [u8], p: Peeked) -> usize {
+fn say_peeked(should: &[u8], p: Peeked) -> usize {
     match p {
-        Peeked::Refused(n) => say_named(page, 0, b"no ", n as u64),
-        Peeked::Nothing => say(page, 0, b"nothing"),
-        Peeked::Init(v, port) => say_init(page, v, port),
-        Peeked::Echo(from, len) => say_echo(page, from, len),
+        Peeked::Refused(n) => say_named(should, 0, b"no ", n as u64),
+        Peeked::Nothing => say(should, 0, b"nothing"),
+        Peeked::Init(v, port) => say_init(should, v, port),
+        Peeked::Echo(from, len) => say_echo(should, from, len),
     }
 }
 
@@ -209,15 +215,15 @@ fn comes(
     heard: usize,
     into: &mut [u8],
     out: &mut [u8],
-    page: &mut [u8],
+    should: &[u8],
 ) -> Said {
     let mut packet = [0u8; 2048];
     let n = composed(line, last, heard, &mut packet);
     if is_seen(first(line)) {
-        let to = say_peeked(page, calls::peek(part(&packet, 0, n)));
+        let to = say_peeked(should, calls::peek(part(&packet, 0, n)));
         return kept(a, to);
     }
-    arrives(a, h, part(&packet, 0, n), into, out, page)
+    arrives(a, h, part(&packet, 0, n), into, out, should)
 }
 
 fn is_seen(w: &[u8]) -> bool {
@@ -251,36 +257,35 @@ fn kept(a: Association, at: usize) -> Said {
 }
 
 // hands STREAM UNORDERED PPID BYTES
-fn hands(a: Association, args: &[u8], area: &mut [u8], page: &mut [u8]) -> Said {
+fn handed(a: Association, args: &[u8], area: &mut [u8]) -> HandedIn {
     let mut message = [0u8; 65600];
     let n = spell(rest(rest(rest(args))), &mut message, 0);
     let stream = StreamId(value16(args, 0));
-    let r = calls::hand_in(
-        a,
-        area,
-        part(&message, 0, n),
-        stream,
-        value16(args, 1) == 1,
-        value32(args, 2),
-    );
-    let b = showing::say_answer(page, 0, r.number);
-    let to = say_named(page, b, b" chunks ", r.chunks as u64);
+    let unordered = value16(args, 1) == 1;
+    let ppid = value32(args, 2);
+    calls::hand_in(a, area, part(&message, 0, n), stream, unordered, ppid)
+}
+
+fn hands(a: Association, args: &[u8], area: &mut [u8], should: &[u8]) -> Said {
+    let r = handed(a, args, area);
+    let b = showing::say_answer(should, 0, r.number);
+    let to = say_named(should, b, b" chunks ", r.chunks as u64);
     let association = r.association;
     kept(association, to)
 }
 
-fn say_transmitted(page: &mut [u8], r: Transmitted) -> usize {
+fn say_transmitted(should: &[u8], r: Transmitted) -> usize {
     let first = r.first;
     let last = r.last;
-    let b = showing::say_answer(page, 0, r.number);
-    let c = say_named(page, b, b" resent ", r.resent as u64);
-    let d = say_named(page, c, b" TSN ", first.0 as u64);
-    say_named(page, d, b" to ", last.0 as u64)
+    let b = showing::say_answer(should, 0, r.number);
+    let c = say_named(should, b, b" resent ", r.resent as u64);
+    let d = say_named(should, c, b" TSN ", first.0 as u64);
+    say_named(should, d, b" to ", last.0 as u64)
 }
 
-fn transmits(a: Association, area: &[u8], out: &mut [u8], page: &mut [u8]) -> Said {
+fn transmits(a: Association, area: &[u8], out: &mut [u8], should: &[u8]) -> Said {
     let r = calls::transmit(a, area, out);
-    let to = say_transmitted(page, r);
+    let to = say_transmitted(should, r);
     let association = r.association;
     Said {
         association,
@@ -289,43 +294,43 @@ fn transmits(a: Association, area: &[u8], out: &mut [u8], page: &mut [u8]) -> Sa
     }
 }
 
-fn say_message(page: &mut [u8], at: usize, m: Message) -> usize {
+fn say_message(should: &[u8], at: usize, m: Message) -> usize {
     let stream = m.stream;
     let ssn = m.ssn;
-    let c = say_named(page, at, b" stream ", stream.0 as u64);
-    let d = say_named(page, c, b" unordered ", m.unordered as u64);
-    let e = say_named(page, d, b" SSN ", ssn.0 as u64);
-    say_named(page, e, b" PPID ", m.ppid as u64)
+    let c = say_named(should, at, b" stream ", stream.0 as u64);
+    let d = say_named(should, c, b" unordered ", m.unordered as u64);
+    let e = say_named(should, d, b" SSN ", ssn.0 as u64);
+    say_named(should, e, b" PPID ", m.ppid as u64)
 }
 
 // The length, or the length needed; then the message.
-fn say_delivered(page: &mut [u8], number: u8, m: Message, bytes: &[u8]) -> usize {
-    let b = showing::say_answer(page, 0, number);
-    let c = say_named(page, b, b" of ", m.length as u64);
+fn say_delivered(should: &[u8], number: u8, m: Message, bytes: &[u8]) -> usize {
+    let b = showing::say_answer(should, 0, number);
+    let c = say_named(should, b, b" of ", m.length as u64);
     if number == 0 {
-        let d = say_message(page, c, m);
-        return say_packet(page, d, bytes);
+        let d = say_message(should, c, m);
+        return say_packet(should, d, bytes);
     }
     c
 }
 
 // The message goes to an output of its own.
-fn takes_into(a: Association, area: &[u8], space: &mut [u8], page: &mut [u8]) -> Said {
+fn takes_into(a: Association, area: &[u8], space: &mut [u8], should: &[u8]) -> Said {
     let r = calls::take(a, area, space);
     let m = r.message;
     let association = r.association;
-    let to = say_delivered(page, r.number, m, part(space, 0, m.length));
+    let to = say_delivered(should, r.number, m, part(space, 0, m.length));
     kept(association, to)
 }
 
-fn takes(a: Association, area: &[u8], page: &mut [u8]) -> Said {
+fn takes(a: Association, area: &[u8], should: &[u8]) -> Said {
     let mut space = [0u8; 65536];
-    takes_into(a, area, &mut space, page)
+    takes_into(a, area, &mut space, should)
 }
 
-fn takes_eight(a: Association, area: &[u8], page: &mut [u8]) -> Said {
+fn takes_eight(a: Association, area: &[u8], should: &[u8]) -> Said {
     let mut space = [0u8; 8];
-    takes_into(a, area, &mut space, page)
+    takes_into(a, area, &mut space, should)
 }
 
 fn is_taken(w: &[u8]) -> bool {
@@ -335,11 +340,11 @@ fn is_taken(w: &[u8]) -> bool {
     same(w, b"takes8")
 }
 
-fn takes_some(a: Association, w: &[u8], area: &[u8], page: &mut [u8]) -> Said {
+fn takes_some(a: Association, w: &[u8], area: &[u8], should: &[u8]) -> Said {
     if same(w, b"takes8") {
-        return takes_eight(a, area, page);
+        return takes_eight(a, area, should);
     }
-    takes(a, area, page)
+    takes(a, area, should)
 }
 
 // ---- calls that answer alike
@@ -423,17 +428,17 @@ fn called(a: Association, line: &[u8], out: &mut [u8]) -> Answer {
     told(a, line, out)
 }
 
-fn say_over(page: &mut [u8], at: usize, over: bool) -> usize {
+fn say_over(should: &[u8], at: usize, over: bool) -> usize {
     if over {
-        return say(page, at, b" over");
+        return say(should, at, b" over");
     }
     at
 }
 
-fn answers(a: Association, line: &[u8], out: &mut [u8], page: &mut [u8]) -> Said {
+fn answers(a: Association, line: &[u8], out: &mut [u8], should: &[u8]) -> Said {
     let r = called(a, line, out);
-    let b = showing::say_answer(page, 0, r.number);
-    let to = say_over(page, b, r.over);
+    let b = showing::say_answer(should, 0, r.number);
+    let to = say_over(should, b, r.over);
     let association = r.association;
     Said {
         association,
@@ -442,17 +447,17 @@ fn answers(a: Association, line: &[u8], out: &mut [u8], page: &mut [u8]) -> Said
     }
 }
 
-fn say_sack(page: &mut [u8], number: u8, k: Sack) -> usize {
+fn say_sack(should: &[u8], number: u8, k: Sack) -> usize {
     let blocks = k.blocks;
-    let b = showing::say_answer(page, 0, number);
-    let c = say_named(page, b, b" blocks ", blocks.count as u64);
-    say_named(page, c, b" listed ", k.listed as u64)
+    let b = showing::say_answer(should, 0, number);
+    let c = say_named(should, b, b" blocks ", blocks.count as u64);
+    say_named(should, c, b" listed ", k.listed as u64)
 }
 
-fn acknowledges(a: Association, out: &mut [u8], page: &mut [u8]) -> Said {
+fn acknowledges(a: Association, out: &mut [u8], should: &[u8]) -> Said {
     let r = calls::sack(a, out);
     let k = r.sack;
-    let to = say_sack(page, r.number, k);
+    let to = say_sack(should, r.number, k);
     let association = r.association;
     Said {
         association,
@@ -528,20 +533,20 @@ fn is_made_up(w: &[u8]) -> bool {
 
 // ---- a line
 
-fn acts_alone(a: Association, line: &[u8], out: &mut [u8], page: &mut [u8]) -> Said {
+fn acts_alone(a: Association, line: &[u8], out: &mut [u8], should: &[u8]) -> Said {
     let w = first(line);
     if is_made_up(w) {
-        let to = say(page, 0, b"ok");
+        let to = say(should, 0, b"ok");
         return kept(made_up(a, line), to);
     }
     if same(w, b"shows") {
-        let to = showing::say_record(page, 0, a);
+        let to = showing::say_record(should, 0, a);
         return kept(a, to);
     }
     if same(w, b"acknowledges") {
-        return acknowledges(a, out, page);
+        return acknowledges(a, out, should);
     }
-    answers(a, line, out, page)
+    answers(a, line, out, should)
 }
 
 fn moves(
@@ -550,19 +555,19 @@ fn moves(
     into: &[u8],
     from: &mut [u8],
     out: &mut [u8],
-    page: &mut [u8],
+    should: &[u8],
 ) -> Said {
     let w = first(line);
     if same(w, b"hands") {
-        return hands(a, rest(line), from, page);
+        return hands(a, rest(line), from, should);
     }
     if same(w, b"transmits") {
-        return transmits(a, from, out, page);
+        return transmits(a, from, out, should);
     }
     if is_taken(w) {
-        return takes_some(a, w, into, page);
+        return takes_some(a, w, into, should);
     }
-    acts_alone(a, line, out, page)
+    acts_alone(a, line, out, should)
 }
 
 // The first `heard` bytes of `last` are the other end's last packet.
@@ -575,10 +580,10 @@ pub(crate) fn acts(
     into: &mut [u8],
     from: &mut [u8],
     out: &mut [u8],
-    page: &mut [u8],
+    should: &[u8],
 ) -> Said {
     if is_heard(first(line)) {
-        return comes(a, h, line, last, heard, into, out, page);
+        return comes(a, h, line, last, heard, into, out, should);
     }
-    moves(a, line, into, from, out, page)
+    moves(a, line, into, from, out, should)
 }

@@ -11,13 +11,13 @@ use crate::host::Said;
 use crate::page::plus;
 use crate::page::same;
 use crate::page::say;
+use crate::page::text;
 use crate::reading::between;
 use crate::reading::find;
 use crate::reading::first;
 use crate::reading::rest;
 use association::Association;
 use libc::STDIN_FILENO;
-use libc::STDOUT_FILENO;
 use octets::get8;
 use octets::part;
 use octets::put_all;
@@ -31,11 +31,15 @@ const ECHOED: usize = 200;
 // What stands in an output before an event: what the event does not write, still stands there.
 const BLANK: u8 = 0xee;
 
-// An end: its record, a record that was put aside, its host, and how long its last packet is.
+// Of a packet.
+const LONGEST: usize = 1472;
+
+// An end: its record, a record that was put aside, its host, its last packet and how long that is.
 struct Side {
     association: Association,
     aside: Association,
     host: Host,
+    wire: [u8; LONGEST],
     length: usize,
 }
 
@@ -50,10 +54,6 @@ struct Progress {
     at: usize,
 }
 
-fn text(s: &[u8]) {
-    io::write_all(STDOUT_FILENO, s);
-}
-
 fn is_blank(out: &[u8], from: usize) -> bool {
     let mut i = from;
     while i < out.len() {
@@ -65,19 +65,19 @@ fn is_blank(out: &[u8], from: usize) -> bool {
     true
 }
 
-fn say_if(page: &mut [u8], at: usize, told: bool, s: &[u8]) -> usize {
+fn say_if(should: &[u8], at: usize, told: bool, s: &[u8]) -> usize {
     if told {
-        return say(page, at, s);
+        return say(should, at, s);
     }
     at
 }
 
-fn say_sent(page: &mut [u8], at: usize, packet: &[u8]) -> usize {
+fn say_sent(should: &[u8], at: usize, packet: &[u8]) -> usize {
     if packet.len() == 0 {
         return at;
     }
-    let to = say(page, at, b" /");
-    page::say_packet(page, to, packet)
+    let to = say(should, at, b" /");
+    page::say_packet(should, to, packet)
 }
 
 // The heads of both areas.
@@ -119,13 +119,11 @@ fn event_of(line: &[u8]) -> &[u8] {
     line
 }
 
-// What came of it and what should have.
-fn compare(got: &[u8], should: &[u8]) {
-    text(b": ");
-    text(got);
+// What should have come of it, and whether it is what came.
+fn compare(should: &[u8], end: usize) {
     text(b" | ");
     text(should);
-    if same(got, should) {
+    if end == should.len() {
         text(b" same\n");
         return;
     }
@@ -133,25 +131,50 @@ fn compare(got: &[u8], should: &[u8]) {
 }
 
 // The state, and whether the record and the areas are kept.
-fn say_left(page: &mut [u8], at: usize, a: Association, b: Association, changed: bool) -> usize {
+fn say_left(should: &[u8], at: usize, a: Association, b: Association, changed: bool) -> usize {
     let state = b.state;
-    let p = say(page, at, b" / ");
-    let q = showing::say_state(page, p, state);
-    let s = say_if(page, q, sameness::same_record(a, b), b" kept");
-    say_if(page, s, changed, b" area")
+    let p = say(should, at, b" / ");
+    let q = showing::say_state(should, p, state);
+    let s = say_if(should, q, sameness::same_record(a, b), b" kept");
+    say_if(should, s, changed, b" area")
 }
 
-// The answer, what is left, and the packet.
-fn tell(page: &mut [u8], a: Association, r: Said, changed: bool, out: &[u8], should: &[u8]) {
-    let b = r.association;
+// What is left, and the packet.
+fn tell(should: &[u8], a: Association, r: Said, changed: bool, out: &[u8]) {
     let n = r.length;
-    let t = say_left(page, r.at, a, b, changed);
-    let u = say_if(page, t, !is_blank(out, n), b" SPILT");
-    let end = say_sent(page, u, part(out, 0, n));
-    compare(part(page, 0, end), should);
+    let at = say_left(should, r.at, a, r.association, changed);
+    let u = say_if(should, at, !is_blank(out, n), b" SPILT");
+    let end = say_sent(should, u, part(out, 0, n));
+    compare(should, end);
 }
 
-// `short`: with an output that lacks a byte; `small`: with areas that do.
+// `short`: with an output that lacks a byte.
+fn acts_short(
+    a: Association,
+    h: Host,
+    line: &[u8],
+    last: &[u8],
+    heard: usize,
+    into: &mut [u8],
+    from: &mut [u8],
+    out: &mut [u8],
+    should: &[u8],
+) -> Said {
+    let n = lent_of(line, b"short", out.len());
+    host::acts(
+        a,
+        h,
+        deed(line),
+        last,
+        heard,
+        into,
+        from,
+        &mut out[0..n],
+        should,
+    )
+}
+
+// `small`: with areas that do.
 fn acts_in(
     a: Association,
     h: Host,
@@ -161,21 +184,20 @@ fn acts_in(
     into: &mut [u8],
     from: &mut [u8],
     out: &mut [u8],
-    page: &mut [u8],
+    should: &[u8],
 ) -> Said {
-    let e = lent_of(line, b"short", out.len());
     let i = lent_of(line, b"small", into.len());
     let f = lent_of(line, b"small", from.len());
-    host::acts(
+    acts_short(
         a,
         h,
-        deed(line),
+        line,
         last,
         heard,
         &mut into[0..i],
         &mut from[0..f],
-        &mut out[0..e],
-        page,
+        out,
+        should,
     )
 }
 
@@ -186,15 +208,29 @@ fn is_changed(into: &[u8], from: &[u8], before: &[u8]) -> bool {
 }
 
 // The packet that was written is the end's last one.
-fn settled(mut side: Side, r: Said, out: &[u8], wire: &mut [u8]) -> Side {
+fn settled(mut side: Side, r: Said, out: &[u8; LONGEST]) -> Side {
     let b = r.association;
     side.association = b;
     if r.length == 0 {
         return side;
     }
-    put_all(wire, 0, out);
+    let wire = *out;
+    side.wire = wire;
     side.length = r.length;
     side
+}
+
+// What came of it is told, and the end keeps it.
+fn ends(
+    side: Side,
+    a: Association,
+    r: Said,
+    changed: bool,
+    out: &[u8; LONGEST],
+    should: &[u8],
+) -> Side {
+    tell(should, a, r, changed, out);
+    settled(side, r, out)
 }
 
 // `before` has the heads of the areas.
@@ -208,15 +244,11 @@ fn happens(
     into: &mut [u8],
     from: &mut [u8],
     before: &[u8],
-    wire: &mut [u8],
-    page: &mut [u8],
 ) -> Side {
     let host = side.host;
-    let mut out = [BLANK; 1472];
-    let r = acts_in(a, host, line, last, heard, into, from, &mut out, page);
-    let changed = is_changed(into, from, before);
-    tell(page, a, r, changed, &out, should);
-    settled(side, r, &out, wire)
+    let mut out = [BLANK; LONGEST];
+    let r = acts_in(a, host, line, last, heard, into, from, &mut out, should);
+    ends(side, a, r, is_changed(into, from, before), &out, should)
 }
 
 // A record is put aside, or the host changes its mind.
@@ -262,18 +294,17 @@ fn lives(
     side: Side,
     line: &[u8],
     should: &[u8],
-    last: &[u8],
+    last: &[u8; LONGEST],
     heard: usize,
     into: &mut [u8],
     from: &mut [u8],
-    wire: &mut [u8],
-    page: &mut [u8],
 ) -> Side {
     let w = first(line);
     if is_prepared(w) {
         text(b"\n");
         return prepared(side, line);
     }
+    text(b": ");
     let a = start(side, w);
     let mut before = [0u8; 4096];
     copy_heads(into, from, &mut before);
@@ -287,9 +318,20 @@ fn lives(
         into,
         from,
         &before,
-        wire,
-        page,
     )
+}
+
+// An event of one end, with the last packet of the other.
+fn lives_beside(
+    side: Side,
+    other: Side,
+    line: &[u8],
+    should: &[u8],
+    into: &mut [u8],
+    from: &mut [u8],
+) -> Side {
+    let last = other.wire;
+    lives(side, line, should, &last, other.length, into, from)
 }
 
 // A line: an event of A, one of B, or a heading.
@@ -298,11 +340,8 @@ fn turn(
     line: &[u8],
     into_a: &mut [u8],
     from_a: &mut [u8],
-    wire_a: &mut [u8],
     into_b: &mut [u8],
     from_b: &mut [u8],
-    wire_b: &mut [u8],
-    page: &mut [u8],
 ) -> Both {
     let colon = find(line, 0, 58);
     let event = between(line, 0, colon);
@@ -311,32 +350,12 @@ fn turn(
     let b = both.b;
     text(part(event, 0, ECHOED));
     if get8(line, 0) == 65 {
-        let s = lives(
-            a,
-            rest(event),
-            should,
-            wire_b,
-            b.length,
-            into_a,
-            from_a,
-            wire_a,
-            page,
-        );
+        let s = lives_beside(a, b, rest(event), should, into_a, from_a);
         both.a = s;
         return both;
     }
     if get8(line, 0) == 66 {
-        let s = lives(
-            b,
-            rest(event),
-            should,
-            wire_a,
-            a.length,
-            into_b,
-            from_b,
-            wire_b,
-            page,
-        );
+        let s = lives_beside(b, a, rest(event), should, into_b, from_b);
         both.b = s;
         return both;
     }
@@ -350,6 +369,7 @@ fn new_side() -> Side {
         association: a,
         aside: a,
         host: host::nobody(),
+        wire: [0u8; LONGEST],
         length: 0,
     }
 }
@@ -366,56 +386,24 @@ fn turn_at(
     script: &[u8],
     into_a: &mut [u8],
     from_a: &mut [u8],
-    wire_a: &mut [u8],
     into_b: &mut [u8],
     from_b: &mut [u8],
-    wire_b: &mut [u8],
-    page: &mut [u8],
 ) -> Progress {
     if p.at < script.len() {
         let end = find(script, p.at, 10);
         let line = between(script, p.at, end);
         let next = plus(end, 1);
-        let both = turn(
-            p.both,
-            line,
-            into_a,
-            from_a,
-            wire_a,
-            into_b,
-            from_b,
-            wire_b,
-            page,
-        );
+        let both = turn(p.both, line, into_a, from_a, into_b, from_b);
         return Progress { both, at: next };
     }
     p
 }
 
-fn run(
-    script: &[u8],
-    into_a: &mut [u8],
-    from_a: &mut [u8],
-    wire_a: &mut [u8],
-    into_b: &mut [u8],
-    from_b: &mut [u8],
-    wire_b: &mut [u8],
-    page: &mut [u8],
-) {
+fn run(script: &[u8], into_a: &mut [u8], from_a: &mut [u8], into_b: &mut [u8], from_b: &mut [u8]) {
     let mut p = begun();
     let mut n = 0;
     while n < LINES {
-        p = turn_at(
-            p,
-            script,
-            into_a,
-            from_a,
-            wire_a,
-            into_b,
-            from_b,
-            wire_b,
-            page,
-        );
+        p = turn_at(p, script, into_a, from_a, into_b, from_b);
         n += 1;
     }
 }
@@ -424,20 +412,14 @@ fn main() {
     let mut script = [0u8; 262144];
     let mut into_a = [0u8; 65536];
     let mut from_a = [0u8; 65536];
-    let mut wire_a = [0u8; 1472];
     let mut into_b = [0u8; 65536];
     let mut from_b = [0u8; 65536];
-    let mut wire_b = [0u8; 1472];
-    let mut page = [0u8; 16384];
     let n = io::read_full(STDIN_FILENO, &mut script);
     run(
         part(&script, 0, n),
         &mut into_a,
         &mut from_a,
-        &mut wire_a,
         &mut into_b,
         &mut from_b,
-        &mut wire_b,
-        &mut page,
     );
 }

@@ -1,15 +1,17 @@
-// A line of text, put together on a lent page. Each function answers where the text then ends.
+// A line of text, written as it is put together and held against the line that should come out. Each function answers how far the two are the same.
+use libc::STDOUT_FILENO;
 use octets::get8;
 use octets::part;
-use octets::put_all;
-use octets::put8;
 
 // Bytes of a packet that are shown, of a longer one its first.
 const SHOWN: usize = 160;
 
+// Where a text is that is not as it should be: past the end of every line.
+const ASTRAY: usize = 1000000;
+
 pub(crate) fn plus(a: usize, b: usize) -> usize {
-    if a < 1000000 {
-        if b < 1000000 {
+    if a < ASTRAY {
+        if b < ASTRAY {
             return a + b;
         }
         return a;
@@ -17,21 +19,28 @@ pub(crate) fn plus(a: usize, b: usize) -> usize {
     a
 }
 
-pub(crate) fn say(page: &mut [u8], at: usize, s: &[u8]) -> usize {
-    put_all(page, at, s);
-    plus(at, s.len())
+pub(crate) fn text(s: &[u8]) {
+    io::write_all(STDOUT_FILENO, s);
 }
 
-pub(crate) fn say_number(page: &mut [u8], at: usize, n: u64) -> usize {
+pub(crate) fn say(should: &[u8], at: usize, s: &[u8]) -> usize {
+    text(s);
+    if same(part(should, at, s.len()), s) {
+        return plus(at, s.len());
+    }
+    ASTRAY
+}
+
+pub(crate) fn say_number(should: &[u8], at: usize, n: u64) -> usize {
     let mut digits = [0u8; 20];
     let k = io::decimal(n, &mut digits);
-    say(page, at, &digits[..k])
+    say(should, at, &digits[..k])
 }
 
 // A name, and a number behind it.
-pub(crate) fn say_named(page: &mut [u8], at: usize, name: &[u8], n: u64) -> usize {
-    let to = say(page, at, name);
-    say_number(page, to, n)
+pub(crate) fn say_named(should: &[u8], at: usize, name: &[u8], n: u64) -> usize {
+    let to = say(should, at, name);
+    say_number(should, to, n)
 }
 
 fn letter(n: u8) -> u8 {
@@ -44,39 +53,37 @@ fn letter(n: u8) -> u8 {
     63
 }
 
-fn say_byte(page: &mut [u8], at: usize, b: u8) -> usize {
-    put8(page, at, letter(b / 16));
-    put8(page, plus(at, 1), letter(b % 16));
-    plus(at, 2)
+fn say_byte(should: &[u8], at: usize, b: u8) -> usize {
+    say(should, at, &[letter(b / 16), letter(b % 16)])
 }
 
 // Every fourth byte has a space before it.
-fn say_spaced(page: &mut [u8], at: usize, i: usize, b: u8) -> usize {
+fn say_spaced(should: &[u8], at: usize, i: usize, b: u8) -> usize {
     if i % 4 == 0 {
-        let to = say(page, at, b" ");
-        return say_byte(page, to, b);
+        let to = say(should, at, b" ");
+        return say_byte(should, to, b);
     }
-    say_byte(page, at, b)
+    say_byte(should, at, b)
 }
 
-fn say_rows(page: &mut [u8], at: usize, s: &[u8]) -> usize {
+fn say_rows(should: &[u8], at: usize, s: &[u8]) -> usize {
     let mut to = at;
     let mut i = 0;
     while i < s.len() {
-        to = say_spaced(page, to, i, get8(s, i));
+        to = say_spaced(should, to, i, get8(s, i));
         i += 1;
     }
     to
 }
 
 // The rows of a packet, or of its first part and then its length.
-pub(crate) fn say_packet(page: &mut [u8], at: usize, s: &[u8]) -> usize {
+pub(crate) fn say_packet(should: &[u8], at: usize, s: &[u8]) -> usize {
     if s.len() <= SHOWN {
-        return say_rows(page, at, s);
+        return say_rows(should, at, s);
     }
-    let to = say_rows(page, at, part(s, 0, SHOWN));
-    let end = say(page, to, b" .. of ");
-    say_number(page, end, s.len() as u64)
+    let to = say_rows(should, at, part(s, 0, SHOWN));
+    let end = say(should, to, b" .. of ");
+    say_number(should, end, s.len() as u64)
 }
 
 pub(crate) fn same(s: &[u8], t: &[u8]) -> bool {

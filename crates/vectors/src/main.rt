@@ -18,6 +18,12 @@ fn byte(x: u8) {
     io::print_hex(STDOUT_FILENO, x as u64, 2);
 }
 
+fn should(s: &[u8]) {
+    text(b" | ");
+    text(s);
+    text(b"\n");
+}
+
 // A checksum as its four bytes stand on the wire, beside those published.
 fn checksum(name: &[u8], s: &[u8], published: &[u8]) {
     let mut packet = [0u8; 12];
@@ -27,13 +33,10 @@ fn checksum(name: &[u8], s: &[u8], published: &[u8]) {
     byte(packet[9]);
     byte(packet[10]);
     byte(packet[11]);
-    text(b" | ");
-    text(published);
-    text(b"\n");
+    should(published);
 }
 
-fn distance(name: &[u8], d: Distance, should: &[u8]) {
-    text(name);
+fn say_distance(d: Distance) {
     match d {
         Distance::Ahead(n) => {
             text(b" +");
@@ -47,13 +50,15 @@ fn distance(name: &[u8], d: Distance, should: &[u8]) {
             text(b" opposite");
         }
     }
-    text(b" | ");
-    text(should);
-    text(b"\n");
 }
 
-fn judgement(name: &[u8], j: Judgement, should: &[u8]) {
+fn distance(name: &[u8], d: Distance, right: &[u8]) {
     text(name);
+    say_distance(d);
+    should(right);
+}
+
+fn say_judgement(j: Judgement) {
     match j {
         Judgement::AtOrBehind => {
             text(b" at or behind");
@@ -70,17 +75,15 @@ fn judgement(name: &[u8], j: Judgement, should: &[u8]) {
             text(b" opposite");
         }
     }
-    text(b" | ");
-    text(should);
-    text(b"\n");
 }
 
-fn step(name: &[u8], n: u64, should: &[u8]) {
+// A number, beside what it should be.
+fn line(name: &[u8], n: u64, right: u64) {
     text(name);
     text(b" ");
     number(n);
     text(b" | ");
-    text(should);
+    number(right);
     text(b"\n");
 }
 
@@ -236,77 +239,89 @@ fn fields() {
     let mut packet = [7u8; 16];
     let open = crc32c::packet_crc(&packet);
     crc32c::put_checksum(&mut packet, open);
-    step(b"sealed:", crc32c::is_sealed(&packet) as u64, b"1");
-    step(
+    line(b"sealed:", crc32c::is_sealed(&packet) as u64, 1);
+    line(
         b"the same checksum when sealed:",
         (crc32c::packet_crc(&packet) == open) as u64,
-        b"1",
+        1,
     );
     packet[15] = 6;
-    step(
+    line(
         b"sealed with another last byte:",
         crc32c::is_sealed(&packet) as u64,
-        b"0",
+        0,
     );
 }
 
-// C1 to C7.
-fn circles() {
-    distance(b"C1", Tsn(4294967295).distance(Tsn(0)), b"+1");
-    distance(b"C2", Tsn(0).distance(Tsn(4294967295)), b"-1");
-    distance(b"C3", Tsn(0).distance(Tsn(2147483647)), b"+2147483647");
-    distance(b"C4", Tsn(0).distance(Tsn(2147483648)), b"opposite");
-    distance(b"C5", Tsn(0).distance(Tsn(2147483649)), b"-2147483647");
-    distance(b"C6", Ssn(65535).distance(Ssn(0)), b"+1");
-    distance(b"C7", Ssn(0).distance(Ssn(32768)), b"opposite");
+// C1 to C5.
+fn tsns(name: &[u8], a: u32, b: u32, right: &[u8]) {
+    distance(name, Tsn(a).distance(Tsn(b)), right);
+}
+
+fn nearest() {
+    tsns(b"C1", 4294967295, 0, b"+1");
+    tsns(b"C2", 0, 4294967295, b"-1");
+}
+
+fn farthest() {
+    tsns(b"C3", 0, 2147483647, b"+2147483647");
+    tsns(b"C4", 0, 2147483648, b"opposite");
+    tsns(b"C5", 0, 2147483649, b"-2147483647");
+}
+
+// C6 and C7.
+fn ssns(name: &[u8], a: u16, b: u16, right: &[u8]) {
+    distance(name, Ssn(a).distance(Ssn(b)), right);
+}
+
+fn small_circle() {
+    ssns(b"C6", 65535, 0, b"+1");
+    ssns(b"C7", 0, 32768, b"opposite");
 }
 
 // Steps across the end of either circle.
+fn step(circle: &[u8], a: u64, steps: u64, n: u64, right: u64) {
+    text(circle);
+    number(a);
+    text(b" and ");
+    number(steps);
+    line(b":", n, right);
+}
+
+fn tsn_step(a: u32, steps: u32, right: u64) {
+    let n = Tsn(a).after(steps);
+    step(b"TSN ", a as u64, steps as u64, n.0 as u64, right);
+}
+
+fn ssn_step(a: u16, steps: u16, right: u64) {
+    let n = Ssn(a).after(steps);
+    step(b"SSN ", a as u64, steps as u64, n.0 as u64, right);
+}
+
 fn steps() {
-    step(
-        b"TSN 4294967295 and 1:",
-        Tsn(4294967295).after(1).0 as u64,
-        b"0",
-    );
-    step(
-        b"TSN 5 and 4294967295:",
-        Tsn(5).after(4294967295).0 as u64,
-        b"4",
-    );
-    step(b"SSN 65535 and 1:", Ssn(65535).after(1).0 as u64, b"0");
-    step(
-        b"SSN 40000 and 40000:",
-        Ssn(40000).after(40000).0 as u64,
-        b"14464",
-    );
+    tsn_step(4294967295, 1, 0);
+    tsn_step(5, 4294967295, 4);
+    ssn_step(65535, 1, 0);
+    ssn_step(40000, 40000, 14464);
+}
+
+fn judgement(tsn: u32, from: u32, room: u32, right: &[u8]) {
+    number(tsn as u64);
+    text(b" from ");
+    number(from as u64);
+    text(b", room ");
+    number(room as u64);
+    text(b":");
+    say_judgement(Tsn(from).judge(Tsn(tsn), room));
+    should(right);
 }
 
 fn judgements() {
-    judgement(
-        b"0 from 4294967294, room 1:",
-        Tsn(4294967294).judge(Tsn(0), 1),
-        b"beyond 2",
-    );
-    judgement(
-        b"0 from 4294967294, room 2:",
-        Tsn(4294967294).judge(Tsn(0), 2),
-        b"within 2",
-    );
-    judgement(
-        b"7 from 7, room 128:",
-        Tsn(7).judge(Tsn(7), 128),
-        b"at or behind",
-    );
-    judgement(
-        b"4294967295 from 0, room 128:",
-        Tsn(0).judge(Tsn(4294967295), 128),
-        b"at or behind",
-    );
-    judgement(
-        b"2147483648 from 0, room 128:",
-        Tsn(0).judge(Tsn(2147483648), 128),
-        b"opposite",
-    );
+    judgement(0, 4294967294, 1, b"beyond 2");
+    judgement(0, 4294967294, 2, b"within 2");
+    judgement(7, 7, 128, b"at or behind");
+    judgement(4294967295, 0, 128, b"at or behind");
+    judgement(2147483648, 0, 128, b"opposite");
 }
 
 fn main() {
@@ -317,7 +332,9 @@ fn main() {
     read_command();
     digits();
     fields();
-    circles();
+    nearest();
+    farthest();
+    small_circle();
     steps();
     judgements();
 }

@@ -14,6 +14,7 @@ use numbers::Ssn;
 use numbers::StreamId;
 use numbers::Tsn;
 use octets::part;
+use parameters::parameter::Parameter;
 use parameters::parameter::Step;
 use parameters::parameter::Treatment;
 
@@ -93,15 +94,22 @@ fn data_written() {
     );
 }
 
-fn data_refused() {
+fn no_payload() {
     let mut out = [0xeeu8; 1024];
-    let long = [0u8; 513];
     let n = chunks::data::write_data(&mut out, data_of(true), b"");
     wrote(b"DATA, no payload", &out, n, b"");
-    let m = chunks::data::write_data(&mut out, data_of(true), &long);
-    wrote(b"DATA, payload of 513", &out, m, b"");
-    let k = chunks::data::write_data(&mut out, data_of(true), part(&long, 0, 512));
-    number(b"payload of 512", k as u64, 528);
+}
+
+fn long_payload() {
+    let mut out = [0xeeu8; 1024];
+    let n = chunks::data::write_data(&mut out, data_of(true), &[0u8; 513]);
+    wrote(b"DATA, payload of 513", &out, n, b"");
+}
+
+fn longest_payload() {
+    let mut out = [0xeeu8; 1024];
+    let n = chunks::data::write_data(&mut out, data_of(true), &[0u8; 512]);
+    number(b"payload of 512", n as u64, 528);
 }
 
 fn data_flags(s: &[u8], u: u64, b: u64, e: u64) {
@@ -150,15 +158,23 @@ fn init_written() {
     );
 }
 
+fn init_tag(v: Init) {
+    number(b"tag", v.tag as u64, 305419896);
+    number(b"window", v.window as u64, 65536);
+}
+
+fn init_numbers(v: Init) {
+    number(b"out", v.outs as u64, 10);
+    number(b"in", v.ins as u64, 2048);
+    number(b"TSN", v.tsn.0 as u64, 4294967295);
+}
+
 fn init_read() {
     let s = b"\x01\x00\x00\x14\x12\x34\x56\x78\x00\x01\x00\x00\x00\x0a\x08\x00\xff\xff\xff\xff";
     let v = chunks::init::read_init(s);
     text(b"INIT, read\n");
-    number(b"tag", v.tag as u64, 305419896);
-    number(b"window", v.window as u64, 65536);
-    number(b"out", v.outs as u64, 10);
-    number(b"in", v.ins as u64, 2048);
-    number(b"TSN", v.tsn.0 as u64, 4294967295);
+    init_tag(v);
+    init_numbers(v);
     place(b"parameters", chunks::init::parameters(s), 20, 0);
 }
 
@@ -196,20 +212,27 @@ fn init_ack_stopped() {
     );
 }
 
-fn init_ack_refused() {
+// With a cookie, as the answer to an INIT without parameters.
+fn write_cookie(out: &mut [u8], cookie: &[u8]) -> usize {
+    parameters::report::write_init_ack(out, init_of(), cookie, b"\x01\x00\x00\x14")
+}
+
+fn no_cookie() {
     let mut out = [0xeeu8; 512];
-    let long = [0u8; 257];
-    let n = parameters::report::write_init_ack(&mut out, init_of(), b"", b"\x01\x00\x00\x14");
+    let n = write_cookie(&mut out, b"");
     wrote(b"INIT ACK, no cookie", &out, n, b"");
-    let m = parameters::report::write_init_ack(&mut out, init_of(), &long, b"\x01\x00\x00\x14");
-    wrote(b"INIT ACK, cookie of 257", &out, m, b"");
-    let k = parameters::report::write_init_ack(
-        &mut out,
-        init_of(),
-        part(&long, 0, 256),
-        b"\x01\x00\x00\x14",
-    );
-    number(b"cookie of 256", k as u64, 280);
+}
+
+fn long_cookie() {
+    let mut out = [0xeeu8; 512];
+    let n = write_cookie(&mut out, &[0u8; 257]);
+    wrote(b"INIT ACK, cookie of 257", &out, n, b"");
+}
+
+fn longest_cookie() {
+    let mut out = [0xeeu8; 512];
+    let n = write_cookie(&mut out, &[0u8; 256]);
+    number(b"cookie of 256", n as u64, 280);
 }
 
 // The cookie behind a parameter that stops; a Host Name.
@@ -244,35 +267,51 @@ fn treatment(t: Treatment) {
     }
 }
 
+fn say_parameter(p: Parameter, should: &[u8]) {
+    let t = p.treatment;
+    text(b"parameter ");
+    io::print_hex(STDOUT_FILENO, p.kind as u64, 4);
+    treatment(t);
+    text(b" | ");
+    text(should);
+}
+
+fn found(p: Parameter, should: &[u8], len: u64, next: u64) {
+    say_parameter(p, should);
+    number(b"len", p.len as u64, len);
+    number(b"next", p.next as u64, next);
+}
+
+fn not_found(should: &[u8]) {
+    text(b"no parameter | ");
+    text(should);
+    text(b"\n");
+}
+
 fn parameter(b: &[u8], at: usize, should: &[u8], len: u64, next: u64) {
     match parameters::parameter::parameter_at(b, at) {
-        Step::At(p) => {
-            text(b"parameter ");
-            io::print_hex(STDOUT_FILENO, p.kind as u64, 4);
-            let t = p.treatment;
-            treatment(t);
-            text(b" | ");
-            text(should);
-            number(b"len", p.len as u64, len);
-            number(b"next", p.next as u64, next);
-        }
-        Step::Done => {
-            text(b"no parameter | ");
-            text(should);
-            text(b"\n");
-        }
+        Step::At(p) => found(p, should, len, next),
+        Step::Done => not_found(should),
     }
+}
+
+fn skipped_parameters(b: &[u8]) {
+    parameter(b, 0, b"skip and report", 5, 8);
+    parameter(b, 8, b"skip", 4, 12);
+    parameter(b, 12, b"known", 8, 20);
+}
+
+fn stopping_parameters(b: &[u8]) {
+    parameter(b, 20, b"stop and report", 6, 28);
+    parameter(b, 28, b"stop", 4, 32);
+    parameter(b, 32, b"none", 0, 0);
 }
 
 fn parameters_read() {
     let b =
         b"\xc0\x01\x00\x05\xaa\x00\x00\x00\x80\x01\x00\x04\x00\x05\x00\x08\x7f\x00\x00\x01\x40\x01\x00\x06\xbb\xcc\x00\x00\x00\x0d\x00\x04";
-    parameter(b, 0, b"skip and report", 5, 8);
-    parameter(b, 8, b"skip", 4, 12);
-    parameter(b, 12, b"known", 8, 20);
-    parameter(b, 20, b"stop and report", 6, 28);
-    parameter(b, 28, b"stop", 4, 32);
-    parameter(b, 32, b"none", 0, 0);
+    skipped_parameters(b);
+    stopping_parameters(b);
 }
 
 // RFC 9260's own example: cumulative TSN 12, window 4660, blocks 2 to 3 and 5 to 5.
@@ -307,10 +346,19 @@ fn sack_written() {
         n,
         b"\x03\x00\x00\x18\x00\x00\x00\x0c\x00\x00\x12\x34\x00\x02\x00\x00\x00\x02\x00\x03\x00\x05\x00\x05",
     );
-    let m = chunks::sack::write_sack(&mut out, sack_of(65, 0));
-    number(b"65 blocks", m as u64, 0);
-    let k = chunks::sack::write_sack(&mut out, sack_of(0, 17));
-    number(b"17 duplicates", k as u64, 0);
+}
+
+fn sack_refused(name: &[u8], count: usize, listed: usize) {
+    let mut out = [0xeeu8; 64];
+    let n = chunks::sack::write_sack(&mut out, sack_of(count, listed));
+    number(name, n as u64, 0);
+}
+
+fn sacks_written() {
+    sack_written();
+    sack_refused(b"65 blocks", 65, 0);
+    sack_refused(b"17 duplicates", 0, 17);
+    duplicates_written();
 }
 
 // TSN 19 came three times: it is listed twice.
@@ -328,14 +376,25 @@ fn duplicates_written() {
 fn sack_read() {
     let s =
         b"\x03\x00\x00\x1c\x00\x00\x00\x0c\x00\x00\x12\x34\x00\x02\x00\x01\x00\x02\x00\x03\x00\x05\x00\x06\x00\x00\x00\x13";
-    let k = chunks::sack::read_sack(s);
     text(b"SACK, read\n");
+    sack_numbers(s);
+    number(b"duplicate", chunks::sack::repeat_at(s, 0).0 as u64, 19);
+    last_block(s);
+    sack_blocks(s);
+}
+
+fn sack_numbers(s: &[u8]) {
+    let k = chunks::sack::read_sack(s);
     number(b"point", k.point.0 as u64, 12);
     number(b"window", k.window as u64, 4660);
     number(b"blocks", k.blocks as u64, 2);
     number(b"duplicates", k.repeats as u64, 1);
-    number(b"duplicate", chunks::sack::repeat_at(s, 0).0 as u64, 19);
-    sack_blocks(s);
+}
+
+fn last_block(s: &[u8]) {
+    let last = chunks::sack::block_at(s, 1);
+    number(b"second block", last.start as u64, 5);
+    number(b"to", last.end as u64, 6);
 }
 
 fn wide(x: u16) -> u64 {
@@ -343,9 +402,6 @@ fn wide(x: u16) -> u64 {
 }
 
 fn sack_blocks(s: &[u8]) {
-    let last = chunks::sack::block_at(s, 1);
-    number(b"second block", last.start as u64, 5);
-    number(b"to", last.end as u64, 6);
     let b = chunks::sack::read_blocks(s);
     number(b"listed", b.count as u64, 2);
     number(b"first", wide(b.starts[0]), 2);
@@ -375,7 +431,7 @@ fn heartbeat_ack_written() {
     );
 }
 
-fn values_read() {
+fn whole_values() {
     place(
         b"HEARTBEAT",
         chunks::heartbeat::info(b"\x04\x00\x00\x09\x00\x01\x00\x05\x99\x00\x00\x00"),
@@ -388,6 +444,9 @@ fn values_read() {
         4,
         5,
     );
+}
+
+fn ends_read() {
     place(
         b"ERROR",
         chunks::cause::causes(b"\x09\x00\x00\x08\x00\x0c\x00\x04"),
@@ -495,14 +554,21 @@ fn error_parameters() {
         n,
         b"\x09\x00\x00\x16\x00\x08\x00\x12\xc0\x01\x00\x05\xaa\x00\x00\x00\x40\x01\x00\x06\xbb\xcc\x00\x00",
     );
-    let m = parameters::report::write_error_parameters(&mut out, b"\x02\x00\x00\x14");
-    number(b"nothing to report", m as u64, 0);
 }
 
-fn shutdowns_written() {
+fn nothing_reported() {
+    let mut out = [0xeeu8; 64];
+    let n = parameters::report::write_error_parameters(&mut out, b"\x02\x00\x00\x14");
+    number(b"nothing to report", n as u64, 0);
+}
+
+fn shutdown_written() {
     let mut out = [0xeeu8; 64];
     let n = chunks::shutdown::write_shutdown(&mut out, Tsn(12));
     wrote(b"SHUTDOWN", &out, n, b"\x07\x00\x00\x08\x00\x00\x00\x0c");
+}
+
+fn shutdown_read() {
     number(
         b"point",
         chunks::shutdown::point(b"\x07\x00\x00\x08\x00\x00\x00\x0c").0 as u64,
@@ -520,6 +586,9 @@ fn complete_written() {
     let mut out = [0xeeu8; 64];
     let n = chunks::shutdown::write_shutdown_complete(&mut out, true);
     wrote(b"SHUTDOWN COMPLETE, T", &out, n, b"\x0e\x01\x00\x04");
+}
+
+fn reflected_read() {
     bit(b"T", chunks::frame::reflected(b"\x0e\xff\x00\x04"), 1);
     bit(b"T", chunks::frame::reflected(b"\x06\xfe\x00\x04"), 0);
 }
@@ -553,96 +622,128 @@ fn no_room() {
     wrote(b"COOKIE ACK in 3 bytes", &out, n, b"");
 }
 
+// The name of a type up to 6.
+fn low_name(n: u8) {
+    match n {
+        0 => text(b" DATA"),
+        1 => text(b" INIT"),
+        2 => text(b" INIT ACK"),
+        3 => text(b" SACK"),
+        4 => text(b" HEARTBEAT"),
+        5 => text(b" HEARTBEAT ACK"),
+        _ => text(b" ABORT"),
+    }
+}
+
+// The name of a type from 7 on.
+fn high_name(n: u8) {
+    match n {
+        7 => text(b" SHUTDOWN"),
+        8 => text(b" SHUTDOWN ACK"),
+        9 => text(b" ERROR"),
+        10 => text(b" COOKIE ECHO"),
+        11 => text(b" COOKIE ACK"),
+        _ => text(b" SHUTDOWN COMPLETE"),
+    }
+}
+
 fn control(k: Kind) {
     match k {
-        Kind::Data => text(b" DATA"),
-        Kind::Init => text(b" INIT"),
-        Kind::InitAck => text(b" INIT ACK"),
-        Kind::Sack => text(b" SACK"),
-        Kind::Heartbeat => text(b" HEARTBEAT"),
-        Kind::HeartbeatAck => text(b" HEARTBEAT ACK"),
-        Kind::Abort => text(b" ABORT"),
-        Kind::Shutdown => text(b" SHUTDOWN"),
-        Kind::ShutdownAck => text(b" SHUTDOWN ACK"),
-        Kind::Error => text(b" ERROR"),
-        Kind::CookieEcho => text(b" COOKIE ECHO"),
-        Kind::CookieAck => text(b" COOKIE ACK"),
-        Kind::ShutdownComplete => text(b" SHUTDOWN COMPLETE"),
+        Kind::Data => low_name(0),
+        Kind::Init => low_name(1),
+        Kind::InitAck => low_name(2),
+        Kind::Sack => low_name(3),
+        Kind::Heartbeat => low_name(4),
+        Kind::HeartbeatAck => low_name(5),
+        Kind::Abort => low_name(6),
+        Kind::Shutdown => high_name(7),
+        Kind::ShutdownAck => high_name(8),
+        Kind::Error => high_name(9),
+        Kind::CookieEcho => high_name(10),
+        Kind::CookieAck => high_name(11),
+        Kind::ShutdownComplete => high_name(14),
         Kind::Unknown(h) => handling(h),
     }
 }
 
-fn kind(s: &[u8], should: &[u8]) {
+fn kind(number: u8, should: &[u8]) {
+    let s = [number];
     text(b"type");
-    show(s);
-    control(chunks::kind::kind_of(s));
+    show(&s);
+    control(chunks::kind::kind_of(&s));
     text(b" | ");
     text(should);
     text(b"\n");
 }
 
-fn known_kinds() {
-    kind(b"\x00", b"DATA");
-    kind(b"\x01", b"INIT");
-    kind(b"\x02", b"INIT ACK");
-    kind(b"\x03", b"SACK");
-    kind(b"\x04", b"HEARTBEAT");
-    kind(b"\x05", b"HEARTBEAT ACK");
-    kind(b"\x06", b"ABORT");
+fn opening_kinds() {
+    kind(0x00, b"DATA");
+    kind(0x01, b"INIT");
+    kind(0x02, b"INIT ACK");
+    kind(0x03, b"SACK");
 }
 
-fn more_kinds() {
-    kind(b"\x07", b"SHUTDOWN");
-    kind(b"\x08", b"SHUTDOWN ACK");
-    kind(b"\x09", b"ERROR");
-    kind(b"\x0a", b"COOKIE ECHO");
-    kind(b"\x0b", b"COOKIE ACK");
-    kind(b"\x0e", b"SHUTDOWN COMPLETE");
+fn living_kinds() {
+    kind(0x04, b"HEARTBEAT");
+    kind(0x05, b"HEARTBEAT ACK");
+    kind(0x06, b"ABORT");
 }
 
-fn unknown_kinds() {
-    kind(b"\x0c", b"stop");
-    kind(b"\x0d", b"stop");
-    kind(b"\x3f", b"stop");
-    kind(b"\x40", b"stop and report");
-    kind(b"\x7f", b"stop and report");
-    kind(b"\x80", b"skip");
-    kind(b"\xbf", b"skip");
-    kind(b"\xc0", b"skip and report");
-    kind(b"\xff", b"skip and report");
+fn closing_kinds() {
+    kind(0x07, b"SHUTDOWN");
+    kind(0x08, b"SHUTDOWN ACK");
+    kind(0x09, b"ERROR");
+    kind(0x0a, b"COOKIE ECHO");
+    kind(0x0b, b"COOKIE ACK");
+    kind(0x0e, b"SHUTDOWN COMPLETE");
 }
 
-fn stale() {
+fn stopping_kinds() {
+    kind(0x0c, b"stop");
+    kind(0x0d, b"stop");
+    kind(0x3f, b"stop");
+    kind(0x40, b"stop and report");
+    kind(0x7f, b"stop and report");
+}
+
+fn skipped_kinds() {
+    kind(0x80, b"skip");
+    kind(0xbf, b"skip");
+    kind(0xc0, b"skip and report");
+    kind(0xff, b"skip and report");
+}
+
+// Whether an ERROR has the cause of a stale cookie.
+fn stale(name: &[u8], error: &[u8], should: u64) {
+    bit(name, parameters::stale::is_stale(error), should);
+}
+
+fn stale_read() {
     text(b"stale cookie\n");
-    bit(
+    stale(
         b"causes 1 and 3",
-        parameters::stale::is_stale(
-            b"\x09\x00\x00\x14\x00\x01\x00\x08\x00\x80\x00\x00\x00\x03\x00\x08\x00\x00\x00\x00",
-        ),
+        b"\x09\x00\x00\x14\x00\x01\x00\x08\x00\x80\x00\x00\x00\x03\x00\x08\x00\x00\x00\x00",
         1,
     );
-    bit(
+    stale(
         b"cause 1",
-        parameters::stale::is_stale(b"\x09\x00\x00\x0c\x00\x01\x00\x08\x00\x80\x00\x00"),
+        b"\x09\x00\x00\x0c\x00\x01\x00\x08\x00\x80\x00\x00",
         0,
     );
-    bit(
+}
+
+fn not_stale() {
+    stale(
         b"behind an ill-formed one",
-        parameters::stale::is_stale(
-            b"\x09\x00\x00\x10\x00\x01\x00\x03\x00\x03\x00\x08\x00\x00\x00\x00",
-        ),
+        b"\x09\x00\x00\x10\x00\x01\x00\x03\x00\x03\x00\x08\x00\x00\x00\x00",
         0,
     );
-    bit(
+    stale(
         b"cause 3 past the chunk",
-        parameters::stale::is_stale(b"\x09\x00\x00\x08\x00\x03\x00\x08\x00\x00\x00\x00"),
+        b"\x09\x00\x00\x08\x00\x03\x00\x08\x00\x00\x00\x00",
         0,
     );
-    bit(
-        b"no cause",
-        parameters::stale::is_stale(b"\x09\x00\x00\x04"),
-        0,
-    );
+    stale(b"no cause", b"\x09\x00\x00\x04", 0);
 }
 
 fn writing() {
@@ -650,8 +751,7 @@ fn writing() {
     init_written();
     init_ack_written();
     init_ack_stopped();
-    sack_written();
-    duplicates_written();
+    sacks_written();
     heartbeat_written();
     heartbeat_ack_written();
     aborts_written();
@@ -661,21 +761,28 @@ fn writing() {
 }
 
 fn writing_more() {
-    shutdowns_written();
+    shutdown_written();
+    shutdown_read();
     shutdown_ack_written();
     error_stream();
     error_stale();
     error_chunk();
     error_parameters();
+    nothing_reported();
     cookies_written();
     cookie_ack_written();
     complete_written();
+    reflected_read();
     complete_plain();
 }
 
 fn refusing() {
-    data_refused();
-    init_ack_refused();
+    no_payload();
+    long_payload();
+    longest_payload();
+    no_cookie();
+    long_cookie();
+    longest_cookie();
     no_room();
 }
 
@@ -686,11 +793,16 @@ fn reading() {
     name_read();
     parameters_read();
     sack_read();
-    values_read();
-    known_kinds();
-    more_kinds();
-    unknown_kinds();
-    stale();
+    whole_values();
+    ends_read();
+}
+
+fn kinds() {
+    opening_kinds();
+    living_kinds();
+    closing_kinds();
+    stopping_kinds();
+    skipped_kinds();
 }
 
 fn main() {
@@ -698,4 +810,7 @@ fn main() {
     writing_more();
     refusing();
     reading();
+    kinds();
+    stale_read();
+    not_stale();
 }

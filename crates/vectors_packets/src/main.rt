@@ -118,106 +118,109 @@ fn large_sizes() {
     size(1476, 2);
 }
 
-// One byte less than each type's least, and its least.
-fn data_leasts() {
-    one(b"DATA", 0, 15, 28, 5);
-    one(b"DATA", 0, 16, 28, 0);
-    one(b"INIT", 1, 19, 32, 5);
-    one(b"INIT", 1, 20, 32, 0);
+// One byte less than a type's least, and its least.
+fn least(name: &[u8], kind: u8, less: u16, least: u16, n: usize) {
+    one(name, kind, less, n, 5);
+    one(name, kind, least, n, 0);
 }
 
-fn ack_leasts() {
-    one(b"INIT ACK", 2, 19, 32, 5);
-    one(b"INIT ACK", 2, 20, 32, 0);
-    one(b"SACK", 3, 15, 28, 5);
-    one(b"SACK", 3, 16, 28, 0);
+fn data_leasts() {
+    least(b"DATA", 0, 15, 16, 28);
+    least(b"INIT", 1, 19, 20, 32);
+    least(b"INIT ACK", 2, 19, 20, 32);
+    least(b"SACK", 3, 15, 16, 28);
 }
 
 fn control_leasts() {
-    one(b"HEARTBEAT", 4, 3, 16, 5);
-    one(b"HEARTBEAT", 4, 4, 16, 0);
-    one(b"HEARTBEAT ACK", 5, 3, 16, 5);
-    one(b"HEARTBEAT ACK", 5, 4, 16, 0);
-    one(b"ABORT", 6, 3, 16, 5);
-    one(b"ABORT", 6, 4, 16, 0);
-}
-
-fn shutdown_leasts() {
-    one(b"SHUTDOWN", 7, 7, 20, 5);
-    one(b"SHUTDOWN", 7, 8, 20, 0);
-    one(b"SHUTDOWN ACK", 8, 3, 16, 5);
-    one(b"SHUTDOWN ACK", 8, 4, 16, 0);
+    least(b"HEARTBEAT", 4, 3, 4, 16);
+    least(b"HEARTBEAT ACK", 5, 3, 4, 16);
+    least(b"ABORT", 6, 3, 4, 16);
+    least(b"SHUTDOWN", 7, 7, 8, 20);
+    least(b"SHUTDOWN ACK", 8, 3, 4, 16);
 }
 
 fn cookie_leasts() {
-    one(b"ERROR", 9, 3, 16, 5);
-    one(b"ERROR", 9, 4, 16, 0);
-    one(b"COOKIE ECHO", 10, 3, 16, 5);
-    one(b"COOKIE ECHO", 10, 4, 16, 0);
-    one(b"COOKIE ACK", 11, 3, 16, 5);
-    one(b"COOKIE ACK", 11, 4, 16, 0);
-    one(b"SHUTDOWN COMPLETE", 14, 3, 16, 5);
-    one(b"SHUTDOWN COMPLETE", 14, 4, 16, 0);
+    least(b"ERROR", 9, 3, 4, 16);
+    least(b"COOKIE ECHO", 10, 3, 4, 16);
+    least(b"COOKIE ACK", 11, 3, 4, 16);
+    least(b"SHUTDOWN COMPLETE", 14, 3, 4, 16);
 }
 
 fn unknown_leasts() {
     one(b"type 63", 63, 0, 16, 5);
-    one(b"type 63", 63, 3, 16, 5);
-    one(b"type 63", 63, 4, 16, 0);
-    one(b"type 255", 255, 3, 16, 5);
-    one(b"type 255", 255, 4, 16, 0);
+    least(b"type 63", 63, 3, 4, 16);
+    least(b"type 255", 255, 3, 4, 16);
 }
 
 // Chunks that go past the packet by 1 and by 4, that end with it, and that leave tails 01 has no number for.
-fn short_pasts() {
-    one(b"DATA in 16 bytes", 0, 17, 28, 5);
-    one(b"DATA in 16 bytes", 0, 20, 28, 5);
-    one(b"DATA in 20 bytes", 0, 17, 32, 0);
-    one(b"DATA in 20 bytes", 0, 20, 32, 0);
+fn past(name: &[u8], kind: u8, len: u16, longer: u16, n: usize) {
+    one(name, kind, len, n, 5);
+    one(name, kind, longer, n, 5);
+}
+
+fn inside(name: &[u8], kind: u8, len: u16, longer: u16, n: usize) {
+    one(name, kind, len, n, 0);
+    one(name, kind, longer, n, 0);
+}
+
+fn data_pasts() {
+    past(b"DATA in 16 bytes", 0, 17, 20, 28);
+    inside(b"DATA in 20 bytes", 0, 17, 20, 32);
     one(b"DATA in 20 bytes", 0, 21, 32, 5);
-    one(b"COOKIE ECHO in 8 bytes", 10, 5, 20, 0);
-    one(b"COOKIE ECHO in 8 bytes", 10, 8, 20, 0);
-    one(b"COOKIE ECHO in 8 bytes", 10, 9, 20, 5);
+}
+
+fn short_pasts() {
+    inside(b"COOKIE ECHO in 8 bytes", 10, 5, 8, 20);
+    past(b"COOKIE ECHO in 8 bytes", 10, 9, 12, 20);
+    past(b"type 193 in 8 bytes", 193, 9, 65535, 20);
 }
 
 fn long_pasts() {
-    one(b"COOKIE ECHO in 8 bytes", 10, 12, 20, 5);
-    one(b"type 193 in 8 bytes", 193, 9, 20, 5);
-    one(b"type 193 in 8 bytes", 193, 65535, 20, 5);
     one(b"SHUTDOWN in 12 bytes", 7, 12, 24, 0);
     one(b"COOKIE ACK in 8 bytes", 11, 8, 20, 0);
     one(b"DATA in 1460 bytes", 0, 1460, 1472, 0);
-    one(b"DATA in 1460 bytes", 0, 1461, 1472, 5);
-    one(b"DATA in 1460 bytes", 0, 1464, 1472, 5);
+    past(b"DATA in 1460 bytes", 0, 1461, 1464, 1472);
 }
 
 // An INIT of tag 1, window 65,536, 4 and 8 streams, TSN 11, and parameters.
-fn parameter_lengths() {
-    chunks(
-        b"INIT, parameter of 0",
-        b"\x01\x00\x00\x18\x00\x00\x00\x01\x00\x01\x00\x00\x00\x04\x00\x08\x00\x00\x00\x0b\x80\x00\x00\x00",
-        5,
-    );
-    chunks(
-        b"INIT, parameter of 1",
-        b"\x01\x00\x00\x18\x00\x00\x00\x01\x00\x01\x00\x00\x00\x04\x00\x08\x00\x00\x00\x0b\x80\x00\x00\x01",
-        5,
-    );
-    chunks(
-        b"INIT, parameter of 2",
-        b"\x01\x00\x00\x18\x00\x00\x00\x01\x00\x01\x00\x00\x00\x04\x00\x08\x00\x00\x00\x0b\x80\x00\x00\x02",
-        5,
-    );
-    chunks(
-        b"INIT, parameter of 3",
-        b"\x01\x00\x00\x18\x00\x00\x00\x01\x00\x01\x00\x00\x00\x04\x00\x08\x00\x00\x00\x0b\x80\x00\x00\x03",
-        5,
-    );
-    chunks(
-        b"INIT, parameter of 4",
-        b"\x01\x00\x00\x18\x00\x00\x00\x01\x00\x01\x00\x00\x00\x04\x00\x08\x00\x00\x00\x0b\x80\x00\x00\x04",
+fn parameter(len: u8, should: u64) {
+    let body: [u8; 24] = [
+        1,
         0,
-    );
+        0,
+        24,
+        0,
+        0,
+        0,
+        1,
+        0,
+        1,
+        0,
+        0,
+        0,
+        4,
+        0,
+        8,
+        0,
+        0,
+        0,
+        11,
+        0x80,
+        0,
+        0,
+        len,
+    ];
+    text(b"INIT, parameter of ");
+    number(len as u64);
+    chunks(b"", &body, should);
+}
+
+fn parameter_lengths() {
+    parameter(0, 5);
+    parameter(1, 5);
+    parameter(2, 5);
+    parameter(3, 5);
+    parameter(4, 0);
 }
 
 fn parameter_ends() {
@@ -254,6 +257,9 @@ fn parameter_paddings() {
         b"\x01\x00\x00\x1a\x00\x00\x00\x01\x00\x01\x00\x00\x00\x04\x00\x08\x00\x00\x00\x0b\x00\x07\x00\x05\x63\x00\x00\x00",
         5,
     );
+}
+
+fn parameter_pairs() {
     chunks(
         b"INIT ACK of 32, parameters of 5 and 4",
         b"\x02\x00\x00\x20\x00\x00\x00\x01\x00\x01\x00\x00\x00\x04\x00\x08\x00\x00\x00\x0b\x00\x07\x00\x05\x63\x00\x00\x00\x80\x00\x00\x04",
@@ -271,38 +277,54 @@ fn parameter_paddings() {
     );
 }
 
-// Point 6, window 65,536, then the counts of blocks and duplicates.
-fn counts() {
-    chunks(
-        b"SACK of 24, counts 1 and 1",
-        b"\x03\x00\x00\x18\x00\x00\x00\x06\x00\x01\x00\x00\x00\x01\x00\x01\x00\x02\x00\x03\x00\x00\x00\x05",
+// A SACK of point 6, window 65,536, these counts, a block and a duplicate.
+fn counted(len: u8, blocks: u8, duplicates: u8, should: u64) {
+    let body: [u8; 24] = [
+        3,
         0,
-    );
-    chunks(
-        b"SACK of 24, counts 1 and 0",
-        b"\x03\x00\x00\x18\x00\x00\x00\x06\x00\x01\x00\x00\x00\x01\x00\x00\x00\x02\x00\x03\x00\x00\x00\x05",
+        0,
+        len,
+        0,
+        0,
+        0,
+        6,
+        0,
+        1,
+        0,
+        0,
+        0,
+        blocks,
+        0,
+        duplicates,
+        0,
+        2,
+        0,
+        3,
+        0,
+        0,
+        0,
         5,
-    );
-    chunks(
-        b"SACK of 24, counts 2 and 1",
-        b"\x03\x00\x00\x18\x00\x00\x00\x06\x00\x01\x00\x00\x00\x02\x00\x01\x00\x02\x00\x03\x00\x00\x00\x05",
-        5,
-    );
-    chunks(
-        b"SACK of 24, counts 1 and 2",
-        b"\x03\x00\x00\x18\x00\x00\x00\x06\x00\x01\x00\x00\x00\x01\x00\x02\x00\x02\x00\x03\x00\x00\x00\x05",
-        5,
-    );
+    ];
+    text(b"SACK of ");
+    number(len as u64);
+    text(b", counts ");
+    number(blocks as u64);
+    text(b" and ");
+    number(duplicates as u64);
+    chunks(b"", &body, should);
+}
+
+fn counts() {
+    counted(24, 1, 1, 0);
+    counted(24, 1, 0, 5);
+    counted(24, 2, 1, 5);
+    counted(24, 1, 2, 5);
     chunks(
         b"SACK of 24, counts 0 and 2",
         b"\x03\x00\x00\x18\x00\x00\x00\x06\x00\x01\x00\x00\x00\x00\x00\x02\x00\x00\x00\x05\x00\x00\x00\x05",
         0,
     );
-    chunks(
-        b"SACK of 23, counts 1 and 1",
-        b"\x03\x00\x00\x17\x00\x00\x00\x06\x00\x01\x00\x00\x00\x01\x00\x01\x00\x02\x00\x03\x00\x00\x00\x05",
-        5,
-    );
+    counted(23, 1, 1, 5);
     chunks(
         b"SACK of 16, counts 65535 and 65535",
         b"\x03\x00\x00\x10\x00\x00\x00\x06\x00\x01\x00\x00\xff\xff\xff\xff",
@@ -311,7 +333,7 @@ fn counts() {
 }
 
 // INIT, INIT ACK and SHUTDOWN COMPLETE stand alone; 5 comes before 6.
-fn bundles() {
+fn init_bundles() {
     chunks(
         b"INIT, COOKIE ACK",
         b"\x01\x00\x00\x14\x00\x00\x00\x01\x00\x01\x00\x00\x00\x04\x00\x08\x00\x00\x00\x0b\x0b\x00\x00\x04",
@@ -327,6 +349,9 @@ fn bundles() {
         b"\x02\x00\x00\x14\x00\x00\x00\x01\x00\x01\x00\x00\x00\x04\x00\x08\x00\x00\x00\x0b\x0b\x00\x00\x04",
         6,
     );
+}
+
+fn complete_bundles() {
     chunks(
         b"SHUTDOWN COMPLETE, COOKIE ACK",
         b"\x0e\x00\x00\x04\x0b\x00\x00\x04",
@@ -342,6 +367,9 @@ fn bundles() {
         b"\x06\x00\x00\x04\x0e\x00\x00\x04",
         6,
     );
+}
+
+fn other_bundles() {
     chunks(
         b"SHUTDOWN COMPLETE, ERROR of 3",
         b"\x0e\x00\x00\x04\x09\x00\x00\x03",
@@ -359,71 +387,29 @@ fn bundles() {
     );
 }
 
-// Unknown types of the four kinds, first, between and last: the walk goes on behind each, whatever its high bits say.
-fn stop_types() {
-    chunks(
-        b"63, 11, 11",
-        b"\x3f\x00\x00\x04\x0b\x00\x00\x04\x0b\x00\x00\x04",
-        0,
-    );
-    chunks(
-        b"11, 63, 11",
-        b"\x0b\x00\x00\x04\x3f\x00\x00\x04\x0b\x00\x00\x04",
-        0,
-    );
-    chunks(
-        b"11, 11, 63",
-        b"\x0b\x00\x00\x04\x0b\x00\x00\x04\x3f\x00\x00\x04",
-        0,
-    );
-    chunks(
-        b"127, 11, 11",
-        b"\x7f\x00\x00\x04\x0b\x00\x00\x04\x0b\x00\x00\x04",
-        0,
-    );
-    chunks(
-        b"11, 127, 11",
-        b"\x0b\x00\x00\x04\x7f\x00\x00\x04\x0b\x00\x00\x04",
-        0,
-    );
-    chunks(
-        b"11, 11, 127",
-        b"\x0b\x00\x00\x04\x0b\x00\x00\x04\x7f\x00\x00\x04",
-        0,
-    );
+// Three chunks of 4 bytes.
+fn three(a: u8, b: u8, c: u8) {
+    let body: [u8; 12] = [a, 0, 0, 4, b, 0, 0, 4, c, 0, 0, 4];
+    number(a as u64);
+    text(b", ");
+    number(b as u64);
+    text(b", ");
+    number(c as u64);
+    chunks(b"", &body, 0);
 }
 
-fn skip_types() {
-    chunks(
-        b"191, 11, 11",
-        b"\xbf\x00\x00\x04\x0b\x00\x00\x04\x0b\x00\x00\x04",
-        0,
-    );
-    chunks(
-        b"11, 191, 11",
-        b"\x0b\x00\x00\x04\xbf\x00\x00\x04\x0b\x00\x00\x04",
-        0,
-    );
-    chunks(
-        b"11, 11, 191",
-        b"\x0b\x00\x00\x04\x0b\x00\x00\x04\xbf\x00\x00\x04",
-        0,
-    );
-    chunks(
-        b"255, 11, 11",
-        b"\xff\x00\x00\x04\x0b\x00\x00\x04\x0b\x00\x00\x04",
-        0,
-    );
-    chunks(
-        b"11, 255, 11",
-        b"\x0b\x00\x00\x04\xff\x00\x00\x04\x0b\x00\x00\x04",
-        0,
-    );
-    chunks(
-        b"11, 11, 255",
-        b"\x0b\x00\x00\x04\x0b\x00\x00\x04\xff\x00\x00\x04",
-        0,
-    );
+// An unknown type first, between and last: the walk goes on behind it, whatever its high bits say.
+fn unknown(kind: u8) {
+    three(kind, 11, 11);
+    three(11, kind, 11);
+    three(11, 11, kind);
+}
+
+fn unknown_types() {
+    unknown(63);
+    unknown(127);
+    unknown(191);
+    unknown(255);
 }
 
 fn behind_types() {
@@ -464,6 +450,9 @@ fn packet_checksums() {
         b"\x13\x88\x27\x10\x12\x34\x56\x79\xf3\x28\xf2\x3f\x0b\x00\x00\x04",
         3,
     );
+}
+
+fn packet_changes() {
     whole(
         b"COOKIE ACK, its checksum high byte first",
         b"\x13\x88\x27\x10\x12\x34\x56\x78\x3f\xf2\x28\xf3\x0b\x00\x00\x04",
@@ -497,6 +486,9 @@ fn packet_chunks() {
         b"\x13\x88\x27\x10\x12\x34\x56\x78\x00\x00\x00\x00\x00\x00\x00\x0f\x00\x00\x00\x01\x00\x00\x00\x00\x00\x00\x00\x00",
         3,
     );
+}
+
+fn packet_orders() {
     whole(
         b"COOKIE ACK, SHUTDOWN COMPLETE",
         b"\x13\x88\x27\x10\x12\x34\x56\x78\xcf\xb9\xa3\xcc\x0b\x00\x00\x04\x0e\x00\x00\x04",
@@ -516,6 +508,9 @@ fn headers() {
     line(b"source port", h.source as u64, 5000);
     line(b"destination port", h.destination as u64, 10000);
     line(b"tag", h.tag as u64, 305419896);
+}
+
+fn sealings() {
     sealing(
         b"sealed 16 of 20",
         16,
@@ -536,27 +531,39 @@ fn headers() {
     );
 }
 
-fn main() {
+fn sizes() {
     small_sizes();
     large_sizes();
     data_leasts();
-    ack_leasts();
     control_leasts();
-    shutdown_leasts();
     cookie_leasts();
     unknown_leasts();
+    data_pasts();
     short_pasts();
     long_pasts();
+}
+
+fn shapes() {
     parameter_lengths();
     parameter_ends();
     parameter_paddings();
+    parameter_pairs();
     counts();
-    bundles();
-    stop_types();
-    skip_types();
+    init_bundles();
+    complete_bundles();
+    other_bundles();
+    unknown_types();
     behind_types();
     budgets();
+}
+
+fn main() {
+    sizes();
+    shapes();
     packet_checksums();
+    packet_changes();
     packet_chunks();
+    packet_orders();
     headers();
+    sealings();
 }

@@ -4,10 +4,12 @@ use delivery::Verdict;
 use holding::Answer;
 use holding::Chunk;
 use holding::Held;
+use holding::taking::Message;
 use libc::STDOUT_FILENO;
 use numbers::Ssn;
 use numbers::StreamId;
 use numbers::Tsn;
+use octets::get8;
 
 // The bits of a chunk: E, B, U.
 const E: u8 = 1;
@@ -135,18 +137,18 @@ fn one(a: u64, right: u64) {
     text(b"\n");
 }
 
-fn five(a: u64, b: u64, c: u64, d: u64, e: u64, s: Step) {
+fn numbers(a: u64, b: u64, c: u64, d: u64, e: u64) {
     number(a);
     number(b);
     number(c);
     number(d);
     number(e);
+}
+
+fn five(a: u64, b: u64, c: u64, d: u64, e: u64, s: Step) {
+    numbers(a, b, c, d, e);
     text(b" |");
-    number(s.a);
-    number(s.b);
-    number(s.c);
-    number(s.d);
-    number(s.e);
+    numbers(s.a, s.b, s.c, s.d, s.e);
     text(b"\n");
 }
 
@@ -224,6 +226,29 @@ fn filled(r0: Receiving, area: &mut [u8; 65536], s: Step, times: u32) -> Receivi
     r
 }
 
+// A message of n bytes: its first and its last.
+fn say_message(m: Message, out: &[u8; 65536], s: Step) {
+    let n = m.length;
+    if 0 < n {
+        five(
+            0,
+            n as u64,
+            m.ssn.0 as u64,
+            byte(get8(out, 0)),
+            byte(get8(out, n - 1)),
+            s,
+        );
+    }
+}
+
+fn say_answer(a: Answer, out: &[u8; 65536], s: Step) {
+    match a {
+        Answer::Taken(m) => say_message(m, out, s),
+        Answer::Nothing => five(17, 0, 0, 0, 0, s),
+        Answer::Short(n) => five(18, n as u64, 0, 0, 0, s),
+    }
+}
+
 fn taken(r: Receiving, area: &mut [u8; 65536], s: Step) -> Receiving {
     let mut out = [0u8; 65536];
     let room = s.len;
@@ -231,31 +256,9 @@ fn taken(r: Receiving, area: &mut [u8; 65536], s: Step) -> Receiving {
         return r;
     }
     let t = r.take(area, &mut out[0..room]);
-    text(b"take:");
     let a = t.answer;
-    match a {
-        Answer::Taken(m) => {
-            let n = m.length;
-            if 0 < n {
-                if n <= 65536 {
-                    five(
-                        0,
-                        n as u64,
-                        m.ssn.0 as u64,
-                        byte(out[0]),
-                        byte(out[n - 1]),
-                        s,
-                    );
-                }
-            }
-        }
-        Answer::Nothing => {
-            five(17, 0, 0, 0, 0, s);
-        }
-        Answer::Short(n) => {
-            five(18, n as u64, 0, 0, 0, s);
-        }
-    }
+    text(b"take:");
+    say_answer(a, &out, s);
     t.receiving
 }
 
@@ -313,26 +316,48 @@ fn run(name: &[u8], r0: Receiving, steps: [Step; 16]) {
 // ---- the examples
 
 fn c8_c9() {
-    let mut s = [nothing(); 16];
-    s[0] = bounds(1);
-    s[1] = arrive(0, BE, 0, 1, 1, 0);
-    s[2] = sack(4294967294, 65024, 2, 2, 0);
-    s[3] = arrive(4294967295, BE, 0, 0, 1, 0);
-    s[4] = sack(0, 64512, 0, 0, 0);
-    s[5] = bounds(1);
+    let none = nothing();
+    let s = [
+        bounds(1),
+        arrive(0, BE, 0, 1, 1, 0),
+        sack(4294967294, 65024, 2, 2, 0),
+        arrive(4294967295, BE, 0, 0, 1, 0),
+        sack(0, 64512, 0, 0, 0),
+        bounds(1),
+        none,
+        none,
+        none,
+        none,
+        none,
+        none,
+        none,
+        none,
+        none,
+        none,
+    ];
     run(b"C8, C9", Receiving::fresh(Tsn(4294967295)), s);
 }
 
 fn c10_c11() {
-    let mut s = [nothing(); 16];
-    s[0] = take(65536, 17, 0, 0, 0, 0);
-    s[1] = arrive(129, BE, 0, 0, 1, 13);
-    s[2] = arrive(2147483648, BE, 0, 0, 1, 11);
-    s[3] = arrive(1, BE, 0, 0, 0, 9);
-    s[4] = arrive(1, BE, 0, 0, 513, 10);
-    s[5] = arrive(128, BE, 0, 0, 1, 0);
-    s[6] = sack(0, 65024, 128, 128, 1);
-    s[7] = bounds(1);
+    let none = nothing();
+    let s = [
+        take(65536, 17, 0, 0, 0, 0),
+        arrive(129, BE, 0, 0, 1, 13),
+        arrive(2147483648, BE, 0, 0, 1, 11),
+        arrive(1, BE, 0, 0, 0, 9),
+        arrive(1, BE, 0, 0, 513, 10),
+        arrive(128, BE, 0, 0, 1, 0),
+        sack(0, 65024, 128, 128, 1),
+        bounds(1),
+        none,
+        none,
+        none,
+        none,
+        none,
+        none,
+        none,
+        none,
+    ];
     run(
         b"C10, C11, opposite, empty, over 512",
         Receiving::fresh(Tsn(1)),
@@ -341,20 +366,25 @@ fn c10_c11() {
 }
 
 fn holes() {
-    let mut s = [nothing(); 16];
-    s[0] = fill(2, 126, U, 1, 0);
-    s[1] = sack(0, 1024, 2, 127, 0);
-    s[2] = arrive(128, U, 0, 0, 1, 0);
-    s[3] = sack(0, 512, 2, 128, 0);
-    s[4] = arrive(129, U, 0, 0, 1, 13);
-    s[5] = arrive(1, U, 0, 0, 1, 0);
-    s[6] = sack(128, 0, 0, 0, 0);
-    s[7] = bounds(1);
-    s[8] = arrive(129, U, 0, 0, 1, 13);
-    s[9] = take(1, 0, 1, 0, 1, 1);
-    s[10] = arrive(129, U, 0, 0, 1, 0);
-    s[11] = sack(129, 0, 0, 0, 0);
-    s[12] = bounds(1);
+    let none = nothing();
+    let s = [
+        fill(2, 126, U, 1, 0),
+        sack(0, 1024, 2, 127, 0),
+        arrive(128, U, 0, 0, 1, 0),
+        sack(0, 512, 2, 128, 0),
+        arrive(129, U, 0, 0, 1, 13),
+        arrive(1, U, 0, 0, 1, 0),
+        sack(128, 0, 0, 0, 0),
+        bounds(1),
+        arrive(129, U, 0, 0, 1, 13),
+        take(1, 0, 1, 0, 1, 1),
+        arrive(129, U, 0, 0, 1, 0),
+        sack(129, 0, 0, 0, 0),
+        bounds(1),
+        none,
+        none,
+        none,
+    ];
     run(
         b"a hole at each end of the window",
         Receiving::fresh(Tsn(1)),
@@ -363,33 +393,48 @@ fn holes() {
 }
 
 fn duplicates() {
-    let mut s = [nothing(); 16];
-    s[0] = arrive(1, BE, 0, 0, 1, 0);
-    s[1] = arrive(2, BE, 0, 1, 1, 0);
-    s[2] = fill(1, 2, BE, 1, 11);
-    s[3] = fill(4294967283, 14, BE, 1, 11);
-    s[4] = bounds(1);
-    s[5] = arrive(2, BE, 0, 1, 1, 11);
-    s[6] = bounds(1);
-    s[7] = sack(2, 64512, 0, 0, 16);
-    s[8] = sack(2, 64512, 0, 0, 0);
-    s[9] = fill(4294967283, 15, BE, 1, 11);
-    s[10] = sack(2, 64512, 0, 0, 15);
+    let none = nothing();
+    let s = [
+        arrive(1, BE, 0, 0, 1, 0),
+        arrive(2, BE, 0, 1, 1, 0),
+        fill(1, 2, BE, 1, 11),
+        fill(4294967283, 14, BE, 1, 11),
+        bounds(1),
+        arrive(2, BE, 0, 1, 1, 11),
+        bounds(1),
+        sack(2, 64512, 0, 0, 16),
+        sack(2, 64512, 0, 0, 0),
+        fill(4294967283, 15, BE, 1, 11),
+        sack(2, 64512, 0, 0, 15),
+        none,
+        none,
+        none,
+        none,
+        none,
+    ];
     run(b"16 and 17 duplicates", Receiving::fresh(Tsn(1)), s);
 }
 
 fn full() {
-    let mut s = [nothing(); 16];
-    s[0] = arrive(1, B, 0, 0, 512, 0);
-    s[1] = fill(2, 126, 0, 512, 0);
-    s[2] = take(65536, 17, 0, 0, 0, 0);
-    s[3] = arrive(128, E, 0, 0, 512, 0);
-    s[4] = sack(128, 0, 0, 0, 0);
-    s[5] = take(65535, 18, 65536, 0, 0, 0);
-    s[6] = take(65536, 0, 65536, 0, 1, 128);
-    s[7] = sack(128, 65536, 0, 0, 0);
-    s[8] = take(65536, 17, 0, 0, 0, 0);
-    s[9] = bounds(1);
+    let none = nothing();
+    let s = [
+        arrive(1, B, 0, 0, 512, 0),
+        fill(2, 126, 0, 512, 0),
+        take(65536, 17, 0, 0, 0, 0),
+        arrive(128, E, 0, 0, 512, 0),
+        sack(128, 0, 0, 0, 0),
+        take(65535, 18, 65536, 0, 0, 0),
+        take(65536, 0, 65536, 0, 1, 128),
+        sack(128, 65536, 0, 0, 0),
+        take(65536, 17, 0, 0, 0, 0),
+        bounds(1),
+        none,
+        none,
+        none,
+        none,
+        none,
+        none,
+    ];
     run(
         b"a message of 128 chunks on a full record",
         Receiving::fresh(Tsn(1)),
@@ -398,15 +443,25 @@ fn full() {
 }
 
 fn wedge() {
-    let mut s = [nothing(); 16];
-    s[0] = arrive(1, B, 0, 0, 1, 0);
-    s[1] = arrive(2, B, 0, 1, 1, 0);
-    s[2] = fill(3, 126, 0, 1, 0);
-    s[3] = take(65536, 17, 0, 0, 0, 0);
-    s[4] = arrive(129, 0, 0, 0, 1, 12);
-    s[5] = arrive(5, 0, 0, 0, 1, 11);
-    s[6] = sack(128, 0, 0, 0, 1);
-    s[7] = bounds(1);
+    let none = nothing();
+    let s = [
+        arrive(1, B, 0, 0, 1, 0),
+        arrive(2, B, 0, 1, 1, 0),
+        fill(3, 126, 0, 1, 0),
+        take(65536, 17, 0, 0, 0, 0),
+        arrive(129, 0, 0, 0, 1, 12),
+        arrive(5, 0, 0, 0, 1, 11),
+        sack(128, 0, 0, 0, 1),
+        bounds(1),
+        none,
+        none,
+        none,
+        none,
+        none,
+        none,
+        none,
+        none,
+    ];
     run(
         b"a wedge, and a duplicate on it",
         Receiving::fresh(Tsn(1)),
@@ -415,76 +470,121 @@ fn wedge() {
 }
 
 fn strays() {
-    let mut s = [nothing(); 16];
-    s[0] = arrive(1, BE, 128, 0, 1, 14);
-    s[1] = sack(1, 65536, 0, 0, 0);
-    s[2] = arrive(1, BE, 128, 0, 1, 11);
-    s[3] = arrive(3, BE, 65535, 0, 1, 14);
-    s[4] = sack(1, 65536, 2, 2, 1);
-    s[5] = take(65536, 17, 0, 0, 0, 0);
-    s[6] = bounds(1);
+    let none = nothing();
+    let s = [
+        arrive(1, BE, 128, 0, 1, 14),
+        sack(1, 65536, 0, 0, 0),
+        arrive(1, BE, 128, 0, 1, 11),
+        arrive(3, BE, 65535, 0, 1, 14),
+        sack(1, 65536, 2, 2, 1),
+        take(65536, 17, 0, 0, 0, 0),
+        bounds(1),
+        none,
+        none,
+        none,
+        none,
+        none,
+        none,
+        none,
+        none,
+        none,
+    ];
     run(b"14 and its repeat", Receiving::fresh(Tsn(1)), s);
 }
 
 fn inside() {
     let mut r = Receiving::fresh(Tsn(4294967295));
     r.next[0] = Ssn(65535);
-    let mut s = [nothing(); 16];
-    s[0] = arrive(1, BE, 0, 0, 3, 0);
-    s[1] = arrive(0, E, 0, 65535, 2, 0);
-    s[2] = take(65536, 17, 0, 0, 0, 0);
-    s[3] = arrive(4294967295, B, 0, 65535, 1, 0);
-    s[4] = take(65536, 0, 3, 65535, 122, 0);
-    s[5] = take(65536, 0, 3, 0, 1, 1);
-    s[6] = arrive(4294967295, B, 0, 65535, 1, 11);
-    s[7] = sack(1, 65536, 0, 0, 1);
-    s[8] = bounds(1);
+    let none = nothing();
+    let s = [
+        arrive(1, BE, 0, 0, 3, 0),
+        arrive(0, E, 0, 65535, 2, 0),
+        take(65536, 17, 0, 0, 0, 0),
+        arrive(4294967295, B, 0, 65535, 1, 0),
+        take(65536, 0, 3, 65535, 122, 0),
+        take(65536, 0, 3, 0, 1, 1),
+        arrive(4294967295, B, 0, 65535, 1, 11),
+        sack(1, 65536, 0, 0, 1),
+        bounds(1),
+        none,
+        none,
+        none,
+        none,
+        none,
+        none,
+        none,
+    ];
     run(b"both circles close inside a message", r, s);
 }
 
 fn between() {
     let mut r = Receiving::fresh(Tsn(4294967294));
     r.next[0] = Ssn(65535);
-    let mut s = [nothing(); 16];
-    s[0] = arrive(0, BE, 0, 0, 1, 0);
-    s[1] = arrive(4294967295, E, 0, 65535, 1, 0);
-    s[2] = arrive(4294967294, B, 0, 65535, 1, 0);
-    s[3] = sack(0, 64000, 0, 0, 0);
-    s[4] = take(65536, 0, 2, 65535, 121, 122);
-    s[5] = take(65536, 0, 1, 0, 0, 0);
-    s[6] = take(65536, 17, 0, 0, 0, 0);
-    s[7] = bounds(1);
+    let none = nothing();
+    let s = [
+        arrive(0, BE, 0, 0, 1, 0),
+        arrive(4294967295, E, 0, 65535, 1, 0),
+        arrive(4294967294, B, 0, 65535, 1, 0),
+        sack(0, 64000, 0, 0, 0),
+        take(65536, 0, 2, 65535, 121, 122),
+        take(65536, 0, 1, 0, 0, 0),
+        take(65536, 17, 0, 0, 0, 0),
+        bounds(1),
+        none,
+        none,
+        none,
+        none,
+        none,
+        none,
+        none,
+        none,
+    ];
     run(b"and between two", r, s);
 }
 
 fn order() {
-    let mut s = [nothing(); 16];
-    s[0] = arrive(4, BE, 3, 1, 2, 0);
-    s[1] = take(65536, 17, 0, 0, 0, 0);
-    s[2] = arrive(3, U, 0, 9, 3, 0);
-    s[3] = arrive(2, BE, 3, 0, 1, 0);
-    s[4] = take(65536, 0, 1, 0, 2, 2);
-    s[5] = take(65536, 0, 3, 9, 3, 3);
-    s[6] = take(65536, 0, 2, 1, 4, 4);
-    s[7] = arrive(4, BE, 3, 1, 2, 11);
-    s[8] = sack(0, 65536, 2, 4, 1);
-    s[9] = bounds(1);
+    let none = nothing();
+    let s = [
+        arrive(4, BE, 3, 1, 2, 0),
+        take(65536, 17, 0, 0, 0, 0),
+        arrive(3, U, 0, 9, 3, 0),
+        arrive(2, BE, 3, 0, 1, 0),
+        take(65536, 0, 1, 0, 2, 2),
+        take(65536, 0, 3, 9, 3, 3),
+        take(65536, 0, 2, 1, 4, 4),
+        arrive(4, BE, 3, 1, 2, 11),
+        sack(0, 65536, 2, 4, 1),
+        bounds(1),
+        none,
+        none,
+        none,
+        none,
+        none,
+        none,
+    ];
     run(b"the order of takes", Receiving::fresh(Tsn(1)), s);
 }
 
 fn weird() {
-    let mut s = [nothing(); 16];
-    s[0] = bounds(1);
-    s[1] = arrive(3, U, 0, 0, 1, 11);
-    s[2] = arrive(1, U, 0, 0, 1, 0);
-    s[3] = arrive(2, U, 0, 0, 1, 0);
-    s[4] = sack(2, 64000, 0, 0, 1);
-    s[5] = take(65536, 0, 1, 0, 1, 1);
-    s[6] = take(65536, 0, 1, 0, 2, 2);
-    s[7] = take(65536, 0, 1, 0, 0, 0);
-    s[8] = arrive(3, U, 0, 0, 1, 0);
-    s[9] = sack(3, 65024, 0, 0, 0);
-    s[10] = bounds(1);
+    let none = nothing();
+    let s = [
+        bounds(1),
+        arrive(3, U, 0, 0, 1, 11),
+        arrive(1, U, 0, 0, 1, 0),
+        arrive(2, U, 0, 0, 1, 0),
+        sack(2, 64000, 0, 0, 1),
+        take(65536, 0, 1, 0, 1, 1),
+        take(65536, 0, 1, 0, 2, 2),
+        take(65536, 0, 1, 0, 0, 0),
+        arrive(3, U, 0, 0, 1, 0),
+        sack(3, 65024, 0, 0, 0),
+        bounds(1),
+        none,
+        none,
+        none,
+        none,
+        none,
+    ];
     let mut r = Receiving::fresh(Tsn(1));
     r.held[9] = Held::of(chunk(Tsn(3), arrive(3, U, 0, 0, 1, 0)), 1);
     run(b"a chunk held above the point and not marked come", r, s);

@@ -1,18 +1,17 @@
 use borrow.Author.Needs.{needs}
 use Prim.Native.Nat.{_-_}
 use lib.ListN.{length}
-use mathlib.Core.Path.{_≡_}
 use Rattle.lives.proofs.page.say_rows.Statement.{statement}
 use Rattle.lives.proofs.page.say_rows.Tie as tie
 
 abbrev Inv-loop : tie.InvT-loop
-Inv-loop page₀ at s to₀ i₀ page to i = length page ≡ length page₀
+Inv-loop should at s to₀ i₀ to i = Unit {0}
 
 abbrev μ-loop : tie.MeasureT-loop
-μ-loop page₀ at s to₀ i₀ page to i = length s - i
+μ-loop should at s to₀ i₀ to i = length s - i
 
 loop-holds : tie.Need-loop-holds Inv-loop μ-loop
-loop-holds c = search needs
+loop-holds c = tt
 
 get8-requires : tie.Need-get8-requires Inv-loop μ-loop
 get8-requires c κs = search needs
@@ -27,10 +26,7 @@ loop-less : tie.Need-loop-less Inv-loop μ-loop
 loop-less c = search needs
 
 loop-again : tie.Need-loop-again Inv-loop μ-loop
-loop-again c = search needs
-
-same-length : tie.Need-same-length Inv-loop μ-loop
-same-length c = search needs
+loop-again c = tt
 
 returns : tie.Need-returns Inv-loop μ-loop
 returns c = search needs
@@ -47,5 +43,4 @@ say-rows-spec =
     add-i
     loop-less
     loop-again
-    same-length
     returns)
