@@ -1,6 +1,6 @@
 -- What a case of 01 gives, and what the definitions that the code's promises cite answer to it.
 use Prim.Native.Nat.{ℕ, _^_}
-use mathlib.Core.Bool.{Bool, true}
+use mathlib.Core.Bool.{true}
 use mathlib.Core.List.{List, [], _∷_}
 use Rattle.scans.specs.Scan.{count}
 use Rattle.numbers.specs.declared.circle.Distance.{Distance}

@@ -17,7 +17,7 @@ use Rattle.delivery.specs.Acknowledging.{sackOf}
 use Rattle.path.specs.Control as control
 use Rattle.path.specs.Clock as clock
 use Rattle.path.specs.Path as path
-use Rattle.cases.specs.Case.{Given, distance, arrivals, samples, expiry, Left, Answer, apart, left, waits, allows, Case, answered}
+use Rattle.cases.specs.Case.{Given, distance, arrivals, samples, expiry, Answer, apart, left, waits, allows, Case, answered}
 
 -- what is given, and what is to be answered; a single block
 abbrev row : Given → Answer → Case

@@ -10,9 +10,7 @@ use ghost.Atoms.{Atoms}
 use contract.Monad.{Fun, conj, fact, factI, fact-use}
 use denote.Laws.{both-say}
 use denote.Ref.{now}
-use Rattle.events.specs.Event.{eventOf}
-use Rattle.entry.specs.Happening.{Left, lent, happened}
-use Rattle.entry.specs.HappeningLaws.{Served, served-one}
+use Rattle.entry.specs.HappeningLaws.{served-one}
 use Rattle.entry.proofs.happening.happen as happen
 use Rattle.entry.proofs.running.run.Reads as run-reads
 use Rattle.entry.proofs.running.run_coded.Reads as run-coded-reads

@@ -32,7 +32,7 @@ use denote.Struct.Declared.{Declared, fields, row}
 use denote.Signature.{Slot, Signature, AllWithin, meetAt, plain, mutRefTo, mutSliceOf, shrSliceOf, typesAt}
 use denote.Triple.Entry.{Args, onEntry}
 use denote.Triple.End.{Kepts, Fins, outs, lastsOf}
-use denote.Triple.Clauses.{Clauses, Ended, AtExit, closing}
+use denote.Triple.Clauses.{Ended, AtExit, closing}
 use denote.Triple.Spec.{Spec, Meets, tripleOf}
 use denote.Triple.Table.{entered}
 use Rattle.lending.specs.Params.{Kind, copied, relent, Mach, valOf, Fit, Machs, valsOf, Fits}

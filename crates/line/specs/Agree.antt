@@ -9,7 +9,7 @@ use native.Mathlib.Nat.{zero-mod}
 use native.Mathlib.Omega.{arith}
 use native.Mathlib.Decide.{decLe}
 use borrow.Author.Tests.{not-false, eqb-true, le-leb, lt-leb}
-use lib.ListN.{set, replicate, getD, List·getD-map}
+use lib.ListN.{set, getD, List·getD-map}
 use lib.Dec.{eqb, leb, ltb}
 use Rattle.scans.specs.declared.Found.{Found}
 use Rattle.scans.specs.declared.Found.the-variants.{At, Nothing}

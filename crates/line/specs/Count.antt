@@ -1,6 +1,6 @@
 -- How often a number is held, how many held numbers are below a bound, and what putting a chunk in a place or emptying it does to both.
 -- Assumes nothing.
-use Prim.Native.Nat.{ℕ, zero, suc, _+_, _-_, _<_, _≤_, zero-le}
+use Prim.Native.Nat.{ℕ, zero, suc, _+_, _-_, _<_, _≤_}
 use mathlib.Core.Path.{_≡_, refl, sym, ap, _∙_}
 use mathlib.Core.Bool.{Bool, true, false}
 use mathlib.Core.List.{List, [], _∷_}
@@ -12,7 +12,7 @@ use lib.ListN.{length, set, getD}
 use lib.Dec.{eqb, ltb}
 use mir.Val.{boolByte as bit}
 use Rattle.scans.specs.declared.Found.the-variants.{At, Nothing}
-use Rattle.scans.specs.Scan.{pick, tick, count, findFrom, bit-le}
+use Rattle.scans.specs.Scan.{pick, count, findFrom}
 use Rattle.scans.specs.Counts.{tick-bit, count-most, count-set}
 use Rattle.scans.specs.Each.{All, clash}
 use Rattle.holding.specs.declared.held.Held.{Held}

@@ -7,9 +7,7 @@ use Rattle.steps.specs.declared.lent.Lent.{Lent}
 use Rattle.steps.specs.declared.lent.Echoed.{Echoed}
 use Rattle.calls.specs.Answer.{Plan}
 use Rattle.stored.specs.declared.kept.Stored.{Stored}
-use Rattle.stored.specs.declared.answer.Answer.{Answer}
 use Rattle.stored.specs.declared.answer.ServedAnswer.{ServedAnswer}
-use Rattle.serving.specs.declared.arrival.Arrived.{Arrived}
 use Rattle.serving.specs.declared.arrival.ServedArrived.{ServedArrived}
 use Rattle.serving.specs.Served.{Served, AnsweredAlone}
 use Rattle.serving.specs.ServedLaws.{served-one, alone-one}
