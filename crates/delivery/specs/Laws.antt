@@ -439,8 +439,8 @@ pub data LeftBy (T : Numbering) (P : Profile) (r : Receiving) (h : Held) : Verdi
   but-come : LeftBy T P r h Stray (passed T P r (h .tsn .0))
 
 module _ (T : Numbering) (P : Profile) (r : Receiving) (h : Held) (streams : ℕ) where
-  pub arrived-refused : 0 < numberOf (verdictOf T P r h streams)
-      → LeftBy T P r h (verdictOf T P r h streams) (arrived T P r h streams .receiving)
+  pub arrived-refused : 0 < numberOf (arrived T P r h streams .verdict)
+      → LeftBy T P r h (arrived T P r h streams .verdict) (arrived T P r h streams .receiving)
   unfolding arrived
   arrived-refused n = go (verdictOf T P r h streams) n
     where
@@ -454,8 +454,8 @@ module _ (T : Numbering) (P : Profile) (r : Receiving) (h : Held) (streams : ℕ
       go Stray n = but-come
 
   -- and the lent area as it was
-  pub area-refused : (area bytes : List ℕ) → 0 < numberOf (verdictOf T P r h streams) → areaAfter T P r h streams area bytes ≡ area
-  unfolding areaAfter
+  pub area-refused : (area bytes : List ℕ) → 0 < numberOf (arrived T P r h streams .verdict) → areaAfter T P r h streams area bytes ≡ area
+  unfolding arrived areaAfter
   area-refused area bytes n = go (verdictOf T P r h streams) n
     where
       go : (v : Verdict) → 0 < numberOf v → storedBy P (r .held) area bytes v ≡ area

@@ -11,5 +11,6 @@ pub mod SideLaws
 pub mod SoundLaws
 pub mod StepsLaws
 pub mod HeldLaws
+pub mod LeftLaws
 pub mod Replying
 pub mod ReplyingLaws
