@@ -1,7 +1,7 @@
 -- Every chunk that our writers leave is sound. HEARTBEAT, HEARTBEAT ACK, ABORT, SHUTDOWN ACK, ERROR, COOKIE ECHO, COOKIE ACK and
 -- SHUTDOWN COMPLETE have no rule of their own; the others are DATA, INIT, INIT ACK, SACK and SHUTDOWN. Assumes nothing.
 use Prim.Native.Nat.{ℕ, _+_, _*_, _≤_}
-use mathlib.Core.Path.{_≡_, refl, ap}
+use mathlib.Core.Path.{_≡_, refl}
 use mathlib.Core.Bool.{Bool, true}
 use mathlib.Core.List.{List, [], _++_}
 use native.Mathlib.Omega.{arith}
@@ -42,13 +42,9 @@ pub init-passes : (v : Init) → Sound (framed 1 0 (initFields v))
 init-passes v = init-sound 1 0 (initFields v) refl (omega arith) tiled-none
 
 -- what fills a chunk tiles it
-filling-some : {s : List ℕ} → Filling s → 4 ≤ length s
-filling-some (last h e) = h
-filling-some (more p b e h g f) = omega (arith, ap length e, length-append p b, filling-some f)
-
 pub filling-tiles : {s : List ℕ} → Filling s → tiled s ≡ true
 filling-tiles {s} (last h e) = tiled-last s h e
-filling-tiles (more p b e h g f) = rw e (tiled-more p b h g (omega (arith, filling-some f)) (filling-tiles f))
+filling-tiles (more p b e h g f) = rw e (tiled-more p b h g (filling-tiles f))
 
 module _ (v : Init) (c s : List ℕ) (h : length c ≤ 256) (n : length c ≡ 0 → ⊥) where
   pub init-ack-passes : Sound (initAckBytes v c s)

@@ -192,11 +192,20 @@ fn init(r: &mut Random, kind: u8) -> Vec<u8> {
         let length = if r.one_in(12) && !many { r.within(0, 700) } else { r.below(14) };
         v.extend_from_slice(&write::item(kind, &bytes(r, length)));
     }
-    if r.one_in(30) {
-        // Too few bytes for a parameter.
-        write::pad(&mut v);
-        let length = r.within(1, 3);
-        v.extend_from_slice(&bytes(r, length));
+    match r.below(30) {
+        0 => {
+            // Too few bytes for a parameter.
+            write::pad(&mut v);
+            let length = r.within(1, 3);
+            v.extend_from_slice(&bytes(r, length));
+        }
+        // The last one's padding counted: whole, as the other shop does, or in part.
+        1..=6 => write::pad(&mut v),
+        7 | 8 => {
+            let length = r.within(v.len(), padded(v.len()));
+            v.resize(length, 0);
+        }
+        _ => {}
     }
     v.truncate(1_456);
     write::chunk(kind, if r.one_in(8) { 255 } else { 0 }, &v)

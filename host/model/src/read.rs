@@ -105,7 +105,8 @@ fn least(kind: u8) -> usize {
     }
 }
 
-/// "Parameters of INIT and INIT ACK fill the chunk to its length exactly, the last one's padding excluded."
+/// "Parameters of INIT and INIT ACK fill the chunk to its length exactly, the last one's padding excluded"; T-02: "Read both ways", so
+/// the last one ends the chunk, or its padding does, and no byte within that padding.
 fn is_filled_by_parameters(chunk: &[u8]) -> bool {
     let mut at = 20;
     while at < chunk.len() {
@@ -120,11 +121,8 @@ fn is_filled_by_parameters(chunk: &[u8]) -> bool {
             return true;
         }
         at += padded(length);
-        if at >= chunk.len() {
-            return false;
-        }
     }
-    true
+    at == chunk.len()
 }
 
 fn is_filled(chunk: &[u8]) -> bool {

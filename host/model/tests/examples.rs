@@ -159,3 +159,22 @@ fn a_taken_chunk_is_not_delivered_again() {
     assert_eq!(Model.take(&mut e.a, &e.area, &mut e.out).number, 17);
     assert_eq!(e.sack().dups[..1], [5]);
 }
+
+/// T-02: an INIT whose length counts all of the last parameter's padding means what it means without; counted in part it is 5.
+#[test]
+fn the_last_parameters_padding() {
+    let mut v = write::init_fields(read::Init { tag: 9, window: 65_536, outs: 4, ins: 4, tsn: 1 });
+    v.extend_from_slice(&write::item(0xC001, b"?"));
+    let lent = Lent { tag: 7, tsn: 1, streams: 4 };
+    let answers = [0, 1, 2, 3].map(|counted| {
+        let mut e = End { a: Model.closed(10), area: vec![0; AREA], out: vec![0; OUTPUT] };
+        v.resize(16 + 5 + counted, 0);
+        let init = packet(20, 10, 0, &[write::chunk(read::INIT, 0, &v)]);
+        let r = Model.arrive(&mut e.a, &mut e.area, &init, lent, b"cookie", Echoed::default(), &mut e.out);
+        (r.number, e.out[..r.length].to_vec())
+    });
+    assert_eq!(answers[0].0, 0);
+    assert_eq!(answers[0].1[12..16], [read::INIT_ACK, 0, 0, 20 + 12 + 9]);
+    assert_eq!(answers[3], answers[0]);
+    assert_eq!((answers[1].0, answers[2].0), (5, 5));
+}
