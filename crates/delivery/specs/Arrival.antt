@@ -1,6 +1,7 @@
 -- A chunk arrives: "Checks, in order: … empty payload (9); payload over 512 (10); d at or below zero, or opposite, or offset already come, or TSN
 -- already held: duplicate (11); low is 128 and no message can be taken: wedged (12); d above 128 - low (13); stream not agreed (14). Otherwise it
--- is held. Then the point moves past every consecutive offset."
+-- is held. Then the point moves past every consecutive offset." And of 02, T-07: opposite is no duplicate, "24, just before 11, record unchanged
+-- and no duplicate listed".
 use Prim.Native.Nat.{ℕ, _-_}
 use mathlib.Core.Bool.{Bool, true, false, not}
 use mathlib.Core.List.{List}
@@ -24,15 +25,16 @@ use Rattle.holding.specs.Held.{holds, isFree}
 use Rattle.holding.specs.Message.{chosen, isOne}
 use Rattle.delivery.specs.declared.receiving.Receiving.{Receiving}
 use Rattle.delivery.specs.declared.arrival.Verdict.{Verdict}
-use Rattle.delivery.specs.declared.arrival.Verdict.the-variants.{Kept, Empty, Long, Duplicate, Wedged, Far, Stray}
+use Rattle.delivery.specs.declared.arrival.Verdict.the-variants.{Kept, Empty, Long, Opposite, Duplicate, Wedged, Far, Stray}
 use Rattle.delivery.specs.declared.arrival.Arrival.{Arrival}
 use Rattle.delivery.specs.Receiving.{lowOf}
 
--- the number of 01 for each verdict
+-- the number of 01 and 02 for each verdict
 abbrev pub numberOf : Verdict → ℕ
 numberOf Kept = 0
 numberOf Empty = 9
 numberOf Long = 10
+numberOf Opposite = 24
 numberOf Duplicate = 11
 numberOf Wedged = 12
 numberOf Far = 13
@@ -40,12 +42,19 @@ numberOf Stray = 14
 
 -- ---- the checks
 
--- "d at or below zero, or opposite"
+-- "A chunk exactly half the circle away" (02, T-07)
+abbrev pub isOpposite : Judgement → Bool
+isOpposite AtOpposite = true
+isOpposite AtOrBehind = false
+isOpposite (AheadWithin d) = false
+isOpposite (AheadBeyond d) = false
+
+-- "d at or below zero"
 abbrev pub isOld : Judgement → Bool
 isOld AtOrBehind = true
-isOld AtOpposite = true
 isOld (AheadWithin d) = false
 isOld (AheadBeyond d) = false
+isOld AtOpposite = false
 
 -- "d above 128 - low"
 abbrev pub isBeyond : Judgement → Bool
@@ -71,11 +80,12 @@ unfoldable pub verdictOf : Numbering → Profile → Receiving → Held → ℕ 
 verdictOf T P r h streams =
     pick (ltb (h .len) 1) Empty
     (pick (ltb (P .payload) (h .len)) Long
+    (pick (isOpposite (judgementOf T P r (h .tsn .0))) Opposite
     (pick (isOld (judgementOf T P r (h .tsn .0))) Duplicate
     (pick (isRepeat T (r .keeping) (r .held) (h .tsn .0)) Duplicate
     (pick (isWedged T P (lowOf T r) (r .held) (r .next) (r .keeping .point .0)) Wedged
     (pick (isBeyond (judgementOf T P r (h .tsn .0))) Far
-    (pick (isAgreed P (h .stream .0) streams) Kept Stray))))))
+    (pick (isAgreed P (h .stream .0) streams) Kept Stray)))))))
 
 -- ---- what each leaves
 
@@ -96,13 +106,14 @@ abbrev pub keptIn : Numbering → Profile → Receiving → Held → Found → R
 keptIn T P r h (At i) = kept T P r i h
 keptIn T P r h Nothing = passed T P r (h .tsn .0)
 
--- the record after each verdict; 9, 10, 12 and 13 leave all
+-- the record after each verdict; 9, 10, 12, 13 and 24 leave all
 abbrev pub after : Numbering → Profile → Receiving → Held → Verdict → Receiving
 after T P r h Kept = keptIn T P r h (findFrom isFree 0 (r .held))
 after T P r h Duplicate = noted P r (h .tsn)
 after T P r h Stray = passed T P r (h .tsn .0)
 after T P r h Empty = r
 after T P r h Long = r
+after T P r h Opposite = r
 after T P r h Wedged = r
 after T P r h Far = r
 
@@ -120,6 +131,7 @@ abbrev pub storedBy : Profile → List Held → List ℕ → List ℕ → Verdic
 storedBy P hs area bytes Kept = stored P area bytes (findFrom isFree 0 hs)
 storedBy P hs area bytes Empty = area
 storedBy P hs area bytes Long = area
+storedBy P hs area bytes Opposite = area
 storedBy P hs area bytes Duplicate = area
 storedBy P hs area bytes Wedged = area
 storedBy P hs area bytes Far = area

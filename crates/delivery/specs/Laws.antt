@@ -1,5 +1,5 @@
 -- The laws of receiving: a fresh record is within its bounds and every call keeps it so; a chunk that passes the checks finds a free place; a
--- number that has come is answered 11 from then on; a refused call leaves all but what 01's table names. Over either numbering.
+-- number that has come is answered 11 from then on, and 24 where it is opposite; a refused call leaves all but what 01's table names. Over either numbering.
 -- Assumes nothing.
 use Prim.Native.Nat.{ℕ, zero, suc, _+_, _-_, _<_, _≤_}
 use mathlib.Core.Path.{_≡_, refl, sym, ap, _∙_, subst}
@@ -27,7 +27,7 @@ use Rattle.numbers.specs.KeepingRoom.{count-numbers, any-numbers, length-number
 use Rattle.scans.specs.declared.Found.{Found}
 use Rattle.scans.specs.declared.Found.the-variants.{At, Nothing}
 use Rattle.scans.specs.Scan.{pick, tick, count, any, findFrom, find-within}
-use Rattle.scans.specs.Each.{All, all-set, clash, found-at}
+use Rattle.scans.specs.Each.{All, all-set, clash, found-at, if-not}
 use Rattle.holding.specs.declared.held.Held.{Held}
 use Rattle.holding.specs.declared.taking.Took.{Took}
 use Rattle.holding.specs.Held.{noHeld, isFree, holds, any-holds}
@@ -36,9 +36,9 @@ use Rattle.holding.specs.Taking as taking
 use Rattle.holding.specs.TakingLaws.{Leaves, same, less, took-leaves, emptied-long, advanced-long, took-refused}
 use Rattle.delivery.specs.declared.receiving.Receiving.{Receiving}
 use Rattle.delivery.specs.declared.arrival.Verdict.{Verdict}
-use Rattle.delivery.specs.declared.arrival.Verdict.the-variants.{Kept, Empty, Long, Duplicate, Wedged, Far, Stray}
+use Rattle.delivery.specs.declared.arrival.Verdict.the-variants.{Kept, Empty, Long, Opposite, Duplicate, Wedged, Far, Stray}
 use Rattle.delivery.specs.Receiving.{fresh, isLow, lowOf, takenBy, taken}
-use Rattle.delivery.specs.Arrival.{numberOf, isOld, isBeyond, isRepeat, judgementOf, verdictOf, noted, passed, kept, keptIn, after, arrived, storedBy, areaAfter}
+use Rattle.delivery.specs.Arrival.{numberOf, isOpposite, isOld, isBeyond, isRepeat, judgementOf, verdictOf, noted, passed, kept, keptIn, after, arrived, storedBy, areaAfter}
 use Rattle.delivery.specs.ArrivalLaws.{Coming, kept-coming, stray-coming}
 use Rattle.delivery.specs.Acknowledging.{told, acknowledged}
 use Rattle.delivery.specs.Bounds.{isUsed, numberIn, heldNumbers, Fit, Sound}
@@ -105,16 +105,16 @@ module _ (T : Numbering) (P : Profile) (r : Receiving) (h : Held) (w : Shaped T 
   -- it lies ahead, within the room that the low chunks leave
   within : (0 < keeping.offsetOf T (r .keeping) (h .tsn .0)) × (keeping.offsetOf T (r .keeping) (h .tsn .0) ≤ P .places - lowOf T r)
   unfolding judgementOf
-  within = go (judgementOf T P r (h .tsn .0)) refl (c .new) (c .near)
+  within = go (judgementOf T P r (h .tsn .0)) refl (c .sided) (c .new) (c .near)
     where
-      go : (j : Judgement) → judgementOf T P r (h .tsn .0) ≡ j → isOld j ≡ false → isBeyond j ≡ false
+      go : (j : Judgement) → judgementOf T P r (h .tsn .0) ≡ j → isOpposite j ≡ false → isOld j ≡ false → isBeyond j ≡ false
           → (0 < keeping.offsetOf T (r .keeping) (h .tsn .0)) × (keeping.offsetOf T (r .keeping) (h .tsn .0) ≤ P .places - lowOf T r)
-      go AtOrBehind e a b = clash (sym a)
-      go AtOpposite e a b = clash (sym a)
-      go (AheadBeyond d) e a b = clash (sym b)
-      go (AheadWithin d) e a b =
-          let o = number.judged-offset T (r .keeping) (P .places - lowOf T r) (h .tsn .0) (AheadWithin d) e in
-          (omega (arith, o .0, o .1), omega (arith, o .0, o .2))
+      go AtOpposite e o a b = clash (sym o)
+      go AtOrBehind e o a b = clash (sym a)
+      go (AheadBeyond d) e o a b = clash (sym b)
+      go (AheadWithin d) e o a b =
+          let x = number.judged-offset T (r .keeping) (P .places - lowOf T r) (h .tsn .0) (AheadWithin d) e in
+          (omega (arith, x .0, x .1), omega (arith, x .0, x .2))
 
   new-number : (keeping.isCome T (r .keeping) (h .tsn .0) ≡ false) × (any (holds (h .tsn .0)) (r .held) ≡ false)
   unfolding isRepeat
@@ -229,6 +229,7 @@ module _ (T : Numbering) (P : Profile) (r : Receiving) (w : Shaped T P r) where
       go Stray = passed-shaped (h .tsn .0)
       go Empty = w
       go Long = w
+      go Opposite = w
       go Wedged = w
       go Far = w
 
@@ -260,6 +261,7 @@ arrived-sound T P r h streams wide w s on u = go (verdictOf T P r h streams) ref
     go Stray e = passed-sound T P r h w on wide (stray-coming T P r h streams e) s
     go Empty e = s
     go Long e = s
+    go Opposite e = s
     go Wedged e = s
     go Far e = s
 
@@ -338,8 +340,8 @@ module _ (T : Numbering) (P : Profile) (r : Receiving) where
 
 -- ---- never twice: the second wrong build
 
--- what is at or behind the point, or has come above it, is old or a repeat
-known-old : (T : Numbering) (P : Profile) (r : Receiving) (t : ℕ) → number.isKnown T (r .keeping) t ≡ true
+-- what is at or behind the point, or has come above it, is old or a repeat; opposite numbers lie on neither side
+known-old : (T : Numbering) (P : Profile) (r : Receiving) (t : ℕ) → number.isKnown T (r .keeping) t ≡ true → isOpposite (judgementOf T P r t) ≡ false
     → (isOld (judgementOf T P r t) ≡ true) ⊎ (isRepeat T (r .keeping) (r .held) t ≡ true)
 unfolding isRepeat judgementOf
 known-old T P r t k = go (judged T (r .keeping .point .0) (P .places - lowOf T r) t) refl
@@ -350,20 +352,21 @@ known-old T P r t k = go (judged T (r .keeping .point .0) (P .places - lowOf T r
         let c : keeping.isCome T (r .keeping) t ≡ true = rw (le-ltb (keeping.offsetOf T (r .keeping) t) 1 m) at k in
         rw c
 
-    go : (j : Judgement) → judged T (r .keeping .point .0) (P .places - lowOf T r) t ≡ j
+    go : (j : Judgement) → judged T (r .keeping .point .0) (P .places - lowOf T r) t ≡ j → isOpposite j ≡ false
         → (isOld j ≡ true) ⊎ (pick (keeping.isCome T (r .keeping) t) true (any (holds t) (r .held)) ≡ true)
-    go AtOrBehind e = inl refl
-    go AtOpposite e = inl refl
-    go (AheadWithin d) e = let o = number.judged-offset T (r .keeping) (P .places - lowOf T r) t (AheadWithin d) e in inr (again d (o .0) (o .1))
-    go (AheadBeyond d) e = let o = number.judged-offset T (r .keeping) (P .places - lowOf T r) t (AheadBeyond d) e in inr (again d (o .0) (o .1))
+    go AtOpposite e f = clash (sym f)
+    go AtOrBehind e f = inl refl
+    go (AheadWithin d) e f = let o = number.judged-offset T (r .keeping) (P .places - lowOf T r) t (AheadWithin d) e in inr (again d (o .0) (o .1))
+    go (AheadBeyond d) e f = let o = number.judged-offset T (r .keeping) (P .places - lowOf T r) t (AheadBeyond d) e in inr (again d (o .0) (o .1))
 
--- and is answered 11, whatever else the record holds
+-- and is answered 11, or 24 where it is opposite, whatever else the record holds
 pub known-again : (T : Numbering) (P : Profile) (r : Receiving) (h : Held) (streams : ℕ) → 1 ≤ h .len → h .len ≤ P .payload
-    → number.isKnown T (r .keeping) (h .tsn .0) ≡ true → verdictOf T P r h streams ≡ Duplicate
+    → number.isKnown T (r .keeping) (h .tsn .0) ≡ true → verdictOf T P r h streams ≡ pick (isOpposite (judgementOf T P r (h .tsn .0))) Opposite Duplicate
 unfolding verdictOf
 known-again T P r h streams a b k =
     rw (le-ltb (h .len) 1 a, le-ltb (P .payload) (h .len) b)
-    (⊎-elim (λ e. rw e) (λ e. rw e (either-way (isOld (judgementOf T P r (h .tsn .0))))) (known-old T P r (h .tsn .0) k))
+    (if-not Opposite (isOpposite (judgementOf T P r (h .tsn .0)))
+    (λ f. ⊎-elim (λ e. rw e) (λ e. rw e (either-way (isOld (judgementOf T P r (h .tsn .0))))) (known-old T P r (h .tsn .0) k f)))
   where
     either-way : (t : Bool) → pick t Duplicate Duplicate ≡ Duplicate
     either-way true = refl
@@ -422,6 +425,7 @@ module _ (T : Numbering) (P : Profile) (r : Receiving) (wide : Short T (P .place
       go Stray l = marked-known (h .tsn .0) on l
       go Empty l = k
       go Long l = k
+      go Opposite l = k
       go Wedged l = k
       go Far l = k
 
@@ -432,9 +436,9 @@ module _ (T : Numbering) (P : Profile) (r : Receiving) (wide : Short T (P .place
 
 -- ---- a refused call leaves all but what the table names
 
--- 9, 10, 12, 13: all; 11: "TSN listed if room"; 14: "TSN comes, point moves, nothing held"
+-- 9, 10, 12, 13, 24: all; 11: "TSN listed if room"; 14: "TSN comes, point moves, nothing held"
 pub data LeftBy (T : Numbering) (P : Profile) (r : Receiving) (h : Held) : Verdict → Receiving → Type 0 where
-  all : (v : Verdict) → (numberOf v ≡ 9) ⊎ (numberOf v ≡ 10) ⊎ (numberOf v ≡ 12) ⊎ (numberOf v ≡ 13) → LeftBy T P r h v r
+  all : (v : Verdict) → (numberOf v ≡ 9) ⊎ (numberOf v ≡ 10) ⊎ (numberOf v ≡ 12) ⊎ (numberOf v ≡ 13) ⊎ (numberOf v ≡ 24) → LeftBy T P r h v r
   but-listed : LeftBy T P r h Duplicate (noted P r (h .tsn))
   but-come : LeftBy T P r h Stray (passed T P r (h .tsn .0))
 
@@ -449,7 +453,8 @@ module _ (T : Numbering) (P : Profile) (r : Receiving) (h : Held) (streams : ℕ
       go Empty n = all Empty (inl refl)
       go Long n = all Long (inr (inl refl))
       go Wedged n = all Wedged (inr (inr (inl refl)))
-      go Far n = all Far (inr (inr (inr refl)))
+      go Far n = all Far (inr (inr (inr (inl refl))))
+      go Opposite n = all Opposite (inr (inr (inr (inr refl))))
       go Duplicate n = but-listed
       go Stray n = but-come
 
@@ -464,6 +469,7 @@ module _ (T : Numbering) (P : Profile) (r : Receiving) (h : Held) (streams : ℕ
       go Long n = refl
       go Wedged n = refl
       go Far n = refl
+      go Opposite n = refl
       go Duplicate n = refl
       go Stray n = refl
 

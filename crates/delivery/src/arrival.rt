@@ -1,4 +1,4 @@
-// A chunk arrives: document 01's checks in their order, and what each leaves.
+// A chunk arrives: document 01's checks in their order, with those of 02, and what each leaves.
 use crate::receiving;
 use crate::receiving::Receiving;
 use holding::Chunk;
@@ -17,12 +17,13 @@ ghost use Rattle.numbers.specs.Keeping.{isCome};
 ghost use Rattle.scans.specs.Scan.{either, findFrom};
 ghost use Rattle.holding.specs.Held.{asHeld, holds, isFree};
 ghost use Rattle.delivery.specs.LookLaws.{orFree, freeOf, Looked};
-ghost use Rattle.delivery.specs.Arrival.{isOld, isBeyond, isWedged, verdictOf, noted, passed, kept, keptIn, stored, arrived, areaAfter};
+ghost use Rattle.delivery.specs.Arrival.{isOpposite, isOld, isBeyond, isWedged, verdictOf, noted, passed, kept, keptIn, stored, arrived, areaAfter};
 
 pub enum Verdict {
     Kept,
     Empty,
     Long,
+    Opposite,
     Duplicate,
     Wedged,
     Far,
@@ -91,15 +92,26 @@ fn look_for(keeping: Keeping, held: [Held; Rail::PLACES], tsn: Tsn) -> Look
     }
 }
 
-// At or below the point, or opposite to it.
+// Exactly half the circle away.
+fn is_opposite(j: Judgement) -> bool
+    ensures { λ y. ⌜ y ≡ isOpposite j ⌝ }
+{
+    match j {
+        Judgement::AtOpposite => true,
+        Judgement::AtOrBehind => false,
+        Judgement::AheadWithin(_) => false,
+        Judgement::AheadBeyond(_) => false,
+    }
+}
+
 fn is_old(j: Judgement) -> bool
     ensures { λ y. ⌜ y ≡ isOld j ⌝ }
 {
     match j {
         Judgement::AtOrBehind => true,
-        Judgement::AtOpposite => true,
         Judgement::AheadWithin(_) => false,
         Judgement::AheadBeyond(_) => false,
+        Judgement::AtOpposite => false,
     }
 }
 
@@ -150,6 +162,9 @@ fn judge(r: Receiving, w: Look, c: Chunk, len: usize, streams: u16) -> Verdict
     let tsn = c.tsn;
     let low = w.low;
     let j = point.judge(tsn, (Rail::PLACES - low) as u32);
+    if is_opposite(j) {
+        return Verdict::Opposite;
+    }
     if is_old(j) {
         return Verdict::Duplicate;
     }
@@ -249,6 +264,10 @@ impl Receiving {
                 receiving: self,
             },
             Verdict::Long => Arrival {
+                verdict,
+                receiving: self,
+            },
+            Verdict::Opposite => Arrival {
                 verdict,
                 receiving: self,
             },

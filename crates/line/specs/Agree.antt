@@ -33,7 +33,7 @@ use Rattle.holding.specs.MessageLaws.{continues-holds}
 use Rattle.holding.specs.Taking.{firstOf, lenAt, lengthOf, payloadAt, copied, emptied, advanced, messageOf, tookBy, took, writtenBy, written}
 use Rattle.delivery.specs.declared.receiving.Receiving.{Receiving}
 use Rattle.delivery.specs.declared.arrival.Verdict.{Verdict}
-use Rattle.delivery.specs.declared.arrival.Verdict.the-variants.{Kept, Empty, Long, Duplicate, Wedged, Far, Stray}
+use Rattle.delivery.specs.declared.arrival.Verdict.the-variants.{Kept, Empty, Long, Opposite, Duplicate, Wedged, Far, Stray}
 use Rattle.delivery.specs.Receiving.{fresh, isLow, lowOf, takenBy, taken}
 use Rattle.delivery.specs.Arrival.{isRepeat, isWedged, judgementOf, verdictOf, noted, passed, keptIn, after, arrived, storedBy, areaAfter}
 use Rattle.delivery.specs.Arrival as arrival
@@ -337,6 +337,7 @@ module _ (P : Profile) (h k : ℕ) where
           place Nothing = rw (kept.marked-law h (r .keeping) (c .tsn .0) w P)
       after-law Empty = refl
       after-law Long = refl
+      after-law Opposite = refl
       after-law Duplicate = rw (kept.listed-law n P (r .keeping) (c .tsn))
       after-law Wedged = refl
       after-law Far = refl
@@ -356,6 +357,7 @@ module _ (P : Profile) (h k : ℕ) where
           go Kept = rw (free-law (r .held))
           go Empty = refl
           go Long = refl
+          go Opposite = refl
           go Duplicate = refl
           go Wedged = refl
           go Far = refl

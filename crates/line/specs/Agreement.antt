@@ -6,7 +6,7 @@
 -- the profile is any; the rail's circles of 2^32 and 2^16 are the instance at the end. That the circle agrees (`agree-along`) asks only that what is
 -- held is near, whatever the chunks are; that it stays near (`near-along`) is shown from these premises, and may be shown from others.
 use Prim.Native.Nat.{ℕ, _+_, _*_, _^_, _%_, _<_, _≤_}
-use mathlib.Core.Path.{_≡_, refl, ap, _∙_}
+use mathlib.Core.Path.{_≡_, refl, sym, ap, _∙_, subst}
 use mathlib.Core.Bool.{false}
 use mathlib.Core.List.{List, map}
 use mir.Val.{boolByte as bit}
@@ -14,6 +14,7 @@ use native.Mathlib.Nat.{add-mod-right, mod-eq-of-lt}
 use native.Mathlib.Omega.{arith}
 use lib.ListN.{length}
 use Rattle.scans.specs.Scan.{count, bit-le}
+use Rattle.scans.specs.Each.{All}
 use Rattle.numbers.specs.declared.circle.Tsn.{Tsn}
 use Rattle.numbers.specs.Numbering.{ring, line}
 use Rattle.numbers.specs.Profile.{Profile, rail}
@@ -34,6 +35,7 @@ use Rattle.line.specs.Sound.{Wide, near}
 use Rattle.line.specs.Arrives.{SoundOf, kept-once}
 use Rattle.line.specs.Sequence.{take-alike, agree-along, near-along, fresh-sound, fresh-next, sound-from, once-from, told-come, order-from, order-reduced, firsts-copies}
 use Rattle.line.specs.Wedge.{Few, not-wedged}
+use Rattle.line.specs.Sided.{Sided, all-sided, reduced-sided}
 use Rattle.line.specs.Payloads.{lodged-fresh, lodged-from, genuine}
 
 -- the premises: a profile, half a circle, a first number on the line, a sender, and a sequence of events
@@ -106,6 +108,11 @@ module _ (P : Profile) (h : ℕ) (t : Tsn) (some : 0 < t .0) (streams : ℕ) (ar
   -- a sender that cuts no message into more chunks than there are places is never answered 12
   pub never-wedged : Few P (t .0) chunk → isWedged line P (lowOf line (last .receiving)) (last .receiving .held) (last .receiving .next) (last .receiving .keeping .point .0) ≡ false
   never-wedged few = not-wedged send few (last .receiving) (sound-from payload send h es begun sound fair .2)
+
+  -- and no arrival is answered 24, on the line or on the circle
+  pub never-opposite : (k : ℕ) → Wide P h → Wide P k → All Sided said × All Sided (circleSaid k)
+  never-opposite k wh wk =
+      let w = all-sided P streams es begun in (w, subst (All Sided) (sym (agrees k wh wk .0)) (reduced-sided n (k + k) said w))
 
   -- what a take then gives is a message that the sender cut, with its bytes, stream, U, SSN and PPID, so no new chunk passes for an old one; a
   -- refusal gives nothing, and 18 names the length of such a message

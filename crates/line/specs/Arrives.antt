@@ -33,10 +33,10 @@ use Rattle.holding.specs.declared.held.Held.{Held}
 use Rattle.holding.specs.Held.{noHeld, asHeld, holds, holds-is, holds-unused, isFree}
 use Rattle.delivery.specs.declared.receiving.Receiving.{Receiving}
 use Rattle.delivery.specs.declared.arrival.Verdict.{Verdict}
-use Rattle.delivery.specs.declared.arrival.Verdict.the-variants.{Kept, Empty, Long, Duplicate, Wedged, Far, Stray}
+use Rattle.delivery.specs.declared.arrival.Verdict.the-variants.{Kept, Empty, Long, Opposite, Duplicate, Wedged, Far, Stray}
 use Rattle.delivery.specs.Receiving.{lowOf}
 use Rattle.delivery.specs.Arrival as arrival
-use Rattle.delivery.specs.Arrival.{numberOf, isOld, isBeyond, isRepeat, isWedged, judgementOf, verdictOf, noted, keptIn, after, arrived}
+use Rattle.delivery.specs.Arrival.{numberOf, isOpposite, isOld, isBeyond, isRepeat, isWedged, judgementOf, verdictOf, noted, keptIn, after, arrived}
 use Rattle.delivery.specs.ArrivalLaws.{kept-coming}
 use Rattle.line.specs.Runs.{copies}
 use Rattle.line.specs.Count.{below, isBelow, below-suc, below-span, below-le, full-below, copies-set}
@@ -189,20 +189,22 @@ module _ {P : Profile} {base streams : ℕ} {chunk : ℕ → Chunk} {size : ℕ 
 -- ---- the verdict
 
 -- what was judged to be ahead and within is so
-judged-within : (j : Judgement) (room o : ℕ) → OffsetSays room o j → isOld j ≡ false → isBeyond j ≡ false → (1 ≤ o) × (o ≤ room)
-judged-within AtOrBehind room o w a b = clash (sym a)
-judged-within (AheadWithin d) room o w a b = (omega (arith, w), omega (arith, w))
-judged-within (AheadBeyond d) room o w a b = clash (sym b)
-judged-within AtOpposite room o w a b = clash (sym a)
+judged-within : (j : Judgement) (room o : ℕ) → OffsetSays room o j → isOpposite j ≡ false → isOld j ≡ false → isBeyond j ≡ false → (1 ≤ o) × (o ≤ room)
+judged-within AtOrBehind room o w x a b = clash (sym a)
+judged-within (AheadWithin d) room o w x a b = (omega (arith, w), omega (arith, w))
+judged-within (AheadBeyond d) room o w x a b = clash (sym b)
+judged-within AtOpposite room o w x a b = clash (sym x)
 
-never-stray : (a b c d e f : Bool) → pick a Empty (pick b Long (pick c Duplicate (pick d Duplicate (pick e Wedged (pick f Far Kept))))) ≡ Stray → ⊥
-never-stray true b c d e f q = omega (arith, ap numberOf q)
-never-stray false true c d e f q = omega (arith, ap numberOf q)
-never-stray false false true d e f q = omega (arith, ap numberOf q)
-never-stray false false false true e f q = omega (arith, ap numberOf q)
-never-stray false false false false true f q = omega (arith, ap numberOf q)
-never-stray false false false false false true q = omega (arith, ap numberOf q)
-never-stray false false false false false false q = omega (arith, ap numberOf q)
+never-stray : (a b x c d e f : Bool)
+    → pick a Empty (pick b Long (pick x Opposite (pick c Duplicate (pick d Duplicate (pick e Wedged (pick f Far Kept)))))) ≡ Stray → ⊥
+never-stray true b x c d e f q = omega (arith, ap numberOf q)
+never-stray false true x c d e f q = omega (arith, ap numberOf q)
+never-stray false false true c d e f q = omega (arith, ap numberOf q)
+never-stray false false false true d e f q = omega (arith, ap numberOf q)
+never-stray false false false false true e f q = omega (arith, ap numberOf q)
+never-stray false false false false false true f q = omega (arith, ap numberOf q)
+never-stray false false false false false false true q = omega (arith, ap numberOf q)
+never-stray false false false false false false false q = omega (arith, ap numberOf q)
 
 marked-is : (P : Profile) (k : Keeping) (t : ℕ) → 1 ≤ offsetOf line k t → offsetOf line k t ≤ P .places
     → marked line P k t ≡ settled line k (set (k .come) (offsetOf line k t - 1) true)
@@ -232,7 +234,7 @@ module _ {P : Profile} {base streams : ℕ} {chunk : ℕ → Chunk} {size : ℕ 
   keep-case e =
       let v = kept-coming line P r c streams e .0 in
       let low : ℕ = lowOf line r in
-      let o = judged-within (judgementOf line P r t) (P .places - low) (offsetOf line (r .keeping) t) (judged-offset line (r .keeping) (P .places - low) t (judgementOf line P r t) refl) (v .new) (v .near) in
+      let o = judged-within (judgementOf line P r t) (P .places - low) (offsetOf line (r .keeping) t) (judged-offset line (r .keeping) (P .places - low) t (judgementOf line P r t) refl) (v .sided) (v .new) (v .near) in
       let b = neither (isCome line (r .keeping) t) (any (holds t) (r .held)) (v .first) .0 in
       let lt : pt < t = omega (arith, offset-line (r .keeping) t, o) in
       let f : getD (r .keeping .come) (n - suc pt) false ≡ false
@@ -269,13 +271,14 @@ module _ {P : Profile} {base streams : ℕ} {chunk : ℕ → Chunk} {size : ℕ 
   stray-case : verdictOf line P r c streams ≡ Stray → ⊥
   unfolding verdictOf
   stray-case e =
-      never-stray (ltb (size n) 1) (ltb (P .payload) (size n)) (isOld (judgementOf line P r t)) (isRepeat line (r .keeping) (r .held) t)
-      (isWedged line P (lowOf line r) (r .held) (r .next) pt) (isBeyond (judgementOf line P r t)) (rw (send .agreed n lb) at e)
+      never-stray (ltb (size n) 1) (ltb (P .payload) (size n)) (isOpposite (judgementOf line P r t)) (isOld (judgementOf line P r t))
+      (isRepeat line (r .keeping) (r .held) t) (isWedged line P (lowOf line r) (r .held) (r .next) pt) (isBeyond (judgementOf line P r t)) (rw (send .agreed n lb) at e)
 
   after-case : (v : Verdict) → verdictOf line P r c streams ≡ v → SoundOf P base chunk size (after line P r c v) gone least
   after-case Kept e = keep-case e .0
   after-case Empty e = s
   after-case Long e = s
+  after-case Opposite e = s
   after-case Duplicate e = dup-case
   after-case Wedged e = s
   after-case Far e = s

@@ -13,3 +13,4 @@ pub mod Takes
 pub mod Sequence
 pub mod Payloads
 pub mod Wedge
+pub mod Sided

@@ -28,7 +28,7 @@ use Rattle.holding.specs.Message.{Choice, none, one, chosen, chunksAt}
 use Rattle.holding.specs.Taking.{firstOf, lenAt, lengthOf, payloadAt, copied, emptied, advanced, messageOf, tookBy, took, writtenBy, written}
 use Rattle.delivery.specs.declared.receiving.Receiving.{Receiving}
 use Rattle.delivery.specs.declared.arrival.Verdict.{Verdict}
-use Rattle.delivery.specs.declared.arrival.Verdict.the-variants.{Kept, Empty, Long, Duplicate, Wedged, Far, Stray}
+use Rattle.delivery.specs.declared.arrival.Verdict.the-variants.{Kept, Empty, Long, Opposite, Duplicate, Wedged, Far, Stray}
 use Rattle.delivery.specs.Receiving.{fresh, takenBy, taken}
 use Rattle.delivery.specs.Arrival as arrival
 use Rattle.delivery.specs.Arrival.{verdictOf, noted, passed, keptIn, after, arrived, stored, storedBy, areaAfter}
@@ -227,6 +227,7 @@ module _ {P : Profile} {base streams : ℕ} {chunk : ℕ → Chunk} (payload : �
             place Nothing q fits = w
         go Empty e = w
         go Long e = w
+        go Opposite e = w
         go Duplicate e = w
         go Wedged e = w
         go Far e = w

@@ -32,7 +32,7 @@ use Rattle.delivery.specs.declared.receiving.Receiving.{Receiving}
 use Rattle.delivery.specs.declared.receiving.Taken.{Taken as Left}
 use Rattle.delivery.specs.declared.arrival.Arrival.{Arrival}
 use Rattle.delivery.specs.declared.arrival.Verdict.{Verdict}
-use Rattle.delivery.specs.declared.arrival.Verdict.the-variants.{Kept, Empty, Long, Duplicate, Wedged, Far, Stray}
+use Rattle.delivery.specs.declared.arrival.Verdict.the-variants.{Kept, Empty, Long, Opposite, Duplicate, Wedged, Far, Stray}
 use Rattle.delivery.specs.declared.acknowledging.Acknowledged.{Acknowledged}
 use Rattle.scans.specs.declared.Found.{Found}
 use Rattle.scans.specs.declared.Found.the-variants.{At, Nothing}
@@ -228,6 +228,7 @@ after-next P r c Kept = place (findFrom isFree 0 (r .held))
     place Nothing = refl
 after-next P r c Empty = refl
 after-next P r c Long = refl
+after-next P r c Opposite = refl
 after-next P r c Duplicate = refl
 after-next P r c Wedged = refl
 after-next P r c Far = refl

@@ -395,6 +395,7 @@ fn number_of(v: Verdict) -> u8 {
         Verdict::Kept => 0,
         Verdict::Empty => 9,
         Verdict::Long => 10,
+        Verdict::Opposite => 24,
         Verdict::Duplicate => 11,
         Verdict::Wedged => 12,
         Verdict::Far => 13,

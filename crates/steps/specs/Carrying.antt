@@ -18,7 +18,7 @@ use Rattle.chunks.specs.ShutdownChunk.{shutdownAckBytes}
 use Rattle.holding.specs.declared.held.Chunk.{Chunk}
 use Rattle.holding.specs.Held.{asHeld}
 use Rattle.delivery.specs.declared.arrival.Verdict.{Verdict}
-use Rattle.delivery.specs.declared.arrival.Verdict.the-variants.{Kept, Empty, Long, Duplicate, Wedged, Far, Stray}
+use Rattle.delivery.specs.declared.arrival.Verdict.the-variants.{Kept, Empty, Long, Opposite, Duplicate, Wedged, Far, Stray}
 use Rattle.delivery.specs.declared.arrival.Arrival.{Arrival}
 use Rattle.delivery.specs.declared.receiving.Receiving.{Receiving}
 use Rattle.delivery.specs.Arrival.{numberOf, arrived, areaAfter}
@@ -62,12 +62,13 @@ abbrev pub isKept : Verdict → Bool
 isKept Kept = true
 isKept Empty = false
 isKept Long = false
+isKept Opposite = false
 isKept Duplicate = false
 isKept Wedged = false
 isKept Far = false
 isKept Stray = false
 
--- the numbers 9 to 14 are those of the receiving side
+-- the numbers 9 to 14 and 24 are those of the receiving side
 abbrev pub fateOf : Verdict → Fate
 fateOf v = pick (eqb (numberOf v) 0) Accepted (Refused (numberOf v))
 
@@ -76,6 +77,7 @@ abbrev pub callOf : Verdict → Tsn → StreamId → Named
 callOf Kept t s = NoCall
 callOf Empty t s = AbortNoData t
 callOf Long t s = NoCall
+callOf Opposite t s = NoCall
 callOf Duplicate t s = NoCall
 callOf Wedged t s = AbortViolation
 callOf Far t s = NoCall

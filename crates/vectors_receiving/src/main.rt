@@ -167,6 +167,7 @@ fn number_of(v: Verdict) -> u64 {
         Verdict::Kept => 0,
         Verdict::Empty => 9,
         Verdict::Long => 10,
+        Verdict::Opposite => 24,
         Verdict::Duplicate => 11,
         Verdict::Wedged => 12,
         Verdict::Far => 13,
@@ -343,17 +344,17 @@ fn c10_c11() {
     let s = [
         take(65536, 17, 0, 0, 0, 0),
         arrive(129, BE, 0, 0, 1, 13),
-        arrive(2147483648, BE, 0, 0, 1, 11),
+        arrive(2147483647, BE, 0, 0, 1, 13),
+        arrive(2147483648, BE, 0, 0, 1, 24),
+        sack(0, 65536, 0, 0, 0),
+        arrive(2147483649, BE, 0, 0, 1, 11),
+        arrive(2147483648, BE, 0, 0, 0, 9),
+        arrive(2147483648, BE, 0, 0, 513, 10),
         arrive(1, BE, 0, 0, 0, 9),
         arrive(1, BE, 0, 0, 513, 10),
         arrive(128, BE, 0, 0, 1, 0),
         sack(0, 65024, 128, 128, 1),
         bounds(1),
-        none,
-        none,
-        none,
-        none,
-        none,
         none,
         none,
         none,
@@ -590,6 +591,32 @@ fn weird() {
     run(b"a chunk held above the point and not marked come", r, s);
 }
 
+// A chunk that is held opposite to the point comes again: 24 stands before "TSN already held", and 11 follows once the point has moved.
+fn opposite() {
+    let none = nothing();
+    let s = [
+        bounds(1),
+        arrive(2147483649, U, 0, 0, 1, 24),
+        sack(1, 65024, 0, 0, 0),
+        arrive(2, U, 0, 0, 1, 0),
+        arrive(2147483649, U, 0, 0, 1, 11),
+        arrive(2147483650, U, 0, 0, 1, 24),
+        sack(2, 64512, 0, 0, 1),
+        bounds(1),
+        none,
+        none,
+        none,
+        none,
+        none,
+        none,
+        none,
+        none,
+    ];
+    let mut r = Receiving::fresh(Tsn(2));
+    r.held[9] = Held::of(chunk(Tsn(2147483649), arrive(2147483649, U, 0, 0, 1, 0)), 1);
+    run(b"a chunk held opposite to the point", r, s);
+}
+
 // A chunk put in place 64 of a record that holds 3 near the point and 2147483649 opposite to it.
 fn outside(name: &[u8], tsn: u32, stream: u16, len: u16, within: u64) {
     let mut r = Receiving::fresh(Tsn(2));
@@ -612,6 +639,7 @@ fn main() {
     between();
     order();
     weird();
+    opposite();
     outside(b"one more held:", 5, 127, 512, 1);
     outside(b"held twice near the point:", 3, 0, 1, 0);
     outside(b"held twice far from it:", 2147483649, 0, 1, 0);

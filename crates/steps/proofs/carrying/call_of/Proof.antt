@@ -4,61 +4,53 @@ use Rattle.steps.proofs.carrying.call_of.Tie as tie
 use Rattle.steps.proofs.carrying.call_of.Reads as reads
 use Rattle.steps.proofs.carrying.call_of.Lts as lts
 
--- src/carrying.rt:56:26
 enum-told : tie.Need-enum-told
 enum-told c = search needs
 
--- src/carrying.rt:57:27
 enum-told-2 : tie.Need-enum-told-2
 enum-told-2 c = search needs
 
--- src/carrying.rt:58:26
 enum-told-3 : tie.Need-enum-told-3
 enum-told-3 c = search needs
 
--- src/carrying.rt:59:31
 enum-told-4 : tie.Need-enum-told-4
 enum-told-4 c = search needs
 
--- src/carrying.rt:60:28
 enum-told-5 : tie.Need-enum-told-5
 enum-told-5 c = search needs
 
--- src/carrying.rt:61:25
 enum-told-6 : tie.Need-enum-told-6
 enum-told-6 c = search needs
 
--- src/carrying.rt:62:27
 enum-told-7 : tie.Need-enum-told-7
 enum-told-7 c = search needs
 
--- src/carrying.rt:52:1
+enum-told-8 : tie.Need-enum-told-8
+enum-told-8 c = search needs
+
 returns : tie.Need-returns
 returns c = search needs
 
--- src/carrying.rt:52:1
 returns-2 : tie.Need-returns-2
 returns-2 c = rw (c .enum-told2 .given .1)
 
--- src/carrying.rt:52:1
 returns-3 : tie.Need-returns-3
 returns-3 c = search needs
 
--- src/carrying.rt:52:1
 returns-4 : tie.Need-returns-4
 returns-4 c = search needs
 
--- src/carrying.rt:52:1
 returns-5 : tie.Need-returns-5
 returns-5 c = search needs
 
--- src/carrying.rt:52:1
 returns-6 : tie.Need-returns-6
 returns-6 c = search needs
 
--- src/carrying.rt:52:1
 returns-7 : tie.Need-returns-7
-returns-7 c = rw (c .enum-told7 .given .1)
+returns-7 c = search needs
+
+returns-8 : tie.Need-returns-8
+returns-8 c = rw (c .enum-told8 .given .1)
 
 pub call-of-spec : {M : Type 1} → statement M
 call-of-spec =
@@ -71,10 +63,12 @@ call-of-spec =
     enum-told-5
     enum-told-6
     enum-told-7
+    enum-told-8
     returns
     returns-2
     returns-3
     returns-4
     returns-5
     returns-6
-    returns-7)
+    returns-7
+    returns-8)

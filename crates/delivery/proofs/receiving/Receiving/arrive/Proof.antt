@@ -41,6 +41,9 @@ enum-told-6 c = search needs
 enum-told-7 : tie.Need-enum-told-7
 enum-told-7 c = search needs
 
+enum-told-8 : tie.Need-enum-told-8
+enum-told-8 c = search needs
+
 same-length : tie.Need-same-length
 same-length c = search needs
 
@@ -72,6 +75,10 @@ returns-7 : tie.Need-returns-7
 unfolding arrived areaAfter
 returns-7 c = rw (← c .before .before .judge .ensures, c .enum-told7 .given .1) (refl, refl)
 
+returns-8 : tie.Need-returns-8
+unfolding arrived areaAfter
+returns-8 c = rw (← c .before .before .judge .ensures, c .enum-told8 .given .1) (refl, refl)
+
 pub arrive-spec : {M : Type 1} → statement M
 arrive-spec =
     tie.close
@@ -88,6 +95,7 @@ arrive-spec =
     enum-told-5
     enum-told-6
     enum-told-7
+    enum-told-8
     same-length
     returns
     returns-2
@@ -95,4 +103,5 @@ arrive-spec =
     returns-4
     returns-5
     returns-6
-    returns-7)
+    returns-7
+    returns-8)
