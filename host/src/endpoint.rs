@@ -404,7 +404,7 @@ impl<L: Library> Endpoint<L> {
         self.events.push_back(Event::Down(why));
     }
 
-    /// What the packet's DATA asks of the next SACK, of the taker and of T2.
+    /// What the packet's DATA asks of the next SACK, of the taker and of T2. An opposite chunk is neither new nor a duplicate, and asks for nothing.
     fn note_data(&mut self, packet: &[u8], verdicts: &[Verdict], now: Instant) {
         let of_data = |verdict: &&Verdict| packet.get(verdict.at) == Some(&DATA);
         let has_come = |fate: Fate| fate == Fate::Accepted || fate == Fate::Refused(Refusal::STRAY);

@@ -3,6 +3,7 @@
 mod modelled;
 mod pair;
 
+use model::checksum;
 use modelled::Modelled;
 use oilwhisper::calls::{Cause, Refusal, State};
 use oilwhisper::endpoint::{Config, Event, Why};
@@ -163,6 +164,25 @@ fn acknowledges_a_gap_at_once_and_resends_without_waiting_for_t3<L: Library>() {
     assert_eq!(pair.ends[0].endpoint.counts().resent, 1);
 }
 
+fn an_opposite_chunk_asks_for_no_sack<L: Library>() {
+    let mut pair = Pair::<L>::up(slow(1), 15);
+    pair.ends[0].endpoint.hand_in(&[4; 512], 0, false, 0).expect("there is room");
+    assert!(pair.run_until(MINUTE, |pair| sent(pair, 1, SACK) == 1));
+    let mut packet = pair.ends[0].sent.last().expect("the chunk was sent").clone();
+    assert_eq!(first_chunk(&packet), DATA);
+    packet[16] ^= 0x80;
+    checksum::seal(&mut packet);
+    let (from, now) = (pair.ends[0].address, pair.now);
+    let before = pair.ends[1].endpoint.standing();
+    for _ in 0..3 {
+        pair.ends[1].endpoint.arrive(&packet, from, now);
+    }
+    pair.run_for(Duration::from_millis(500));
+    assert_eq!(pair.ends[1].endpoint.standing(), before);
+    assert_eq!(pair.ends[1].endpoint.counts().refusals().collect::<Vec<_>>(), [(Refusal::OPPOSITE, 3)]);
+    assert_eq!(sent(&pair, 1, SACK), 1);
+}
+
 fn measures_round_trips_but_not_of_what_was_resent<L: Library>() {
     let mut pair = Pair::<L>::up(slow(400), 9);
     for _ in 0..2 {
@@ -285,6 +305,7 @@ on_both! {
     beats_while_idle_and_notices_silence
     acknowledges_every_second_packet_or_after_200_ms
     acknowledges_a_gap_at_once_and_resends_without_waiting_for_t3
+    an_opposite_chunk_asks_for_no_sack
     measures_round_trips_but_not_of_what_was_resent
     a_slow_taker_shuts_the_window_and_opens_it_again
     a_stale_cookie_is_told_to_the_peer

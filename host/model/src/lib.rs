@@ -1,7 +1,7 @@
-//! A plain model of the core, written from the scope paper ("01"), its decisions and RFC 9260, and a driver that holds two implementations of the core
-//! against each other.
+//! A plain model of the core, written from the scope paper ("01"), the requests that came later ("02"), their decisions and RFC 9260, and a driver that
+//! holds two implementations of the core against each other.
 //!
-//! The rules are 01's. What 01 leaves open in the record's representation is taken from the core:
+//! The rules are 01's and 02's. What 01 leaves open in the record's representation is taken from the core:
 //!
 //! - A freed place of the receiving side is all 0. A freed place of the sending side keeps its fields, its misses too, and has status 0.
 //! - A chunk that waits has TSN 0, SSN 0 and misses 0; `order` counts the chunks handed in, on the circle of 2^32, and stays when it is sent.

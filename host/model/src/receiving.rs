@@ -54,7 +54,8 @@ fn mark(k: &mut Keeping, tsn: u32) {
     k.point = k.point.wrapping_add(run as u32);
 }
 
-/// The checks behind 7, in 01's order, of a DATA chunk; 0 if it is held.
+/// The checks behind 7, in 01's order, of a DATA chunk; 0 if it is held. Of 02, T-07: "24, just before 11, record unchanged and no duplicate listed" for
+/// the opposite number.
 pub fn arrive(r: &mut Receiving, area: &mut [u8], streams_in: u16, c: &Data<'_>) -> u8 {
     if c.payload.is_empty() {
         return 9;
@@ -62,7 +63,10 @@ pub fn arrive(r: &mut Receiving, area: &mut [u8], streams_in: u16, c: &Data<'_>)
     if c.payload.len() > PAYLOAD {
         return 10;
     }
-    let d = tsn_distance(r.keeping.point, c.tsn).unwrap_or(0);
+    let d = match tsn_distance(r.keeping.point, c.tsn) {
+        None => return 24,
+        Some(d) => d,
+    };
     if d <= 0 || is_come(&r.keeping, c.tsn) || r.held.iter().any(|h| h.used && h.tsn == c.tsn) {
         if r.keeping.listed < LISTED {
             r.keeping.dups[r.keeping.listed] = c.tsn;

@@ -149,6 +149,22 @@ fn the_missing_chunk_finds_a_place() {
     assert_eq!(e.sack().point, 128);
 }
 
+/// T-07 of 02: the opposite number is no duplicate, held or not, and changes nothing; its two neighbours are what they were.
+#[test]
+fn the_opposite_number_has_an_answer_of_its_own() {
+    let mut e = End::new(1, 1);
+    assert_eq!(e.data(2_147_483_647), 13);
+    assert_eq!(e.data(2_147_483_648), 24);
+    assert_eq!(e.sack().listed, 0);
+    assert_eq!(e.data(2_147_483_649), 11);
+    assert_eq!(e.sack().dups[..1], [2_147_483_649]);
+    e.a.receiving.held[9] = Held { used: true, tsn: 2_147_483_648, len: 1, ..Held::default() };
+    assert_eq!(e.data(2_147_483_648), 24);
+    assert_eq!(e.sack().listed, 0);
+    assert_eq!(e.data(1), 0);
+    assert_eq!(e.data(2_147_483_648), 11);
+}
+
 /// 01's second wrong build: what was taken above the point is a duplicate when it comes again.
 #[test]
 fn a_taken_chunk_is_not_delivered_again() {
