@@ -16,6 +16,7 @@ ghost use Rattle.numbers.specs.Profile.{rail};
 ghost use Rattle.numbers.specs.Keeping.{isCome};
 ghost use Rattle.scans.specs.Scan.{either, findFrom};
 ghost use Rattle.holding.specs.Held.{asHeld, holds, isFree};
+ghost use Rattle.delivery.specs.Contradiction.{contradictsNext};
 ghost use Rattle.delivery.specs.LookLaws.{orFree, freeOf, Looked};
 ghost use Rattle.delivery.specs.Arrival.{isOpposite, isOld, isBeyond, isWedged, verdictOf, noted, passed, kept, keptIn, stored, arrived, areaAfter};
 
@@ -35,10 +36,12 @@ pub struct Arrival {
     pub receiving: Receiving,
 }
 
-// What the held chunks say of a number that comes: how many are low, whether it is held, and the lowest free place, 128 if there is none.
+// What the held chunks say of a chunk that comes: how many are low, whether its number is held, whether one of them contradicts it, and the lowest
+// free place, 128 if there is none.
 struct Look {
     low: usize,
     held: bool,
+    clash: bool,
     free: usize,
 }
 
@@ -52,6 +55,31 @@ fn or_held(was: bool, h: Held, tsn: Tsn) -> bool
     h.is_of(tsn)
 }
 
+// Whether the second chunk is one number on from the first, and begins a message where that one does not end, or goes on where it ends.
+fn contradicts_next(first: Held, second: Held) -> bool
+    ensures { λ y. ⌜ y ≡ contradictsNext (ring (2 ^ 32)) first second ⌝ }
+{
+    let tsn = first.tsn;
+    let next = tsn.after(1);
+    if next.0 == second.tsn.0 {
+        return first.end != second.begin;
+    }
+    false
+}
+
+// Whether one contradicted the new chunk before, or this one does.
+fn or_clash(was: bool, h: Held, new: Held) -> bool
+    ensures { λ y. ⌜ y ≡ either was (either (contradictsNext (ring (2 ^ 32)) h new) (contradictsNext (ring (2 ^ 32)) new h)) ⌝ }
+{
+    if was {
+        return true;
+    }
+    if contradicts_next(h, new) {
+        return true;
+    }
+    contradicts_next(new, h)
+}
+
 // The free place found before, or this one.
 fn or_free(free: usize, i: usize) -> usize
     ensures { λ y. ⌜ y ≡ orFree rail free i ⌝ }
@@ -63,12 +91,15 @@ fn or_free(free: usize, i: usize) -> usize
 }
 
 // One pass: a pass for each would copy the held chunks for each.
-fn look_for(keeping: Keeping, held: [Held; Rail::PLACES], tsn: Tsn) -> Look
-    ensures { λ w. ⌜ Looked (ring (2 ^ 32)) rail keeping held (tsn .0) w ⌝ }
+fn look_for(keeping: Keeping, held: [Held; Rail::PLACES], c: Chunk) -> Look
+    ensures { λ w. ⌜ Looked (ring (2 ^ 32)) rail keeping held c w ⌝ }
 {
     let come = keeping.come;
+    let new = Held::of(c, 0);
+    let tsn = new.tsn;
     let mut low: usize = 0;
     let mut has = false;
+    let mut clash = false;
     let mut free = Rail::PLACES;
     let mut i: usize = 0;
     while i < Rail::PLACES {
@@ -79,6 +110,7 @@ fn look_for(keeping: Keeping, held: [Held; Rail::PLACES], tsn: Tsn) -> Look
             let j = receiving::flag_at(offset);
             low += receiving::is_low_by(offset, come[j]) as usize;
             has = or_held(has, h, tsn);
+            clash = or_clash(clash, h, new);
             i += 1;
         } else {
             free = or_free(free, i);
@@ -88,6 +120,7 @@ fn look_for(keeping: Keeping, held: [Held; Rail::PLACES], tsn: Tsn) -> Look
     Look {
         low: low,
         held: has,
+        clash: clash,
         free: free,
     }
 }
@@ -148,7 +181,7 @@ fn is_wedged(low: usize, held: [Held; Rail::PLACES], next: [Ssn; Rail::STREAMS],
 
 // The verdict on a chunk with a payload of so many bytes.
 fn judge(r: Receiving, w: Look, c: Chunk, len: usize, streams: u16) -> Verdict
-    requires { ⌜ Looked (ring (2 ^ 32)) rail (r .keeping) (r .held) (c .tsn .0) w ⌝ }
+    requires { ⌜ Looked (ring (2 ^ 32)) rail (r .keeping) (r .held) c w ⌝ }
     ensures { λ v. ⌜ v ≡ verdictOf (ring (2 ^ 32)) rail r (asHeld c len) streams ⌝ }
 {
     if len < 1 {
@@ -243,7 +276,7 @@ impl Receiving {
         let keeping = self.keeping;
         let held = self.held;
         let tsn = c.tsn;
-        let w = look_for(keeping, held, tsn);
+        let w = look_for(keeping, held, c);
         let free = w.free;
         let verdict = judge(self, w, c, payload.len(), streams);
         match verdict {
