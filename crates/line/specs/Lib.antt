@@ -7,6 +7,7 @@ pub mod Example
 pub mod Agree
 pub mod Count
 pub mod Chosen
+pub mod Contradictions
 pub mod Sound
 pub mod Arrives
 pub mod Takes
