@@ -12,6 +12,7 @@ use Rattle.numbers.specs.Blocks.{Block, runs, laidOut, blocksOf}
 use Rattle.numbers.specs.BlocksLaws.{listedIn}
 use Rattle.holding.specs.Held.{holds}
 use Rattle.delivery.specs.Receiving.{fresh, isLow, lowOf}
+use Rattle.delivery.specs.Contradiction.{contradicts, contradictsNext, clashes, isContradicted}
 use Rattle.delivery.specs.Arrival as arrival
 use Rattle.delivery.specs.Acknowledging.{sackOf}
 use Rattle.path.specs.Control as control
@@ -56,7 +57,7 @@ table =
 
 -- both sides computed
 pub cases-hold : map (λ (c : Case). answered (c .given)) table ≡ map (λ (c : Case). c .expected) table
-unfolding onCircle on before far judged keeping.fresh keeping.offsetOf keeping.isCome keeping.settled keeping.marked keeping.listed runs laidOut blocksOf listedIn holds fresh isLow lowOf arrival.isRepeat arrival.isWedged arrival.judgementOf arrival.verdictOf arrival.noted arrival.passed arrival.kept arrival.arrived sackOf control.fresh control.halved control.collapsed clock.fresh clock.timed clock.sampled clock.doubled path.fresh path.sampledBy path.expired
+unfolding onCircle on before far judged keeping.fresh keeping.offsetOf keeping.isCome keeping.settled keeping.marked keeping.listed runs laidOut blocksOf listedIn holds fresh isLow lowOf arrival.isRepeat arrival.isWedged arrival.judgementOf contradicts contradictsNext clashes isContradicted arrival.verdictOf arrival.noted arrival.passed arrival.kept arrival.arrived sackOf control.fresh control.halved control.collapsed clock.fresh clock.timed clock.sampled clock.doubled path.fresh path.sampledBy path.expired
 cases-hold = refl
 
 module _ {A B : Type 0} (f g : A → B) where

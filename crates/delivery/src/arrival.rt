@@ -29,6 +29,7 @@ pub enum Verdict {
     Wedged,
     Far,
     Stray,
+    Clashing,
 }
 
 pub struct Arrival {
@@ -214,6 +215,9 @@ fn judge(r: Receiving, w: Look, c: Chunk, len: usize, streams: u16) -> Verdict
     }
     let stream = c.stream;
     if Rail::is_agreed(stream, streams) {
+        if w.clash {
+            return Verdict::Clashing;
+        }
         return Verdict::Kept;
     }
     Verdict::Stray
@@ -309,6 +313,10 @@ impl Receiving {
                 receiving: self,
             },
             Verdict::Far => Arrival {
+                verdict,
+                receiving: self,
+            },
+            Verdict::Clashing => Arrival {
                 verdict,
                 receiving: self,
             },

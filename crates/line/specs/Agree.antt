@@ -33,12 +33,14 @@ use Rattle.holding.specs.MessageLaws.{continues-holds}
 use Rattle.holding.specs.Taking.{firstOf, lenAt, lengthOf, payloadAt, copied, emptied, advanced, messageOf, tookBy, took, writtenBy, written}
 use Rattle.delivery.specs.declared.receiving.Receiving.{Receiving}
 use Rattle.delivery.specs.declared.arrival.Verdict.{Verdict}
-use Rattle.delivery.specs.declared.arrival.Verdict.the-variants.{Kept, Empty, Long, Opposite, Duplicate, Wedged, Far, Stray}
+use Rattle.delivery.specs.declared.arrival.Verdict.the-variants.{Kept, Empty, Long, Opposite, Duplicate, Wedged, Far, Stray, Clashing}
 use Rattle.delivery.specs.Receiving.{fresh, isLow, lowOf, takenBy, taken}
 use Rattle.delivery.specs.Arrival.{isRepeat, isWedged, judgementOf, verdictOf, noted, passed, keptIn, after, arrived, storedBy, areaAfter}
 use Rattle.delivery.specs.Arrival as arrival
+use Rattle.delivery.specs.Contradiction.{isContradicted}
 use Rattle.delivery.specs.Acknowledging.{sackOf, told, acknowledged}
 use Rattle.line.specs.Reduce.{reduceSsn, reduceHeld, reduce, reduceTaken, reduceSack}
+use Rattle.line.specs.Contradictions.{contradicted-law}
 
 -- what is held in this place is near the point and, if ordered, near the next expected of its stream
 pub record NearHeld (h k : ℕ) (p : ℕ) (next : List Ssn) (c : Held) : Type 0 where
@@ -324,9 +326,12 @@ module _ (P : Profile) (h k : ℕ) where
       unfolding isWedged
       wedged-law = rw (low-law, ready-law)
 
+      clash-law : isContradicted (ring n) (map down (r .held)) (down c) ≡ isContradicted line (r .held) c
+      clash-law = contradicted-law n m (r .held) c (all-map (λ x g u. let v = g .tsn u in omega arith) (r .held) near)
+
       pub verdict-law : (streams : ℕ) → verdictOf (ring n) P (reduce n m r) (down c) streams ≡ verdictOf line P r c streams
       unfolding verdictOf
-      verdict-law streams = rw (judgement-law, repeat-law, wedged-law)
+      verdict-law streams = rw (judgement-law, repeat-law, wedged-law, clash-law)
 
       after-law : (v : Verdict) → after (ring n) P (reduce n m r) (down c) v ≡ reduce n m (after line P r c v)
       unfolding noted passed arrival.kept
@@ -341,6 +346,7 @@ module _ (P : Profile) (h k : ℕ) where
       after-law Duplicate = rw (kept.listed-law n P (r .keeping) (c .tsn))
       after-law Wedged = refl
       after-law Far = refl
+      after-law Clashing = refl
       after-law Stray = rw (kept.marked-law h (r .keeping) (c .tsn .0) w P)
 
       -- a chunk arrives
@@ -362,6 +368,7 @@ module _ (P : Profile) (h k : ℕ) where
           go Wedged = refl
           go Far = refl
           go Stray = refl
+          go Clashing = refl
 
     -- two takes that leave the circle's record and the line's
     abbrev Same : Took → Took → Type 0

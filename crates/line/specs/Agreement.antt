@@ -23,7 +23,7 @@ use Rattle.holding.specs.declared.held.Chunk.{Chunk}
 use Rattle.holding.specs.declared.held.Held.{Held}
 use Rattle.holding.specs.Held.{asHeld, holds}
 use Rattle.holding.specs.Taking.{firstOf, written}
-use Rattle.delivery.specs.declared.arrival.Verdict.the-variants.{Kept}
+use Rattle.delivery.specs.declared.arrival.Verdict.the-variants.{Kept, Clashing}
 use Rattle.delivery.specs.declared.acknowledging.Sack.{Sack}
 use Rattle.delivery.specs.Receiving.{lowOf, taken}
 use Rattle.delivery.specs.Arrival.{isWedged, verdictOf}
@@ -32,7 +32,7 @@ use Rattle.line.specs.Runs.{Event, arrive, take, sack, Answer, tells, Le
 use Rattle.line.specs.Sender.{Sender}
 use Rattle.line.specs.Agree.{fresh-law}
 use Rattle.line.specs.Sound.{Wide, near}
-use Rattle.line.specs.Arrives.{SoundOf, kept-once}
+use Rattle.line.specs.Arrives.{SoundOf, kept-once, not-clashing}
 use Rattle.line.specs.Sequence.{take-alike, agree-along, near-along, fresh-sound, fresh-next, sound-from, once-from, told-come, order-from, order-reduced, firsts-copies}
 use Rattle.line.specs.Wedge.{Few, not-wedged}
 use Rattle.line.specs.Sided.{Sided, all-sided, reduced-sided}
@@ -104,6 +104,10 @@ module _ (P : Profile) (h : ℕ) (t : Tsn) (some : 0 < t .0) (streams : ℕ) (ar
   pub kept-is-held : (j : ℕ) → t .0 ≤ j → verdictOf line P (last .receiving) (asHeld (chunk j) (size j)) streams ≡ Kept
       → copies (turn line line P streams last (arrive (chunk j) (payload j)) .lent .receiving .held) j ≡ 1
   kept-is-held j l e = kept-once send (last .receiving) (sound-from payload send h es begun sound fair .2) j l e
+
+  -- and none is answered 21
+  pub never-clashing : (j : ℕ) → t .0 ≤ j → verdictOf line P (last .receiving) (asHeld (chunk j) (size j)) streams ≡ Clashing → ⊥
+  never-clashing j l e = not-clashing send (last .receiving) (sound-from payload send h es begun sound fair .2) j l e
 
   -- a sender that cuts no message into more chunks than there are places is never answered 12
   pub never-wedged : Few P (t .0) chunk → isWedged line P (lowOf line (last .receiving)) (last .receiving .held) (last .receiving .next) (last .receiving .keeping .point .0) ≡ false

@@ -33,7 +33,7 @@ use Rattle.holding.specs.declared.held.Held.{Held}
 use Rattle.holding.specs.Held.{noHeld, asHeld, holds, holds-is, holds-unused, isFree}
 use Rattle.delivery.specs.declared.receiving.Receiving.{Receiving}
 use Rattle.delivery.specs.declared.arrival.Verdict.{Verdict}
-use Rattle.delivery.specs.declared.arrival.Verdict.the-variants.{Kept, Empty, Long, Opposite, Duplicate, Wedged, Far, Stray}
+use Rattle.delivery.specs.declared.arrival.Verdict.the-variants.{Kept, Empty, Long, Opposite, Duplicate, Wedged, Far, Stray, Clashing}
 use Rattle.delivery.specs.Receiving.{lowOf}
 use Rattle.delivery.specs.Arrival as arrival
 use Rattle.delivery.specs.Arrival.{numberOf, isOpposite, isOld, isBeyond, isRepeat, isWedged, judgementOf, verdictOf, noted, keptIn, after, arrived}
@@ -42,6 +42,7 @@ use Rattle.line.specs.Runs.{copies}
 use Rattle.line.specs.Count.{below, isBelow, below-suc, below-span, below-le, full-below, copies-set}
 use Rattle.line.specs.Sender.{Sender}
 use Rattle.line.specs.Chosen.{Real, holds-eqb}
+use Rattle.line.specs.Contradictions.{never-contradicted}
 use Rattle.line.specs.Sound.{Sound, came, came-before, came-past, came-ahead, came-room, low-below, offset-line, come-ahead}
 
 -- ---- what has come, before and after
@@ -195,16 +196,17 @@ judged-within (AheadWithin d) room o w x a b = (omega (arith, w), omega (arith, 
 judged-within (AheadBeyond d) room o w x a b = clash (sym b)
 judged-within AtOpposite room o w x a b = clash (sym x)
 
-never-stray : (a b x c d e f : Bool)
-    → pick a Empty (pick b Long (pick x Opposite (pick c Duplicate (pick d Duplicate (pick e Wedged (pick f Far Kept)))))) ≡ Stray → ⊥
-never-stray true b x c d e f q = omega (arith, ap numberOf q)
-never-stray false true x c d e f q = omega (arith, ap numberOf q)
-never-stray false false true c d e f q = omega (arith, ap numberOf q)
-never-stray false false false true d e f q = omega (arith, ap numberOf q)
-never-stray false false false false true e f q = omega (arith, ap numberOf q)
-never-stray false false false false false true f q = omega (arith, ap numberOf q)
-never-stray false false false false false false true q = omega (arith, ap numberOf q)
-never-stray false false false false false false false q = omega (arith, ap numberOf q)
+-- where the last two checks are passed, neither 14 nor 21 is answered
+never-last : (a b x c d e f : Bool) (v : Verdict) → 14 ≤ numberOf v → numberOf v ≤ 21
+    → pick a Empty (pick b Long (pick x Opposite (pick c Duplicate (pick d Duplicate (pick e Wedged (pick f Far Kept)))))) ≡ v → ⊥
+never-last true b x c d e f v l m q = omega (arith, ap numberOf q)
+never-last false true x c d e f v l m q = omega (arith, ap numberOf q)
+never-last false false true c d e f v l m q = omega (arith, ap numberOf q)
+never-last false false false true d e f v l m q = omega (arith, ap numberOf q)
+never-last false false false false true e f v l m q = omega (arith, ap numberOf q)
+never-last false false false false false true f v l m q = omega (arith, ap numberOf q)
+never-last false false false false false false true v l m q = omega (arith, ap numberOf q)
+never-last false false false false false false false v l m q = omega (arith, ap numberOf q)
 
 marked-is : (P : Profile) (k : Keeping) (t : ℕ) → 1 ≤ offsetOf line k t → offsetOf line k t ≤ P .places
     → marked line P k t ≡ settled line k (set (k .come) (offsetOf line k t - 1) true)
@@ -268,11 +270,13 @@ module _ {P : Profile} {base streams : ℕ} {chunk : ℕ → Chunk} {size : ℕ 
       subst (λ (x : Tsn). Sound P base chunk size (x .0) (listed P (r .keeping) (chunk n .tsn) .come) (r .held) (r .next) gone least) (sym (w .0))
       (subst (λ (x : List Bool). Sound P base chunk size pt x (r .held) (r .next) gone least) (sym (w .1)) s)
 
-  stray-case : verdictOf line P r c streams ≡ Stray → ⊥
+  -- a chunk of the sender is of an agreed stream, and contradicts none that is held
+  last-case : (v : Verdict) → 14 ≤ numberOf v → numberOf v ≤ 21 → verdictOf line P r c streams ≡ v → ⊥
   unfolding verdictOf
-  stray-case e =
-      never-stray (ltb (size n) 1) (ltb (P .payload) (size n)) (isOpposite (judgementOf line P r t)) (isOld (judgementOf line P r t))
-      (isRepeat line (r .keeping) (r .held) t) (isWedged line P (lowOf line r) (r .held) (r .next) pt) (isBeyond (judgementOf line P r t)) (rw (send .agreed n lb) at e)
+  last-case v l m e =
+      never-last (ltb (size n) 1) (ltb (P .payload) (size n)) (isOpposite (judgementOf line P r t)) (isOld (judgementOf line P r t))
+      (isRepeat line (r .keeping) (r .held) t) (isWedged line P (lowOf line r) (r .held) (r .next) pt) (isBeyond (judgementOf line P r t)) v l m
+      (rw (send .agreed n lb, never-contradicted send size (r .held) (s .real) n (size n) lb) at e)
 
   after-case : (v : Verdict) → verdictOf line P r c streams ≡ v → SoundOf P base chunk size (after line P r c v) gone least
   after-case Kept e = keep-case e .0
@@ -282,7 +286,8 @@ module _ {P : Profile} {base streams : ℕ} {chunk : ℕ → Chunk} {size : ℕ 
   after-case Duplicate e = dup-case
   after-case Wedged e = s
   after-case Far e = s
-  after-case Stray e = absurd (stray-case e)
+  after-case Stray e = absurd (last-case Stray (omega arith) (omega arith) e)
+  after-case Clashing e = s
 
   pub arrived-sound : SoundOf P base chunk size (arrived line P r c streams .receiving) gone least
   unfolding arrived
@@ -291,3 +296,6 @@ module _ {P : Profile} {base streams : ℕ} {chunk : ℕ → Chunk} {size : ℕ 
   pub kept-once : verdictOf line P r c streams ≡ Kept → copies (arrived line P r c streams .receiving .held) n ≡ 1
   unfolding arrived
   kept-once e = ap (λ (v : Verdict). copies (after line P r c v .held) n) e ∙ keep-case e .1
+
+  pub not-clashing : verdictOf line P r c streams ≡ Clashing → ⊥
+  not-clashing = last-case Clashing (omega arith) (omega arith)

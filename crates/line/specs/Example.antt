@@ -32,6 +32,7 @@ use Rattle.holding.specs.Taking.{advanced, took, written}
 use Rattle.delivery.specs.declared.arrival.Verdict.the-variants.{Kept, Duplicate}
 use Rattle.delivery.specs.declared.acknowledging.Sack.{Sack}
 use Rattle.delivery.specs.Receiving.{fresh, isLow, lowOf, taken}
+use Rattle.delivery.specs.Contradiction.{contradicts, contradictsNext, clashes, isContradicted}
 use Rattle.delivery.specs.Arrival as arrival
 use Rattle.delivery.specs.Arrival.{isRepeat, isWedged, judgementOf, verdictOf, noted, passed, arrived, areaAfter}
 use Rattle.delivery.specs.Acknowledging.{sackOf, told, acknowledged}
@@ -117,7 +118,7 @@ events =
     ∷ (take out ∷ (take out ∷ (comes (first + 3) ∷ (take out ∷ (take out ∷ (comes (first + 3) ∷ (sack ∷ [])))))))))))
 
 fair : Fair rail (2 ^ 31) first chunk payload 1 (start line rail initial area) events
-unfolding fresh keeping.fresh before on far judged offsetOf isCome settled marked listed keeping.told holds isOfOne continues follow isLeftEnd isExpected opens key better chosen advanced took isLow lowOf taken isRepeat isWedged judgementOf verdictOf noted passed arrival.kept arrived told acknowledged
+unfolding fresh keeping.fresh before on far judged offsetOf isCome settled marked listed keeping.told holds isOfOne continues follow isLeftEnd isExpected opens key better chosen advanced took isLow lowOf taken isRepeat isWedged judgementOf contradicts contradictsNext clashes isContradicted verdictOf noted passed arrival.kept arrived told acknowledged
 fair = (
   (first + 1, omega arith, refl, refl, omega arith),
   ((first, omega arith, refl, refl, omega arith), ((first + 3, omega arith, refl, refl, omega arith), ((first + 3, omega arith, refl, refl, omega arith), tt))),
@@ -159,7 +160,7 @@ circle-says : answers (ring (2 ^ 32)) (ring (2 ^ 16)) rail 1 (start (ring (2 ^ 3
     ∷ (judges Duplicate
     ∷ (tells (sackAt 0 65536 blockAt2 (record { 0 = 2 } ∷ []) 1)
     ∷ [])))))))))))
-unfolding answers fresh keeping.fresh before on far onCircle judged offsetOf isCome settled marked listed keeping.told runs laidOut blocksOf laid holds isOfOne continues follow isLeftEnd isExpected opens key better chosen advanced took written isLow lowOf taken isRepeat isWedged judgementOf verdictOf noted passed arrival.kept arrived areaAfter sackOf told acknowledged
+unfolding answers fresh keeping.fresh before on far onCircle judged offsetOf isCome settled marked listed keeping.told runs laidOut blocksOf laid holds isOfOne continues follow isLeftEnd isExpected opens key better chosen advanced took written isLow lowOf taken isRepeat isWedged judgementOf contradicts contradictsNext clashes isContradicted verdictOf noted passed arrival.kept arrived areaAfter sackOf told acknowledged
 circle-says = refl
 
 -- as the theorem says, with both sides of it computed

@@ -28,7 +28,7 @@ use Rattle.holding.specs.Message.{Choice, none, one, chosen, chunksAt}
 use Rattle.holding.specs.Taking.{firstOf, lenAt, lengthOf, payloadAt, copied, emptied, advanced, messageOf, tookBy, took, writtenBy, written}
 use Rattle.delivery.specs.declared.receiving.Receiving.{Receiving}
 use Rattle.delivery.specs.declared.arrival.Verdict.{Verdict}
-use Rattle.delivery.specs.declared.arrival.Verdict.the-variants.{Kept, Empty, Long, Opposite, Duplicate, Wedged, Far, Stray}
+use Rattle.delivery.specs.declared.arrival.Verdict.the-variants.{Kept, Empty, Long, Opposite, Duplicate, Wedged, Far, Stray, Clashing}
 use Rattle.delivery.specs.Receiving.{fresh, takenBy, taken}
 use Rattle.delivery.specs.Arrival as arrival
 use Rattle.delivery.specs.Arrival.{verdictOf, noted, passed, keptIn, after, arrived, stored, storedBy, areaAfter}
@@ -231,6 +231,7 @@ module _ {P : Profile} {base streams : ℕ} {chunk : ℕ → Chunk} (payload : �
         go Duplicate e = w
         go Wedged e = w
         go Far e = w
+        go Clashing e = w
         go Stray e = w
 
     lodged-arrive : (n : ℕ) → base ≤ n → (c : Chunk) (bytes : List ℕ) → c ≡ chunk n → bytes ≡ payload n → length (r .held) ≡ P .places

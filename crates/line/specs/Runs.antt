@@ -40,7 +40,7 @@ pub data Event : Type 0 where
 
 -- what it answers
 pub data Answer : Type 0 where
-  -- 0, 9 to 14, 24
+  -- 0, 9 to 14, 21, 24
   judges : Verdict → Answer
   -- 0 with the message, 17, or 18 with the length needed; and what then stands in the output
   gives : Taking → List ℕ → Answer

@@ -32,7 +32,7 @@ use Rattle.delivery.specs.declared.receiving.Receiving.{Receiving}
 use Rattle.delivery.specs.declared.receiving.Taken.{Taken as Left}
 use Rattle.delivery.specs.declared.arrival.Arrival.{Arrival}
 use Rattle.delivery.specs.declared.arrival.Verdict.{Verdict}
-use Rattle.delivery.specs.declared.arrival.Verdict.the-variants.{Kept, Empty, Long, Opposite, Duplicate, Wedged, Far, Stray}
+use Rattle.delivery.specs.declared.arrival.Verdict.the-variants.{Kept, Empty, Long, Opposite, Duplicate, Wedged, Far, Stray, Clashing}
 use Rattle.delivery.specs.declared.acknowledging.Acknowledged.{Acknowledged}
 use Rattle.scans.specs.declared.Found.{Found}
 use Rattle.scans.specs.declared.Found.the-variants.{At, Nothing}
@@ -232,6 +232,7 @@ after-next P r c Opposite = refl
 after-next P r c Duplicate = refl
 after-next P r c Wedged = refl
 after-next P r c Far = refl
+after-next P r c Clashing = refl
 after-next P r c Stray = refl
 
 arrive-next : (P : Profile) (r : Receiving) (c : Held) (streams : ℕ) → arrived line P r c streams .receiving .next ≡ r .next

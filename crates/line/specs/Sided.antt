@@ -20,8 +20,9 @@ use Rattle.holding.specs.declared.held.Held.{Held}
 use Rattle.holding.specs.Held.{asHeld}
 use Rattle.delivery.specs.declared.receiving.Receiving.{Receiving}
 use Rattle.delivery.specs.declared.arrival.Verdict.{Verdict}
-use Rattle.delivery.specs.declared.arrival.Verdict.the-variants.{Kept, Empty, Long, Opposite, Duplicate, Wedged, Far, Stray}
+use Rattle.delivery.specs.declared.arrival.Verdict.the-variants.{Kept, Empty, Long, Opposite, Duplicate, Wedged, Far, Stray, Clashing}
 use Rattle.delivery.specs.Receiving.{lowOf}
+use Rattle.delivery.specs.Contradiction.{isContradicted}
 use Rattle.delivery.specs.Arrival.{numberOf, isOpposite, isOld, isBeyond, isRepeat, isWedged, judgementOf, verdictOf, arrived}
 use Rattle.line.specs.Runs.{Event, arrive, take, sack, Answer, judges, gives, tells, Lent, turn, answers, reduceAnswer}
 
@@ -65,7 +66,8 @@ module _ (P : Profile) (r : Receiving) (h : Held) (streams : ℕ) where
       (either (isRepeat line (r .keeping) (r .held) (h .tsn .0)) Duplicate _ (other Duplicate (omega arith))
       (either (isWedged line P (lowOf line r) (r .held) (r .next) (r .keeping .point .0)) Wedged _ (other Wedged (omega arith))
       (either (isBeyond (judgementOf line P r (h .tsn .0))) Far _ (other Far (omega arith))
-      (either (isAgreed P (h .stream .0) streams) Kept Stray (other Kept (omega arith)) (other Stray (omega arith)))))))))
+      (either (isAgreed P (h .stream .0) streams) _ Stray
+      (either (isContradicted line (r .held) h) Clashing Kept (other Clashing (omega arith)) (other Kept (omega arith))) (other Stray (omega arith)))))))))
 
 -- ---- every answer
 

@@ -400,6 +400,7 @@ fn number_of(v: Verdict) -> u8 {
         Verdict::Wedged => 12,
         Verdict::Far => 13,
         Verdict::Stray => 14,
+        Verdict::Clashing => 21,
     }
 }
 

@@ -51,6 +51,7 @@ fn fate_of(v: Verdict) -> Fate
         Verdict::Wedged => Fate::Refused(12),
         Verdict::Far => Fate::Refused(13),
         Verdict::Stray => Fate::Refused(14),
+        Verdict::Clashing => Fate::Refused(21),
     }
 }
 
@@ -66,6 +67,7 @@ fn call_of(v: Verdict, tsn: Tsn, stream: StreamId) -> Named
         Verdict::Wedged => Named::AbortViolation,
         Verdict::Far => Named::NoCall,
         Verdict::Stray => Named::ErrorStream(stream),
+        Verdict::Clashing => Named::AbortViolation,
     }
 }
 
@@ -81,6 +83,7 @@ fn is_kept(v: Verdict) -> bool
         Verdict::Wedged => false,
         Verdict::Far => false,
         Verdict::Stray => false,
+        Verdict::Clashing => false,
     }
 }
 

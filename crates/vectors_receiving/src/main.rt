@@ -172,6 +172,7 @@ fn number_of(v: Verdict) -> u64 {
         Verdict::Wedged => 12,
         Verdict::Far => 13,
         Verdict::Stray => 14,
+        Verdict::Clashing => 21,
     }
 }
 
@@ -447,10 +448,10 @@ fn wedge() {
     let none = nothing();
     let s = [
         arrive(1, B, 0, 0, 1, 0),
-        arrive(2, B, 0, 1, 1, 0),
-        fill(3, 126, 0, 1, 0),
+        fill(2, 127, 0, 1, 0),
         take(65536, 17, 0, 0, 0, 0),
         arrive(129, 0, 0, 0, 1, 12),
+        arrive(129, BE, 0, 0, 1, 12),
         arrive(5, 0, 0, 0, 1, 11),
         sack(128, 0, 0, 0, 1),
         bounds(1),
@@ -466,6 +467,62 @@ fn wedge() {
     run(
         b"a wedge, and a duplicate on it",
         Receiving::fresh(Tsn(1)),
+        s,
+    );
+}
+
+// The chunk one TSN before lacks E and this one has B, or has E where this one lacks B; the circle of TSNs closes between them.
+fn contradicts_the_one_before() {
+    let none = nothing();
+    let s = [
+        arrive(4294967295, B, 0, 0, 1, 0),
+        arrive(0, B, 0, 1, 1, 21),
+        arrive(0, BE, 0, 1, 1, 21),
+        arrive(0, U, 7, 0, 1, 21),
+        arrive(0, B, 0, 1, 0, 9),
+        arrive(0, B, 128, 1, 1, 14),
+        sack(0, 65024, 0, 0, 0),
+        arrive(2, BE, 0, 1, 1, 0),
+        arrive(3, 0, 0, 1, 1, 21),
+        arrive(3, E, 9, 1, 1, 21),
+        arrive(3, B, 0, 2, 1, 0),
+        arrive(4, 0, 9, 5, 1, 0),
+        arrive(130, B, 0, 2, 1, 13),
+        sack(0, 63488, 2, 4, 0),
+        bounds(1),
+        none,
+    ];
+    run(
+        b"a chunk that contradicts the one before",
+        Receiving::fresh(Tsn(4294967295)),
+        s,
+    );
+}
+
+// And with the one TSN after: what it says of its beginning, against what this one says of its end. What was taken is held no more, and is not asked.
+fn contradicts_the_one_after() {
+    let none = nothing();
+    let s = [
+        arrive(1, BE, 0, 1, 1, 0),
+        arrive(0, 0, 0, 0, 1, 21),
+        arrive(0, B, 0, 0, 1, 21),
+        sack(4294967294, 65024, 3, 3, 0),
+        arrive(0, E, 0, 0, 1, 0),
+        arrive(4294967295, BE, 0, 0, 1, 21),
+        arrive(4294967295, B, 0, 0, 1, 0),
+        take(65536, 0, 2, 0, 122, 0),
+        take(65536, 0, 1, 1, 1, 1),
+        arrive(4, 0, 0, 2, 1, 0),
+        arrive(3, E, 0, 2, 1, 21),
+        arrive(2, E, 0, 2, 1, 0),
+        arrive(3, 0, 0, 2, 1, 21),
+        sack(2, 64512, 2, 2, 0),
+        bounds(1),
+        none,
+    ];
+    run(
+        b"a chunk that contradicts the one after",
+        Receiving::fresh(Tsn(4294967295)),
         s,
     );
 }
@@ -634,6 +691,8 @@ fn main() {
     duplicates();
     full();
     wedge();
+    contradicts_the_one_before();
+    contradicts_the_one_after();
     strays();
     inside();
     between();
