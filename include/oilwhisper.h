@@ -70,6 +70,7 @@ extern "C" {
 #define OW_SHORT 18     /* lent output or area too short; of ow_take's output: `message.length` is the length needed */
 #define OW_MESSAGE 19   /* message of 0 or over 65,536 bytes, or stream not agreed */
 #define OW_FULL 20      /* no room to send: the message needs more places than are free, and none of it was taken */
+#define OW_CLASHING 21  /* DATA whose B or E contradicts the chunk held one TSN before or after it; calls for ow_abort with OW_CAUSE_VIOLATION */
 #define OW_OPPOSITE 24  /* DATA exactly half the circle of TSNs from the point; told before OW_DUPLICATE, and not listed */
 #define OW_COOKIE 27    /* echoed cookie bad or stale; a stale one calls for ow_error_stale */
 

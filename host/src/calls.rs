@@ -61,6 +61,7 @@ impl Refusal {
     pub const STRAY: Refusal = Refusal(14);
     pub const NOTHING: Refusal = Refusal(17);
     pub const FULL: Refusal = Refusal(20);
+    pub const CLASHING: Refusal = Refusal(21);
     pub const OPPOSITE: Refusal = Refusal(24);
 
     pub fn meaning(self) -> &'static str {
@@ -85,6 +86,7 @@ impl Refusal {
             18 => "lent buffer too short",
             19 => "message length or stream",
             20 => "no room to send",
+            21 => "contradicts a held chunk",
             24 => "opposite to the point",
             27 => "cookie bad or stale",
             _ => "a number that the core does not give",

@@ -183,6 +183,26 @@ fn an_opposite_chunk_asks_for_no_sack<L: Library>() {
     assert_eq!(sent(&pair, 1, SACK), 1);
 }
 
+fn a_contradiction_aborts<L: Library>() {
+    let mut pair = Pair::<L>::up(slow(1), 16);
+    pair.ends[0].endpoint.hand_in(&[4; 512], 0, false, 0).expect("there is room");
+    assert!(pair.run_until(MINUTE, |pair| sent(pair, 1, SACK) == 1));
+    let mut packet = pair.ends[0].sent.last().expect("the chunk was sent").clone();
+    assert_eq!(first_chunk(&packet), DATA);
+    let tsn = u32::from_be_bytes([packet[16], packet[17], packet[18], packet[19]]);
+    let (from, now) = (pair.ends[0].address, pair.now);
+    for next in 1..=2 {
+        packet[13] = 2;
+        packet[16..20].copy_from_slice(&tsn.wrapping_add(next).to_be_bytes());
+        checksum::seal(&mut packet);
+        pair.ends[1].endpoint.arrive(&packet, from, now);
+    }
+    pair.run_for(Duration::from_secs(1));
+    assert_eq!(pair.ends[1].endpoint.counts().refusals().collect::<Vec<_>>(), [(Refusal::CLASHING, 1)]);
+    assert_eq!(pair.ends[1].events.last(), Some(&Event::Down(Why::WeAborted(Cause::Violation))));
+    assert_eq!(pair.ends[0].events.last(), Some(&Event::Down(Why::PeerAborted)));
+}
+
 fn measures_round_trips_but_not_of_what_was_resent<L: Library>() {
     let mut pair = Pair::<L>::up(slow(400), 9);
     for _ in 0..2 {
@@ -306,6 +326,7 @@ on_both! {
     acknowledges_every_second_packet_or_after_200_ms
     acknowledges_a_gap_at_once_and_resends_without_waiting_for_t3
     an_opposite_chunk_asks_for_no_sack
+    a_contradiction_aborts
     measures_round_trips_but_not_of_what_was_resent
     a_slow_taker_shuts_the_window_and_opens_it_again
     a_stale_cookie_is_told_to_the_peer

@@ -90,6 +90,7 @@ fn claims() -> String {
         OW_NOTHING Refusal::NOTHING.0,
         OW_SHORT ffi::SHORT,
         OW_FULL Refusal::FULL.0,
+        OW_CLASHING Refusal::CLASHING.0,
         OW_OPPOSITE Refusal::OPPOSITE.0,
         OW_CLOSED ffi::CLOSED,
         OW_COOKIE_WAIT ffi::COOKIE_WAIT,

@@ -201,7 +201,7 @@ impl<'a> Arriving<'a> {
         match receiving::arrive(&mut self.a.receiving, self.area, self.a.ends.streams_in, &d) {
             0 => {}
             9 => return named(9, CAUSE_NO_DATA, d.tsn),
-            12 => return named(12, CAUSE_VIOLATION, 0),
+            number @ (12 | 21) => return named(number, CAUSE_VIOLATION, 0),
             14 => return named(14, CAUSE_STREAM, u32::from(d.stream)),
             number => return refused(number),
         }

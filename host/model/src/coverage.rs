@@ -96,7 +96,7 @@ impl Coverage {
                 want(self.states[call][state] + usize::from(call < 2), format!("{} in state {state}", KINDS[call]));
             }
         }
-        for n in [0, 7, 8, 9, 10, 11, 12, 13, 14, 15, 16, 24, 27] {
+        for n in [0, 7, 8, 9, 10, 11, 12, 13, 14, 15, 16, 21, 24, 27] {
             want(self.numbers[n], format!("a chunk answered {n}"));
         }
         for state in 1..8 {

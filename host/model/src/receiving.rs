@@ -55,7 +55,7 @@ fn mark(k: &mut Keeping, tsn: u32) {
 }
 
 /// The checks behind 7, in 01's order, of a DATA chunk; 0 if it is held. Of 02, T-07: "24, just before 11, record unchanged and no duplicate listed" for
-/// the opposite number.
+/// the opposite number. T-01: "21, after 14 in the order, record unchanged" for a chunk that contradicts one that is held.
 pub fn arrive(r: &mut Receiving, area: &mut [u8], streams_in: u16, c: &Data<'_>) -> u8 {
     if c.payload.is_empty() {
         return 9;
@@ -85,6 +85,9 @@ pub fn arrive(r: &mut Receiving, area: &mut [u8], streams_in: u16, c: &Data<'_>)
         mark(&mut r.keeping, c.tsn);
         return 14;
     }
+    if contradicts(r, c) {
+        return 21;
+    }
     let place = r.held.iter().position(|h| !h.used).expect("a chunk that passes the checks finds a place");
     r.held[place] = Held {
         used: true,
@@ -100,6 +103,14 @@ pub fn arrive(r: &mut Receiving, area: &mut [u8], streams_in: u16, c: &Data<'_>)
     area[PAYLOAD * place..][..c.payload.len()].copy_from_slice(c.payload);
     mark(&mut r.keeping, c.tsn);
     0
+}
+
+/// "the chunk held one TSN before it lacks E and this one has B, or that one has E and this one lacks B; and the same with the chunk held one TSN after."
+fn contradicts(r: &Receiving, c: &Data<'_>) -> bool {
+    let held_at = |tsn: u32| r.held.iter().find(|h| h.used && h.tsn == tsn);
+    let before = held_at(c.tsn.wrapping_sub(1)).map_or(false, |h| h.end != c.begin);
+    let after = held_at(c.tsn.wrapping_add(1)).map_or(false, |h| c.end != h.begin);
+    before || after
 }
 
 /// The places of the message that a take gives, first chunk first.

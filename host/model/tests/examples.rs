@@ -165,6 +165,30 @@ fn the_opposite_number_has_an_answer_of_its_own() {
     assert_eq!(e.data(2_147_483_648), 11);
 }
 
+/// T-01 of 02: the chunk held one TSN before, or one TSN after, says that a message ends between the two where this one says that it goes on, or the
+/// other way round. What was taken is not asked, nor what stands two TSNs away.
+#[test]
+fn a_contradiction_is_refused_at_once() {
+    let piece = |tsn: u32, begin: bool, end: bool| write::data(&Chunk { tsn, begin, end, ..Chunk::default() }, b"tile");
+    let mut e = End::new(1, 4_294_967_295);
+    assert_eq!(e.arrive(&[piece(4_294_967_295, true, false)])[0].number, 0);
+    let v = &e.arrive(&[piece(0, true, false)])[0];
+    assert_eq!((v.number, v.cause, v.value), (21, 13, 0));
+    let before = e.a.clone();
+    assert_eq!(e.arrive(&[piece(0, true, true)])[0].number, 21);
+    assert_eq!(e.a, before);
+    assert_eq!(e.arrive(&[piece(2, true, true)])[0].number, 0);
+    assert_eq!(e.arrive(&[piece(1, false, false)])[0].number, 21);
+    assert_eq!(e.arrive(&[piece(3, false, true)])[0].number, 21);
+    assert_eq!(e.arrive(&[piece(1, false, true)])[0].number, 0);
+    assert_eq!(e.arrive(&[piece(0, false, true)])[0].number, 21);
+    assert_eq!(e.arrive(&[piece(0, false, false)])[0].number, 0);
+    assert_eq!(e.sack().point, 2);
+    let mut out = vec![0; 65_536];
+    assert_eq!(Model.take(&mut e.a, &e.area, &mut out).number, 0);
+    assert_eq!(e.arrive(&[piece(3, true, true)])[0].number, 0);
+}
+
 /// 01's second wrong build: what was taken above the point is a duplicate when it comes again.
 #[test]
 fn a_taken_chunk_is_not_delivered_again() {
