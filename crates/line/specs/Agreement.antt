@@ -23,19 +23,20 @@ use Rattle.holding.specs.declared.held.Chunk.{Chunk}
 use Rattle.holding.specs.declared.held.Held.{Held}
 use Rattle.holding.specs.Held.{asHeld, holds}
 use Rattle.holding.specs.Taking.{firstOf, written}
-use Rattle.delivery.specs.declared.arrival.Verdict.the-variants.{Kept, Clashing}
+use Rattle.delivery.specs.declared.arrival.Verdict.{Verdict}
+use Rattle.delivery.specs.declared.arrival.Verdict.the-variants.{Kept, Opposite, Clashing}
 use Rattle.delivery.specs.declared.acknowledging.Sack.{Sack}
 use Rattle.delivery.specs.Receiving.{lowOf, taken}
 use Rattle.delivery.specs.Arrival.{isWedged, verdictOf}
 use Rattle.delivery.specs.Acknowledging.{acknowledged}
-use Rattle.line.specs.Runs.{Event, arrive, take, sack, Answer, tells, Lent, Turn, turn, start, answers, finally, reduceEvent, reduceAnswer, reduceLent, Fair, copies, handed, handedOver, joinedAll, acknowledges, orderGiven, upFrom, Genuine}
+use Rattle.line.specs.Runs.{Event, arrive, take, sack, Answer, tells, Never, Lent, Turn, turn, start, answers, finally, reduceEvent, reduceAnswer, reduceLent, Fair, copies, handed, handedOver, joinedAll, acknowledges, orderGiven, upFrom, Genuine}
 use Rattle.line.specs.Sender.{Sender}
 use Rattle.line.specs.Agree.{fresh-law}
 use Rattle.line.specs.Sound.{Wide, near}
-use Rattle.line.specs.Arrives.{SoundOf, kept-once, not-clashing}
-use Rattle.line.specs.Sequence.{take-alike, agree-along, near-along, fresh-sound, fresh-next, sound-from, once-from, told-come, order-from, order-reduced, firsts-copies}
+use Rattle.line.specs.Arrives.{SoundOf, kept-once}
+use Rattle.line.specs.Sequence.{take-alike, agree-along, near-along, clear-along, reduced-never, fresh-sound, fresh-next, sound-from, once-from, told-come, order-from, order-reduced, firsts-copies}
 use Rattle.line.specs.Wedge.{Few, not-wedged}
-use Rattle.line.specs.Sided.{Sided, all-sided, reduced-sided}
+use Rattle.line.specs.Sided.{all-sided}
 use Rattle.line.specs.Payloads.{lodged-fresh, lodged-from, genuine}
 
 -- the premises: a profile, half a circle, a first number on the line, a sender, and a sequence of events
@@ -105,18 +106,21 @@ module _ (P : Profile) (h : ℕ) (t : Tsn) (some : 0 < t .0) (streams : ℕ) (ar
       → copies (turn line line P streams last (arrive (chunk j) (payload j)) .lent .receiving .held) j ≡ 1
   kept-is-held j l e = kept-once send (last .receiving) (sound-from payload send h es begun sound fair .2) j l e
 
-  -- and none is answered 21
-  pub never-clashing : (j : ℕ) → t .0 ≤ j → verdictOf line P (last .receiving) (asHeld (chunk j) (size j)) streams ≡ Clashing → ⊥
-  never-clashing j l e = not-clashing send (last .receiving) (sound-from payload send h es begun sound fair .2) j l e
-
   -- a sender that cuts no message into more chunks than there are places is never answered 12
   pub never-wedged : Few P (t .0) chunk → isWedged line P (lowOf line (last .receiving)) (last .receiving .held) (last .receiving .next) (last .receiving .keeping .point .0) ≡ false
   never-wedged few = not-wedged send few (last .receiving) (sound-from payload send h es begun sound fair .2)
 
-  -- and no arrival is answered 24, on the line or on the circle
-  pub never-opposite : (k : ℕ) → Wide P h → Wide P k → All Sided said × All Sided (circleSaid k)
-  never-opposite k wh wk =
-      let w = all-sided P streams es begun in (w, subst (All Sided) (sym (agrees k wh wk .0)) (reduced-sided n (k + k) said w))
+  -- what no answer of the line is, none of the circle is
+  on-both : (v : Verdict) → All (Never v) said → (k : ℕ) → Wide P h → Wide P k → All (Never v) said × All (Never v) (circleSaid k)
+  on-both v w k wh wk = (w, subst (All (Never v)) (sym (agrees k wh wk .0)) (reduced-never v n (k + k) said w))
+
+  -- no arrival is answered 24
+  pub never-opposite : (k : ℕ) → Wide P h → Wide P k → All (Never Opposite) said × All (Never Opposite) (circleSaid k)
+  never-opposite = on-both Opposite (all-sided P streams es begun)
+
+  -- and none 21
+  pub never-clashing : (k : ℕ) → Wide P h → Wide P k → All (Never Clashing) said × All (Never Clashing) (circleSaid k)
+  never-clashing = on-both Clashing (clear-along payload send h es begun sound fair)
 
   -- what a take then gives is a message that the sender cut, with its bytes, stream, U, SSN and PPID, so no new chunk passes for an old one; a
   -- refusal gives nothing, and 18 names the length of such a message

@@ -7,7 +7,7 @@ use mathlib.Core.List.{List, map}
 use native.Mathlib.Omega.{arith}
 use borrow.Author.Tests.{eqb-true}
 use lib.Dec.{eqb}
-use Rattle.scans.specs.Scan.{pick, either}
+use Rattle.scans.specs.Scan.{pick}
 use Rattle.scans.specs.Each.{All, all-map, any-map, none-any}
 use Rattle.numbers.specs.Numbering.{ring, line, on, Within, on-law, same-law}
 use Rattle.numbers.specs.Profile.{Profile}

@@ -46,6 +46,12 @@ pub data Answer : Type 0 where
   gives : Taking → List ℕ → Answer
   tells : Sack → Answer
 
+-- an answer other than the verdict v
+abbrev pub Never : Verdict → Answer → Type 0
+Never v (judges w) = w ≡ v → ⊥
+Never v (gives t out) = Unit
+Never v (tells s) = Unit
+
 -- a receiver: its record, and the area that it was lent
 pub record Lent : Type 0 where
   pub receiving : Receiving

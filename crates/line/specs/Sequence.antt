@@ -41,13 +41,13 @@ use Rattle.delivery.specs.Arrival as arrival
 use Rattle.delivery.specs.Arrival.{verdictOf, noted, passed, keptIn, after, arrived, areaAfter}
 use Rattle.delivery.specs.Acknowledging.{sackOf, told, acknowledged}
 use Rattle.line.specs.Reduce.{reduceHeld, reduceSsn, reduce, reduceTaken}
-use Rattle.line.specs.Runs.{Event, arrive, take, sack, Answer, judges, gives, tells, Lent, Turn, turn, start, answers, finally, reduceEvent, reduceAnswer, reduceLent, Fair, copies, handed, handedOver, joinedAll, isOrderedIn, ssnOf, orderGiven, upFrom, acknowledges}
+use Rattle.line.specs.Runs.{Event, arrive, take, sack, Answer, judges, gives, tells, Never, Lent, Turn, turn, start, answers, finally, reduceEvent, reduceAnswer, reduceLent, Fair, copies, handed, handedOver, joinedAll, isOrderedIn, ssnOf, orderGiven, upFrom, acknowledges}
 use Rattle.line.specs.Sender.{Sender}
 use Rattle.line.specs.Agree.{Near, arrived-law, area-law, taken-law, written-law, sack-law}
 use Rattle.line.specs.Count.{holds-none, copies-nil, copies-cons}
 use Rattle.line.specs.Chosen.{Real}
 use Rattle.line.specs.Sound.{Sound, came, Wide, came-before, came-ahead, near}
-use Rattle.line.specs.Arrives.{SoundOf, arrived-sound}
+use Rattle.line.specs.Arrives.{SoundOf, arrived-sound, not-clashing}
 use Rattle.line.specs.Takes.{TakenSound, taken-sound}
 
 -- ---- one event, where what is held is near: the circle's turn is the line's, reduced
@@ -212,6 +212,33 @@ module _ {P : Profile} {base streams : ℕ} {chunk : ℕ → Chunk} (payload : �
     near-along (take out ∷ es) l s f =
         (near send s h k lh lk, near-along es (turn line line P streams l (take out) .lent) (taken-sound send (l .receiving) s (length out) .sound) f)
     near-along (sack ∷ es) l s f = near-along es (turn line line P streams l sack .lent) (acknowledged-sound (l .receiving) s) f
+
+  -- and no chunk of the sender is answered 21
+  arrive-clear : {gone : ℕ → ℕ} {least : ℕ} (r : Receiving) → SoundOf P base chunk size r gone least → (n : ℕ) → base ≤ n
+      → (c : Chunk) (bytes : List ℕ) → c ≡ chunk n → bytes ≡ payload n → arrived line P r (asHeld c (length bytes)) streams .verdict ≡ Clashing → ⊥
+  unfolding arrived
+  arrive-clear r s n l c bytes e b q =
+      not-clashing send r s n l
+      (sym (ap (λ (x : Chunk). verdictOf line P r (asHeld x (length bytes)) streams) e ∙ ap (λ (x : List ℕ). verdictOf line P r (asHeld (chunk n) (length x)) streams) b) ∙ q)
+
+  pub clear-along : (h : ℕ) (es : List Event) (l : Lent) {gone : ℕ → ℕ} {least : ℕ} → SoundOf P base chunk size (l .receiving) gone least
+      → Fair P h base chunk payload streams l es → All (Never Clashing) (answers line line P streams l es)
+  unfolding answers
+  clear-along h [] l s f = tt
+  clear-along h (arrive c bytes ∷ es) l s f =
+      let x = f .0 in (
+        arrive-clear (l .receiving) s (x .0) (x .1) c bytes (x .2) (x .3),
+        clear-along h es (turn line line P streams l (arrive c bytes) .lent) (arrive-sound (l .receiving) s (x .0) (x .1) c bytes (x .2) (x .3)) (f .1),
+      )
+  clear-along h (take out ∷ es) l s f = (tt, clear-along h es (turn line line P streams l (take out) .lent) (taken-sound send (l .receiving) s (length out) .sound) f)
+  clear-along h (sack ∷ es) l s f = (tt, clear-along h es (turn line line P streams l sack .lent) (acknowledged-sound (l .receiving) s) f)
+
+-- an answer is another than a verdict on the circle too
+pub reduced-never : (v : Verdict) (n m : ℕ) (xs : List Answer) → All (Never v) xs → All (Never v) (map (reduceAnswer n m) xs)
+reduced-never v n m [] w = tt
+reduced-never v n m (judges x ∷ xs) w = (w .0, reduced-never v n m xs (w .1))
+reduced-never v n m (gives t out ∷ xs) w = (tt, reduced-never v n m xs (w .1))
+reduced-never v n m (tells s ∷ xs) w = (tt, reduced-never v n m xs (w .1))
 
 -- ---- given once, and in order
 

@@ -1,10 +1,9 @@
--- "The premises of demand 3 already exclude it" (02, T-07): no number of the line is opposite to another, so no arrival is answered 24 there, and
--- none where the answers are brought back onto the circle.
+-- "The premises of demand 3 already exclude it" (02, T-07): no number of the line is opposite to another, so no arrival is answered 24 there.
 -- Assumes nothing.
 use Prim.Native.Nat.{ℕ, _-_, _<_}
 use mathlib.Core.Path.{_≡_, refl, sym, ap, subst}
 use mathlib.Core.Bool.{Bool, true, false}
-use mathlib.Core.List.{List, [], _∷_, map}
+use mathlib.Core.List.{List, [], _∷_}
 use native.Mathlib.Omega.{arith}
 use lib.ListN.{length}
 use lib.Dec.{leb, ltb}
@@ -24,7 +23,7 @@ use Rattle.delivery.specs.declared.arrival.Verdict.the-variants.{Kept, Empty, L
 use Rattle.delivery.specs.Receiving.{lowOf}
 use Rattle.delivery.specs.Contradiction.{isContradicted}
 use Rattle.delivery.specs.Arrival.{numberOf, isOpposite, isOld, isBeyond, isRepeat, isWedged, judgementOf, verdictOf, arrived}
-use Rattle.line.specs.Runs.{Event, arrive, take, sack, Answer, judges, gives, tells, Lent, turn, answers, reduceAnswer}
+use Rattle.line.specs.Runs.{Event, arrive, take, sack, Never, Lent, turn, answers}
 
 -- ---- one verdict
 
@@ -71,22 +70,10 @@ module _ (P : Profile) (r : Receiving) (h : Held) (streams : ℕ) where
 
 -- ---- every answer
 
--- an answer that tells of no opposite number
-abbrev pub Sided : Answer → Type 0
-Sided (judges v) = v ≡ Opposite → ⊥
-Sided (gives t out) = Unit
-Sided (tells s) = Unit
-
-pub all-sided : (P : Profile) (streams : ℕ) (es : List Event) (l : Lent) → All Sided (answers line line P streams l es)
+pub all-sided : (P : Profile) (streams : ℕ) (es : List Event) (l : Lent) → All (Never Opposite) (answers line line P streams l es)
 unfolding answers arrived
 all-sided P streams [] l = tt
 all-sided P streams (arrive c bytes ∷ es) l =
     (verdict-sided P (l .receiving) (asHeld c (length bytes)) streams, all-sided P streams es (turn line line P streams l (arrive c bytes) .lent))
 all-sided P streams (take out ∷ es) l = (tt, all-sided P streams es (turn line line P streams l (take out) .lent))
 all-sided P streams (sack ∷ es) l = (tt, all-sided P streams es (turn line line P streams l sack .lent))
-
-pub reduced-sided : (n m : ℕ) (xs : List Answer) → All Sided xs → All Sided (map (reduceAnswer n m) xs)
-reduced-sided n m [] w = tt
-reduced-sided n m (judges v ∷ xs) w = (w .0, reduced-sided n m xs (w .1))
-reduced-sided n m (gives t out ∷ xs) w = (tt, reduced-sided n m xs (w .1))
-reduced-sided n m (tells s ∷ xs) w = (tt, reduced-sided n m xs (w .1))
