@@ -164,12 +164,18 @@ fn acknowledges_a_gap_at_once_and_resends_without_waiting_for_t3<L: Library>() {
     assert_eq!(pair.ends[0].endpoint.counts().resent, 1);
 }
 
-fn an_opposite_chunk_asks_for_no_sack<L: Library>() {
-    let mut pair = Pair::<L>::up(slow(1), 15);
+/// Two ends, and the packet of a chunk that one has sent and the other acknowledged.
+fn acknowledged<L: Library>(seed: u64) -> (Pair<L>, Vec<u8>) {
+    let mut pair = Pair::<L>::up(slow(1), seed);
     pair.ends[0].endpoint.hand_in(&[4; 512], 0, false, 0).expect("there is room");
     assert!(pair.run_until(MINUTE, |pair| sent(pair, 1, SACK) == 1));
-    let mut packet = pair.ends[0].sent.last().expect("the chunk was sent").clone();
+    let packet = pair.ends[0].sent.last().expect("the chunk was sent").clone();
     assert_eq!(first_chunk(&packet), DATA);
+    (pair, packet)
+}
+
+fn an_opposite_chunk_asks_for_no_sack<L: Library>() {
+    let (mut pair, mut packet) = acknowledged::<L>(15);
     packet[16] ^= 0x80;
     checksum::seal(&mut packet);
     let (from, now) = (pair.ends[0].address, pair.now);
@@ -184,11 +190,7 @@ fn an_opposite_chunk_asks_for_no_sack<L: Library>() {
 }
 
 fn a_contradiction_aborts<L: Library>() {
-    let mut pair = Pair::<L>::up(slow(1), 16);
-    pair.ends[0].endpoint.hand_in(&[4; 512], 0, false, 0).expect("there is room");
-    assert!(pair.run_until(MINUTE, |pair| sent(pair, 1, SACK) == 1));
-    let mut packet = pair.ends[0].sent.last().expect("the chunk was sent").clone();
-    assert_eq!(first_chunk(&packet), DATA);
+    let (mut pair, mut packet) = acknowledged::<L>(16);
     let tsn = u32::from_be_bytes([packet[16], packet[17], packet[18], packet[19]]);
     let (from, now) = (pair.ends[0].address, pair.now);
     for next in 1..=2 {
