@@ -83,12 +83,12 @@ fn answer(w: Walked, packet: &[u8], mut scratch: [u8; ROOM], out: &mut [u8]) -> 
     requires { ⌜ w .used ≤ 1460 ⌝ }
     ensures { λ r. ⌜ (r ≡ answeredLength w (now (packet .entry)) (take (w .used) scratch) (now (out .entry))) × (now (out .exit) ≡ answeredOut w (now (packet .entry)) (take (w .used) scratch) (now (out .entry))) ⌝ }
 {
-    if reply::is_silenced(packet) {
+    let s = octets::part(packet, 12, packet.len());
+    if tags::has_abort(s) {
         return 0;
     }
     let after = w.association;
     let complete = w.complete;
-    let s = octets::part(packet, 12, packet.len());
     let h = reply::reply_head(after, complete, packets::read_header(packet), s);
     let n = reply::close_reply(w, &mut scratch);
     reply::send(h, &scratch[0..n], out)

@@ -1,43 +1,14 @@
 // The reply to a packet: the gathered chunks, and what is owed at their end.
 use crate::walk::Walked;
 use association::Association;
-use octets::size;
 use packets::Header;
 use states::State;
 use steps::Owed;
 ghost use mathlib.Core.Path.{_≡_};
 ghost use Prim.Native.Nat.{_≤_};
 ghost use lib.ListN.{length, take};
-ghost use Rattle.octets.specs.Walk.{firstItem};
 ghost use Rattle.chunks.specs.ShutdownChunk.{completeBytes};
-ghost use Rattle.arriving.specs.Reply.{isAbort, isSilenced, isShutdownSent, isShutdownDue, endedBy, wholeReply, initiateTag, replyTag, replyHead, sentLength, sentOut};
-
-fn is_abort(s: &[u8]) -> bool
-    ensures { λ r. ⌜ r ≡ isAbort (now (s .entry)) ⌝ }
-{
-    octets::get8(s, 0) == 6
-}
-
-fn first_abort(packet: &[u8]) -> usize
-    ensures { λ r. ⌜ r ≡ firstItem isAbort (now (packet .entry)) 12 ⌝ }
-{
-    let mut at = 12;
-    while at < packet.len() {
-        let s = &packet[at..];
-        if is_abort(s) {
-            return at;
-        }
-        at += size(s);
-    }
-    packet.len()
-}
-
-// An ABORT anywhere in the packet turns all replies off.
-pub(crate) fn is_silenced(packet: &[u8]) -> bool
-    ensures { λ r. ⌜ r ≡ isSilenced (now (packet .entry)) ⌝ }
-{
-    first_abort(packet) < packet.len()
-}
+ghost use Rattle.arriving.specs.Reply.{isShutdownSent, isShutdownDue, endedBy, wholeReply, initiateTag, replyTag, replyHead, sentLength, sentOut};
 
 fn is_shutdown_sent(s: State) -> bool
     ensures { λ r. ⌜ r ≡ isShutdownSent s ⌝ }

@@ -2,12 +2,14 @@
 use association::Association;
 use association::Ends;
 use chunks::kind::Kind;
+use octets::size;
 use packets::Header;
 use states::State;
 use steps::Echoed;
 ghost use mathlib.Core.Path.{_≡_};
+ghost use Rattle.octets.specs.Walk.{firstItem};
 ghost use Rattle.chunks.specs.Kind.{isInit};
-ghost use Rattle.arriving.specs.Tags.{arePorts, isReflecting, ruleClosed, ruleOpen, ruleFor, isTag, headNumber};
+ghost use Rattle.arriving.specs.Tags.{arePorts, isReflecting, ruleClosed, ruleOpen, isAbort, hasAbort, ruleFor, isTag, headNumber};
 
 // Which tag a packet must carry.
 pub enum Rule {
@@ -116,11 +118,41 @@ fn rule_open(kind: Kind, t: bool, known: bool, ends: Ends) -> Rule
     Rule::Tag(ends.my_tag)
 }
 
+fn is_abort(s: &[u8]) -> bool
+    ensures { λ r. ⌜ r ≡ isAbort (now (s .entry)) ⌝ }
+{
+    octets::get8(s, 0) == 6
+}
+
+fn first_abort(s: &[u8]) -> usize
+    ensures { λ r. ⌜ r ≡ firstItem isAbort (now (s .entry)) 0 ⌝ }
+{
+    let mut at = 0;
+    while at < s.len() {
+        let t = &s[at..];
+        if is_abort(t) {
+            return at;
+        }
+        at += size(t);
+    }
+    s.len()
+}
+
+// Whether a packet contains an ABORT; `s` is the packet from its first chunk on.
+pub(crate) fn has_abort(s: &[u8]) -> bool
+    ensures { λ r. ⌜ r ≡ hasAbort (now (s .entry)) ⌝ }
+{
+    first_abort(s) < s.len()
+}
+
 fn rule_for(state: State, ends: Ends, s: &[u8], echoed: Echoed) -> Rule
     ensures { λ r. ⌜ r ≡ ruleFor state ends (now (s .entry)) echoed ⌝ }
 {
     let kind = chunks::kind::kind_of(s);
     if state.is_closed() {
+        if has_abort(s) {
+            return Rule::Never;
+        }
         return rule_closed(kind, echoed);
     }
     let t = chunks::frame::reflected(s);
