@@ -9,7 +9,7 @@
  *   - a record is lent by a pointer, which is not null and has a whole record behind it;
  *   - a slice is two parameters, a pointer and a count of bytes. The pointer is not null, not even for a count of 0, and so many bytes are there;
  *   - what a call may write (the record, and each `uint8_t *`) overlaps nothing else that it was lent;
- *   - a `bool` is 0 or 1, in a record too.
+ *   - a `bool` that is lent is 0 or 1: those of the chunks in a record, `struct ow_held` and `struct ow_chunk`, and no other.
  * Addresses and counts have 64 bits. A call works on copies of a record of 7 KB: give it 256 KB of stack.
  *
  * Every answer begins with `number`: 0, or one of the numbers below. A refused call leaves the record as it came and writes no byte; a packet that is
@@ -50,7 +50,7 @@ extern "C" {
 
 /* Order: for a packet 1, 18, 2, 3, 4, 5, 6, then chunk by chunk 7, 8, 27 and the rest; for other calls 1, 18, 7, 19, 20. "Leaves all" but for 11 and 14. */
 #define OW_DONE 0       /* not refused */
-#define OW_RECORD 1     /* record outside its bounds, or its `state` and `tries` name no state */
+#define OW_RECORD 1     /* record outside its bounds, its `state` and `tries` name no state, or a flag is neither 0 nor 1 */
 #define OW_SIZE 2       /* a packet under 16 bytes, over 1,472, or not a multiple of 4 */
 #define OW_CHECKSUM 3   /* the packet's CRC32c */
 #define OW_HEAD 4       /* port or tag; of ow_associate: port 0 */
@@ -110,10 +110,10 @@ struct ow_cookie {
     uint16_t len;
 };
 
-/* Which TSNs have come: all up to `point`, and point + 1 + i where `come[i]`; the first `listed` of `dups` came again since the last SACK. */
+/* Which TSNs have come: all up to `point`, and point + 1 + i where `come[i]` is 1; the first `listed` of `dups` came again since the last SACK. */
 struct ow_keeping {
     ow_tsn point;
-    bool come[OW_PLACES];
+    uint8_t come[OW_PLACES]; /* each 0 or 1 */
     ow_tsn dups[OW_LISTED];
     size_t listed;
 };
@@ -173,7 +173,7 @@ struct ow_control {
 
 /* Round trips, in milliseconds; `rto` is how long T1, T2 and T3 run. */
 struct ow_clock {
-    bool sampled;
+    uint8_t sampled; /* 0 or 1 */
     uint32_t srtt;
     uint32_t rttvar;
     uint32_t rto;
@@ -184,7 +184,7 @@ struct ow_path {
     struct ow_control control;
     struct ow_clock clock;
     uint32_t flight;
-    bool running;
+    uint8_t running; /* 0 or 1 */
     ow_tsn until;
     uint8_t tries;
 };
@@ -348,10 +348,10 @@ struct ow_handed_in {
 
 /*
  * A message for a stream, whole or not at all: its chunks wait in `area` (the one for sending) until ow_transmit sends them. In OW_ESTABLISHED.
- * `ppid`: a number that goes with the message to the peer's host, as it is. Refused 1, 18, 7, 19, 20.
+ * `unordered`: 0 for a message in its stream's order, any other number for one out of it. `ppid`: a number that goes with the message to the peer's host, as it is. Refused 1, 18, 7, 19, 20.
  */
 struct ow_handed_in ow_hand_in(struct ow_association *association, uint8_t *area, size_t area_len, const uint8_t *message, size_t message_len, ow_stream stream,
-                               bool unordered, uint32_t ppid);
+                               uint8_t unordered, uint32_t ppid);
 
 /* `resent`: a chunk of the packet was sent before, so its round trip is not to be measured. `first`, `last`: TSNs of its chunks. 0 where nothing goes out. */
 struct ow_transmitted {

@@ -58,7 +58,7 @@ impl<L: Library> Association<L> {
             streams_out: self.record.ends.streams_out,
             acked: sending.acked,
             next_tsn: sending.next_tsn,
-            has_gap: receiving.keeping.come.contains(&true),
+            has_gap: receiving.keeping.come.contains(&1),
             window: (free * PAYLOAD) as u32,
         }
     }
@@ -76,7 +76,7 @@ impl<L: Library> Association<L> {
 
     /// The number of chunks that the message was cut into.
     pub fn hand_in(&mut self, message: &[u8], stream: u16, unordered: bool, ppid: u32) -> Answer<usize> {
-        let answer = L::hand_in(&mut self.record, &mut self.to_send, message, stream, unordered, ppid);
+        let answer = L::hand_in(&mut self.record, &mut self.to_send, message, stream, u8::from(unordered), ppid);
         answered(answer.number, answer.chunks)
     }
 

@@ -40,7 +40,7 @@ pub struct Cookie {
 #[repr(C)]
 pub struct Keeping {
     pub point: u32,
-    pub come: [bool; PLACES],
+    pub come: [u8; PLACES],
     pub dups: [u32; LISTED],
     pub listed: usize,
 }
@@ -100,7 +100,7 @@ pub struct Control {
 #[derive(Clone, Copy, Debug, PartialEq, Eq)]
 #[repr(C)]
 pub struct Clock {
-    pub sampled: bool,
+    pub sampled: u8,
     pub srtt: u32,
     pub rttvar: u32,
     pub rto: u32,
@@ -112,7 +112,7 @@ pub struct Path {
     pub control: Control,
     pub clock: Clock,
     pub flight: u32,
-    pub running: bool,
+    pub running: u8,
     pub until: u32,
     pub tries: u8,
 }
@@ -333,7 +333,7 @@ extern "C" {
         message: *const u8,
         message_len: usize,
         stream: u16,
-        unordered: bool,
+        unordered: u8,
         ppid: u32,
     ) -> HandedIn;
     pub fn ow_transmit(association: *mut Record, area: *const u8, area_len: usize, out: *mut u8, out_len: usize) -> Transmitted;

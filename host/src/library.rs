@@ -8,7 +8,7 @@ pub trait Library {
     fn peek(packet: &[u8]) -> Peeked;
     fn arrive(record: &mut Record, area: &mut [u8], packet: &[u8], lent: Lent, cookie: &[u8], echoed: Echoed, out: &mut [u8]) -> Arrived;
     fn associate(record: &mut Record, tag: u32, tsn: u32, port: u16, streams: u16, out: &mut [u8]) -> Answer;
-    fn hand_in(record: &mut Record, area: &mut [u8], message: &[u8], stream: u16, unordered: bool, ppid: u32) -> HandedIn;
+    fn hand_in(record: &mut Record, area: &mut [u8], message: &[u8], stream: u16, unordered: u8, ppid: u32) -> HandedIn;
     fn transmit(record: &mut Record, area: &[u8], out: &mut [u8]) -> Transmitted;
     fn take(record: &mut Record, area: &[u8], out: &mut [u8]) -> Delivered;
     fn sack(record: &mut Record, out: &mut [u8]) -> Acknowledged;
@@ -68,7 +68,7 @@ mod proved {
             unsafe { ffi::ow_associate(record, tag, tsn, port, streams, out.as_mut_ptr(), out.len()) }
         }
 
-        fn hand_in(record: &mut Record, area: &mut [u8], message: &[u8], stream: u16, unordered: bool, ppid: u32) -> HandedIn {
+        fn hand_in(record: &mut Record, area: &mut [u8], message: &[u8], stream: u16, unordered: u8, ppid: u32) -> HandedIn {
             unsafe { ffi::ow_hand_in(record, area.as_mut_ptr(), area.len(), message.as_ptr(), message.len(), stream, unordered, ppid) }
         }
 

@@ -28,6 +28,11 @@ fn the_library_keeps_the_state_table() {
     assert!(faults.is_empty(), "{}", faults.join("\n"));
 }
 
+#[test]
+fn the_library_refuses_a_flag_that_is_neither_0_nor_1() {
+    assert_eq!(model::flags::faults(&Linked::<Proved>::new()), [] as [String; 0]);
+}
+
 /// Both circles close: the first TSN is 100 below 2^32, and one stream carries more than 65,536 messages.
 #[test]
 fn every_message_comes_once_and_in_order() {

@@ -183,6 +183,17 @@ fn every_function_is_declared_alike() {
     assert_eq!(declared.len(), expected.len());
 }
 
+/// A `bool` that is neither 0 nor 1 means nothing in C. So an answer may have one, and what is lent may not, but for the chunks of a record.
+#[test]
+fn no_other_struct_has_a_bool() {
+    let header = include_str!("../../include/oilwhisper.h");
+    let structs = header.split("\nstruct ow_").skip(1).filter_map(|after| after.split_once(" {"));
+    let with_bool = structs.filter(|(_, fields)| fields.split('}').next().unwrap_or_default().contains("bool "));
+    let mut names: Vec<&str> = with_bool.map(|(name, _)| name).collect();
+    names.sort_unstable();
+    assert_eq!(names, ["answer", "chunk", "held", "message", "transmitted"]);
+}
+
 /// The declarations of functions, each without its semicolon and on one line; one begins a line with these words.
 fn declarations(text: &str, begins: &str) -> Vec<String> {
     let mut found = Vec::new();
@@ -221,7 +232,6 @@ fn type_of(of: &str) -> String {
         "uint16_t" | "ow_stream" => "u16".into(),
         "uint32_t" | "ow_tsn" => "u32".into(),
         "size_t" => "usize".into(),
-        "bool" => "bool".into(),
         "struct ow_association" => "Record".into(),
         _ => {
             let words = of.strip_prefix("struct ow_").unwrap_or_else(|| panic!("{} is no type of the header", of)).split('_');

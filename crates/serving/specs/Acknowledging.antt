@@ -5,7 +5,7 @@ use Rattle.stored.specs.declared.kept.Stored.{Stored}
 use Rattle.serving.specs.declared.acknowledging.ServedAcknowledged.{ServedAcknowledged}
 use Rattle.stored.specs.Stored.{packed}
 
--- with the record packed; and 1 where the record names no state
+-- with the record packed; and 1 where the record is not named
 abbrev pub packedAcknowledged : call.Acknowledged → ServedAcknowledged
 packedAcknowledged r = record { told = record { number = r .number; length = r .length; sack = r .sack }; association = packed (r .association) }
 

@@ -14,7 +14,7 @@ use Rattle.stored.specs.Stored.{named, packed}
 use Rattle.serving.specs.declared.arrival.ServedArrived.{ServedArrived}
 use Rattle.serving.specs.Served.{Served}
 
--- with the record packed; and 1 where the record names no state
+-- with the record packed; and 1 where the record is not named
 abbrev pub packedArrived : call.Arrived → ServedArrived
 packedArrived r = record {
   told = record { number = r .number; count = r .count; verdicts = r .verdicts; length = r .length };

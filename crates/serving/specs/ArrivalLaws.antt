@@ -14,14 +14,14 @@ use Rattle.serving.specs.declared.arrival.ServedArrived.{ServedArrived}
 use Rattle.serving.specs.Arrival.{packedArrived, unnamedArrived, Arriving}
 use Rattle.serving.specs.ServedLaws.{is-so, is-not, served, unserved, served-one}
 
-module _ (s : Stored) {t : Bool} (e : t ≡ isNamed (s .state) (s .tries)) {a : Association} {area packet : List ℕ} {l : Lent} {cookie : List ℕ} {w : Echoed} {out : List ℕ} {q : ServedArrived} where
-  -- the record names a state, and what the arrival gave is packed
+module _ (s : Stored) {t : Bool} (e : t ≡ isNamed s) {a : Association} {area packet : List ℕ} {l : Lent} {cookie : List ℕ} {w : Echoed} {out : List ℕ} {q : ServedArrived} where
+  -- the record is named, and what the arrival gave is packed
   pub arriving : {r : call.Arrived} {area' out' : List ℕ} → t ≡ true
       → (r ≡ arrivedOf a area packet l cookie w out) × (area' ≡ areaOf a area packet l cookie w out) × (out' ≡ outOf a area packet l cookie w out)
       → q ≡ packedArrived r → Arriving s a area packet l cookie w out q area' out'
   arriving h d k = record { served = served s e packedArrived h (d .0, d .2) k; held = is-so s e area h (d .1) }
 
-  -- it names none
+  -- it is not
   pub not-arriving : t ≡ false → q ≡ unnamedArrived s → Arriving s a area packet l cookie w out q area out
   not-arriving h k = record { served = unserved s e h k; held = is-not s e _ h refl }
 

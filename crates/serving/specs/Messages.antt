@@ -7,14 +7,14 @@ use Rattle.serving.specs.declared.messages.ServedHandedIn.{ServedHandedI
 use Rattle.serving.specs.declared.messages.ServedDelivered.{ServedDelivered}
 use Rattle.stored.specs.Stored.{packed}
 
--- handing in: with the record packed; and 1 where the record names no state
+-- handing in: with the record packed; and 1 where the record is not named
 abbrev pub packedHandedIn : handing.HandedIn → ServedHandedIn
 packedHandedIn r = record { told = record { number = r .number; chunks = r .chunks }; association = packed (r .association) }
 
 abbrev pub unnamedHandedIn : Stored → ServedHandedIn
 unnamedHandedIn s = record { told = record { number = 1; chunks = 0 }; association = s }
 
--- taking: with the record packed; and 1 where the record names no state
+-- taking: with the record packed; and 1 where the record is not named
 abbrev pub packedDelivered : taking.Delivered → ServedDelivered
 packedDelivered r = record { told = record { number = r .number; message = r .message }; association = packed (r .association) }
 

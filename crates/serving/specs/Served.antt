@@ -8,7 +8,7 @@ use Rattle.stored.specs.declared.answer.ServedAnswer.{ServedAnswer}
 use Rattle.stored.specs.Stored.{named}
 use Rattle.stored.specs.Answer.{packedAnswer, unnamedAnswer}
 
--- Where the record names a state it leaves x, and bs in the lent buffer; where it names none, y, and the buffer as it was.
+-- Where the record is named it leaves x, and bs in the lent buffer; where it is not, y, and the buffer as it was.
 pub record Served {R : Type 0} (s : Stored) (x y : R) (bs buffer : List ℕ) (r : R) (exit : List ℕ) : Type 0 where
   pub outcome : r ≡ named s x y
   pub bytes : exit ≡ named s bs buffer

@@ -11,24 +11,24 @@ use Rattle.stored.specs.Stored.{isNamed, named}
 use Rattle.stored.specs.Answer.{packedAnswer, unnamedAnswer}
 use Rattle.serving.specs.Served.{Served, Answered, AnsweredAlone}
 
-module _ (s : Stored) {t : Bool} (e : t ≡ isNamed (s .state) (s .tries)) where
-  -- of what depends on whether the record names a state
+module _ (s : Stored) {t : Bool} (e : t ≡ isNamed s) where
+  -- of what depends on whether the record is named
   pub is-so : {A : Type 0} {z x : A} (y : A) → t ≡ true → z ≡ x → z ≡ named s x y
   is-so y h w = rw (← e, h) w
 
   pub is-not : {A : Type 0} {z y : A} (x : A) → t ≡ false → z ≡ y → z ≡ named s x y
   is-not x h w = rw (← e, h) w
 
-module _ (s : Stored) {t : Bool} (e : t ≡ isNamed (s .state) (s .tries)) {R : Type 0} {r y : R} {bs buffer : List ℕ} where
-  -- the record names a state, and what the call gave is packed
+module _ (s : Stored) {t : Bool} (e : t ≡ isNamed s) {R : Type 0} {r y : R} {bs buffer : List ℕ} where
+  -- the record is named, and what the call gave is packed
   pub served : {C : Type 0} {c d : C} {exit : List ℕ} (pack : C → R) → t ≡ true → (c ≡ d) × (exit ≡ bs) → r ≡ pack c → Served s (pack d) y bs buffer r exit
   served pack h d w = record { outcome = is-so s e y h (w ∙ ap pack (d .0)); bytes = is-so s e buffer h (d .1) }
 
-  -- it names none
+  -- it is not
   pub unserved : {x : R} → t ≡ false → r ≡ y → Served s x y bs buffer r buffer
   unserved {x} h w = record { outcome = is-not s e x h w; bytes = is-not s e bs h refl }
 
-module _ (s : Stored) {t : Bool} (e : t ≡ isNamed (s .state) (s .tries)) {p : Plan} {q : ServedAnswer} where
+module _ (s : Stored) {t : Bool} (e : t ≡ isNamed s) {p : Plan} {q : ServedAnswer} where
   -- the same of a call that goes as planned
   pub answered : {r : call.Answer} {out exit : List ℕ} → t ≡ true → Done p out r exit → q ≡ packedAnswer r → Answered s p out q exit
   answered h d w = served s e packedAnswer h (d .answer, d .bytes) w
@@ -36,7 +36,7 @@ module _ (s : Stored) {t : Bool} (e : t ≡ isNamed (s .state) (s .tries)) {p : 
   pub answered-alone : {r : call.Answer} → t ≡ true → Kept p r → q ≡ packedAnswer r → AnsweredAlone s p q
   answered-alone h d w = record { outcome = is-so s e _ h (w ∙ ap packedAnswer (d .answer)) }
 
-  -- it names none
+  -- it is not
   pub unanswered-alone : t ≡ false → q ≡ unnamedAnswer s → AnsweredAlone s p q
   unanswered-alone h w = record { outcome = is-not s e _ h w }
 

@@ -5,7 +5,7 @@ use Rattle.stored.specs.declared.kept.Stored.{Stored}
 use Rattle.serving.specs.declared.transmitting.ServedTransmitted.{ServedTransmitted}
 use Rattle.stored.specs.Stored.{packed}
 
--- with the record packed; and 1 where the record names no state
+-- with the record packed; and 1 where the record is not named
 abbrev pub packedTransmitted : call.Transmitted → ServedTransmitted
 packedTransmitted r = record {
   told = record { number = r .number; length = r .length; resent = r .resent; first = r .first; last = r .last };

@@ -54,7 +54,7 @@ fn not_sacked(s: Stored) -> ServedAcknowledged
 pub fn sack(s: Stored, out: &mut [u8]) -> ServedAcknowledged
     ensures { λ r. ⌜ Served s (packedAcknowledged (acknowledged (unpacked s) (now (out .entry)))) (unnamedAcknowledged s) (acknowledgedOut (unpacked s) (now (out .entry))) (now (out .entry)) r (now (out .exit)) ⌝ }
 {
-    if stored::is_named(s.state, s.tries) {
+    if stored::is_named(s) {
         let a = stored::unpack(s);
         let r = calls::sack(a, out);
         return sacked(r);

@@ -68,7 +68,7 @@ pub fn arrive(
 ) -> ServedArrived
     ensures { λ r. ⌜ Arriving s (unpacked s) (now (area .entry)) (now (packet .entry)) lent (now (cookie .entry)) (echoedOf (echoed .word) (echoed .made)) (now (out .entry)) r (now (area .exit)) (now (out .exit)) ⌝ }
 {
-    if stored::is_named(s.state, s.tries) {
+    if stored::is_named(s) {
         let a = stored::unpack(s);
         let made = echoed.made;
         let e = word::echoed_of(echoed.word, made);

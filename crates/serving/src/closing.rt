@@ -12,7 +12,7 @@ ghost use Rattle.stored.specs.Cause.{reasonOf};
 pub fn shutdown(s: Stored, out: &mut [u8]) -> ServedAnswer
     ensures { λ r. ⌜ Answered s (shutting (unpacked s) (now (out .entry))) (now (out .entry)) r (now (out .exit)) ⌝ }
 {
-    if stored::is_named(s.state, s.tries) {
+    if stored::is_named(s) {
         let a = stored::unpack(s);
         let r = calls::shutdown(a, out);
         return answer::answered(r);
@@ -23,7 +23,7 @@ pub fn shutdown(s: Stored, out: &mut [u8]) -> ServedAnswer
 pub fn abort(s: Stored, cause: u8, tsn: u32, out: &mut [u8]) -> ServedAnswer
     ensures { λ r. ⌜ Answered s (aborting (unpacked s) (reasonOf cause tsn) (now (out .entry))) (now (out .entry)) r (now (out .exit)) ⌝ }
 {
-    if stored::is_named(s.state, s.tries) {
+    if stored::is_named(s) {
         let a = stored::unpack(s);
         let why = cause::reason_of(cause, tsn);
         let r = calls::abort(a, why, out);

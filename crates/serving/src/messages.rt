@@ -3,9 +3,11 @@ use holding::taking::Message;
 use numbers::Ssn;
 use numbers::StreamId;
 use stored::Stored;
+use stored::flags;
 ghost use mathlib.Core.Path.{_≡_};
 ghost use lib.ListN.{length};
 ghost use Rattle.calls.specs.Messages.{handedIn, handedArea, delivered, deliveredOut};
+ghost use Rattle.stored.specs.Flags.{isYes};
 ghost use Rattle.stored.specs.Stored.{unpacked};
 ghost use Rattle.serving.specs.Served.{Served};
 ghost use Rattle.serving.specs.Messages.{packedHandedIn, unnamedHandedIn, packedDelivered, unnamedDelivered};
@@ -66,14 +68,15 @@ pub fn hand_in(
     area: &mut [u8],
     message: &[u8],
     stream: u16,
-    unordered: bool,
+    unordered: u8,
     ppid: u32,
 ) -> ServedHandedIn
-    ensures { λ r. ⌜ Served s (packedHandedIn (handedIn (unpacked s) (now (area .entry)) (length (now (message .entry))) (record { 0 = stream }) unordered ppid)) (unnamedHandedIn s) (handedArea (unpacked s) (now (area .entry)) (now (message .entry)) (record { 0 = stream })) (now (area .entry)) r (now (area .exit)) ⌝ }
+    ensures { λ r. ⌜ Served s (packedHandedIn (handedIn (unpacked s) (now (area .entry)) (length (now (message .entry))) (record { 0 = stream }) (isYes unordered) ppid)) (unnamedHandedIn s) (handedArea (unpacked s) (now (area .entry)) (now (message .entry)) (record { 0 = stream })) (now (area .entry)) r (now (area .exit)) ⌝ }
 {
-    if stored::is_named(s.state, s.tries) {
+    if stored::is_named(s) {
         let a = stored::unpack(s);
-        let r = calls::hand_in(a, area, message, StreamId(stream), unordered, ppid);
+        let out_of_order = flags::is_yes(unordered);
+        let r = calls::hand_in(a, area, message, StreamId(stream), out_of_order, ppid);
         return handed(r);
     }
     not_handed(s)
@@ -114,7 +117,7 @@ fn not_given(s: Stored) -> ServedDelivered
 pub fn take(s: Stored, area: &[u8], out: &mut [u8]) -> ServedDelivered
     ensures { λ r. ⌜ Served s (packedDelivered (delivered (unpacked s) (now (area .entry)) (length (now (out .entry))))) (unnamedDelivered s) (deliveredOut (unpacked s) (now (area .entry)) (now (out .entry))) (now (out .entry)) r (now (out .exit)) ⌝ }
 {
-    if stored::is_named(s.state, s.tries) {
+    if stored::is_named(s) {
         let a = stored::unpack(s);
         let r = calls::take(a, area, out);
         return given(r);

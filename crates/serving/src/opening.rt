@@ -18,7 +18,7 @@ pub fn associate(
 ) -> ServedAnswer
     ensures { λ r. ⌜ Answered s (associating (unpacked s) tag (record { 0 = tsn }) port streams (now (out .entry))) (now (out .entry)) r (now (out .exit)) ⌝ }
 {
-    if stored::is_named(s.state, s.tries) {
+    if stored::is_named(s) {
         let a = stored::unpack(s);
         let r = calls::associate(a, tag, Tsn(tsn), port, streams, out);
         return answer::answered(r);

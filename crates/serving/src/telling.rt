@@ -17,7 +17,7 @@ pub struct Value {
 pub fn error_stream(s: Stored, stream: u16, out: &mut [u8]) -> ServedAnswer
     ensures { λ r. ⌜ Answered s (tellingStream (unpacked s) (record { 0 = stream }) (now (out .entry))) (now (out .entry)) r (now (out .exit)) ⌝ }
 {
-    if stored::is_named(s.state, s.tries) {
+    if stored::is_named(s) {
         let a = stored::unpack(s);
         let r = calls::error_stream(a, StreamId(stream), out);
         return answer::answered(r);
@@ -28,7 +28,7 @@ pub fn error_stream(s: Stored, stream: u16, out: &mut [u8]) -> ServedAnswer
 pub fn error_stale(s: Stored, port: u16, tag: u32, late: u32, out: &mut [u8]) -> ServedAnswer
     ensures { λ r. ⌜ Answered s (tellingStale (unpacked s) port tag late (now (out .entry))) (now (out .entry)) r (now (out .exit)) ⌝ }
 {
-    if stored::is_named(s.state, s.tries) {
+    if stored::is_named(s) {
         let a = stored::unpack(s);
         let r = calls::error_stale(a, port, tag, late, out);
         return answer::answered(r);
@@ -39,7 +39,7 @@ pub fn error_stale(s: Stored, port: u16, tag: u32, late: u32, out: &mut [u8]) ->
 pub fn heartbeat(s: Stored, value: Value, out: &mut [u8]) -> ServedAnswer
     ensures { λ r. ⌜ Answered s (beating (unpacked s) (value .bytes) (now (out .entry))) (now (out .entry)) r (now (out .exit)) ⌝ }
 {
-    if stored::is_named(s.state, s.tries) {
+    if stored::is_named(s) {
         let a = stored::unpack(s);
         let bytes = value.bytes;
         let r = calls::heartbeat(a, bytes, out);

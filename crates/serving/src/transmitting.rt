@@ -60,7 +60,7 @@ fn not_sent(s: Stored) -> ServedTransmitted
 pub fn transmit(s: Stored, area: &[u8], out: &mut [u8]) -> ServedTransmitted
     ensures { λ r. ⌜ Served s (packedTransmitted (transmitted (unpacked s) (now (area .entry)) (now (out .entry)))) (unnamedTransmitted s) (transmittedOut (unpacked s) (now (area .entry)) (now (out .entry))) (now (out .entry)) r (now (out .exit)) ⌝ }
 {
-    if stored::is_named(s.state, s.tries) {
+    if stored::is_named(s) {
         let a = stored::unpack(s);
         let r = calls::transmit(a, area, out);
         return sent(r);

@@ -1,5 +1,6 @@
 -- Each promise leaves one outcome: two results that a contract allows are equal. Assumes nothing.
 use mathlib.Core.Path.{_≡_, sym, _∙_}
+use Rattle.stored.proofs.flags.is_yes.Reads as is-yes-reads
 use Rattle.stored.proofs.kept.is_named.Reads as is-named-reads
 use Rattle.stored.proofs.kept.unpack.Reads as unpack-reads
 use Rattle.stored.proofs.kept.pack.Reads as pack-reads
@@ -8,6 +9,9 @@ use Rattle.stored.proofs.answer.unnamed.Reads as unnamed-reads
 use Rattle.stored.proofs.word.echoed_of.Reads as echoed-of-reads
 use Rattle.stored.proofs.cause.reason_of.Reads as reason-of-reads
 use Rattle.stored.proofs.seen.packed.Reads as packed-reads
+
+pub is-yes-unique : (κs : _) (a : _) (r q : _) (s t : _) → is-yes-reads.Post κs a r s → is-yes-reads.Post κs a q t → r ≡ q
+is-yes-unique κs a r q s t x y = x ∙ sym y
 
 pub is-named-unique : (κs : _) (a : _) (r q : _) (s t : _) → is-named-reads.Post κs a r s → is-named-reads.Post κs a q t → r ≡ q
 is-named-unique κs a r q s t x y = x ∙ sym y

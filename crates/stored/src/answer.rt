@@ -32,7 +32,7 @@ pub fn answered(r: calls::Answer) -> ServedAnswer
     }
 }
 
-// The record names no state, and comes back as it was.
+// The record is not named, and comes back as it was.
 pub fn unnamed(s: Stored) -> ServedAnswer
     ensures { λ q. ⌜ q ≡ unnamedAnswer s ⌝ }
 {

@@ -1,12 +1,14 @@
 // The record as a host keeps it.
+use crate::flags;
+use crate::parts;
+use crate::parts::StoredReceiving;
+use crate::parts::StoredSending;
 use association::Association;
 use association::Cookie;
 use association::Ends;
-use delivery::Receiving;
-use sending::Sending;
 use states::State;
 ghost use mathlib.Core.Path.{_≡_};
-ghost use Rattle.stored.specs.Stored.{numberOf, triesOf, stateOf, isNamed, unpacked, packed};
+ghost use Rattle.stored.specs.Stored.{numberOf, triesOf, stateOf, isState, hasJunk, isNamed, unpacked, packed};
 
 // The state is two numbers: which it is, and its count of tries, 0 where it has none.
 #[repr(C)]
@@ -15,8 +17,8 @@ pub struct Stored {
     pub tries: u8,
     pub ends: Ends,
     pub cookie: Cookie,
-    pub receiving: Receiving,
-    pub sending: Sending,
+    pub receiving: StoredReceiving,
+    pub sending: StoredSending,
 }
 
 fn number_of(s: State) -> u8
@@ -65,12 +67,41 @@ fn state_of(number: u8, tries: u8) -> State
 }
 
 // Whether the two numbers are those of a state.
-pub fn is_named(number: u8, tries: u8) -> bool
-    ensures { λ r. ⌜ r ≡ isNamed number tries ⌝ }
+fn is_state(number: u8, tries: u8) -> bool
+    ensures { λ r. ⌜ r ≡ isState number tries ⌝ }
 {
     let s = state_of(number, tries);
     if number_of(s) == number {
         return tries_of(s) == tries;
+    }
+    false
+}
+
+// Whether one of its flags is neither 0 nor 1.
+fn has_junk(s: Stored) -> bool
+    ensures { λ r. ⌜ r ≡ hasJunk s ⌝ }
+{
+    let sending = s.sending;
+    let path = sending.path;
+    if flags::is_junk(path.running) {
+        return true;
+    }
+    let clock = path.clock;
+    if flags::is_junk(clock.sampled) {
+        return true;
+    }
+    let receiving = s.receiving;
+    let keeping = receiving.keeping;
+    let come = keeping.come;
+    flags::has_junk(come)
+}
+
+// Whether the two numbers name a state, and every flag yes or no.
+pub fn is_named(s: Stored) -> bool
+    ensures { λ r. ⌜ r ≡ isNamed s ⌝ }
+{
+    if is_state(s.state, s.tries) {
+        return !has_junk(s);
     }
     false
 }
@@ -81,8 +112,10 @@ pub fn unpack(s: Stored) -> Association
     let state = state_of(s.state, s.tries);
     let ends = s.ends;
     let cookie = s.cookie;
-    let receiving = s.receiving;
-    let sending = s.sending;
+    let r = s.receiving;
+    let receiving = parts::unpack_receiving(r);
+    let q = s.sending;
+    let sending = parts::unpack_sending(q);
     Association {
         state,
         ends,
@@ -98,8 +131,10 @@ pub fn pack(a: Association) -> Stored
     let state = a.state;
     let ends = a.ends;
     let cookie = a.cookie;
-    let receiving = a.receiving;
-    let sending = a.sending;
+    let r = a.receiving;
+    let receiving = parts::pack_receiving(r);
+    let q = a.sending;
+    let sending = parts::pack_sending(q);
     Stored {
         state: number_of(state),
         tries: tries_of(state),

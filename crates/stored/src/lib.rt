@@ -1,7 +1,9 @@
 // What the host keeps, hands over and gets, as numbers and structs without an enum.
 pub mod answer;
 pub mod cause;
+pub mod flags;
 pub mod kept;
+pub mod parts;
 pub mod seen;
 pub mod word;
 

@@ -25,6 +25,11 @@ fn near(r: &mut Random, n: u32) -> u32 {
     }
 }
 
+/// One of the two that it may be, or another byte.
+fn flag(r: &mut Random) -> u8 {
+    r.pick(&[NO, YES, YES, 2, 255])
+}
+
 fn head(r: &mut Random, a: &mut Association) {
     match r.below(9) {
         0 => a.state = r.word() as u8,
@@ -43,9 +48,9 @@ fn receiving(r: &mut Random, k: &mut Receiving) {
     let i = r.below(PLACES);
     let j = r.below(PLACES);
     match r.below(11) {
-        0 => k.keeping.come[0] = true,
-        1 => k.keeping.come[i] = !k.keeping.come[i],
-        2 => k.keeping.come[PLACES - 1] = true,
+        0 => k.keeping.come[0] = flag(r),
+        1 => k.keeping.come[i] = flag(r),
+        2 => k.keeping.come[PLACES - 1] = flag(r),
         3 => k.keeping.listed = r.pick(&[0, 1, 16, 17, usize::MAX]),
         4 => k.keeping.point = near(r, k.keeping.point),
         5 => k.held[i].tsn = k.held[j].tsn,
@@ -74,7 +79,7 @@ fn place(r: &mut Random, s: &mut Sending) {
 
 fn sending(r: &mut Random, s: &mut Sending) {
     let p = &mut s.path;
-    match r.below(13) {
+    match r.below(15) {
         0 => s.acked = near(r, s.acked),
         1 => s.next_tsn = near(r, s.next_tsn),
         2 => s.oldest = near(r, s.oldest),
@@ -87,6 +92,8 @@ fn sending(r: &mut Random, s: &mut Sending) {
         9 => p.clock.srtt = r.pick(&[0, 60_000, 60_001, u32::MAX]),
         10 => p.clock.rttvar = r.pick(&[0, 60_000, 60_001, u32::MAX]),
         11 => p.tries = r.pick(&[0, 9, 10, 11, 255]),
+        12 => p.running = flag(r),
+        13 => p.clock.sampled = flag(r),
         _ => p.until = near(r, p.until),
     }
 }

@@ -130,7 +130,7 @@ fn receiving(r: &mut Random) -> Receiving {
             held[place] = Held::default();
         }
     }
-    Receiving { keeping: Keeping { point, come, dups, listed }, held, next }
+    Receiving { keeping: Keeping { point, come: come.map(u8::from), dups, listed }, held, next }
 }
 
 fn one_held(r: &mut Random, next: &[u16; STREAMS]) -> Held {
@@ -229,7 +229,7 @@ fn sending(r: &mut Random) -> Sending {
         control: Control { cwnd, ssthresh: figure(r, cwnd), partial: figure(r, cwnd) },
         clock: clock(r),
         flight,
-        running: r.one_in(2),
+        running: u8::from(r.one_in(2)),
         until: acked.wrapping_add(r.pick(&[0, 0, 1 << 31, u32::MAX])).wrapping_add(r.below(12) as u32).wrapping_sub(2),
         tries: r.pick(&[0, 1, 9, 10]),
     };
@@ -251,7 +251,7 @@ fn clock(r: &mut Random) -> Clock {
     let figures = [0, 1, 999, 5_000, 59_999, RTO_MOST];
     let srtt = if r.one_in(2) { r.below(RTO_MOST as usize) as u32 } else { r.pick(&figures) };
     let rto = if r.one_in(2) { r.within(RTO_LEAST as usize, RTO_MOST as usize) as u32 } else { r.pick(&figures).max(RTO_LEAST) };
-    Clock { sampled: r.one_in(2), srtt, rttvar: r.pick(&figures), rto }
+    Clock { sampled: u8::from(r.one_in(2)), srtt, rttvar: r.pick(&figures), rto }
 }
 
 #[test]

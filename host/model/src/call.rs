@@ -32,7 +32,7 @@ pub enum Call {
     Peek { packet: Bytes },
     Arrive { packet: Bytes, lent: Lent, cookie: Bytes, echoed: Echoed, area: usize, out: usize },
     Associate { tag: u32, tsn: u32, port: u16, streams: u16, out: usize },
-    HandIn { message: Bytes, stream: u16, unordered: bool, ppid: u32, area: usize },
+    HandIn { message: Bytes, stream: u16, unordered: u8, ppid: u32, area: usize },
     Transmit { area: usize, out: usize },
     Take { area: usize, out: usize },
     Sack { out: usize },

@@ -109,9 +109,9 @@ pub fn peek(packet: &[u8]) -> Peeked {
 
 // ---- Messages
 
-pub fn hand_in(a: &mut Association, area: &mut [u8], message: &[u8], stream: u16, unordered: bool, ppid: u32) -> HandedIn {
+pub fn hand_in(a: &mut Association, area: &mut [u8], message: &[u8], stream: u16, unordered: u8, ppid: u32) -> HandedIn {
     let (number, chunks) = match bar(a, area.len() < AREA, &[ESTABLISHED]) {
-        0 => sending::hand_in(&mut a.sending, area, message, stream, a.ends.streams_out, unordered, ppid),
+        0 => sending::hand_in(&mut a.sending, area, message, stream, a.ends.streams_out, unordered != NO, ppid),
         number => (number, 0),
     };
     HandedIn { number, chunks }

@@ -10,7 +10,7 @@ pub trait Core {
     fn arrive(&self, a: &mut Association, area: &mut [u8], packet: &[u8], lent: Lent, cookie: &[u8], echoed: Echoed, out: &mut [u8]) -> Arrived;
     fn associate(&self, a: &mut Association, tag: u32, tsn: u32, port: u16, streams: u16, out: &mut [u8]) -> Answer;
     #[allow(clippy::too_many_arguments)]
-    fn hand_in(&self, a: &mut Association, area: &mut [u8], message: &[u8], stream: u16, unordered: bool, ppid: u32) -> HandedIn;
+    fn hand_in(&self, a: &mut Association, area: &mut [u8], message: &[u8], stream: u16, unordered: u8, ppid: u32) -> HandedIn;
     fn transmit(&self, a: &mut Association, area: &[u8], out: &mut [u8]) -> Transmitted;
     fn take(&self, a: &mut Association, area: &[u8], out: &mut [u8]) -> Delivered;
     fn sack(&self, a: &mut Association, out: &mut [u8]) -> Acknowledged;
@@ -46,7 +46,7 @@ impl Core for Model {
         calls::associate(a, tag, tsn, port, streams, out)
     }
 
-    fn hand_in(&self, a: &mut Association, area: &mut [u8], message: &[u8], stream: u16, unordered: bool, ppid: u32) -> HandedIn {
+    fn hand_in(&self, a: &mut Association, area: &mut [u8], message: &[u8], stream: u16, unordered: u8, ppid: u32) -> HandedIn {
         calls::hand_in(a, area, message, stream, unordered, ppid)
     }
 

@@ -352,6 +352,6 @@ impl<'m> Episode<'m> {
         r.fill(&mut message);
         let agreed = usize::from(streams).max(1);
         let stream = if r.one_in(30) { r.pick(&[streams, 128, 65_535]) } else { r.below(agreed.min(6)) as u16 };
-        Call::HandIn { message: Bytes(message), stream, unordered: r.one_in(4), ppid: r.word(), area }
+        Call::HandIn { message: Bytes(message), stream, unordered: r.pick(&[0, 0, 0, 0, 0, 0, 1, 2, 255]), ppid: r.word(), area }
     }
 }

@@ -9,6 +9,7 @@
 //! - T3 sets the misses of every place to 0, free ones too.
 //! - The bounds of a free place of the sending side: its misses, at most 3. Nothing else of a free place is looked at.
 //! - `until` stays when a recovery ends.
+//! - A flag that is not of a chunk is a byte; one that is neither 0 nor 1 is outside the record's bounds.
 //! - A SACK empties `dups` to 0; its values have `dups` as it stood, entries behind `listed` too.
 //! - In COOKIE-WAIT `streams_in` is 128 and the peer's tag 0. An INIT always offers 128 streams in and a window of 65,536.
 //! - An INIT ACK's cookie is kept with 0 behind it; a COOKIE ACK leaves it.
@@ -27,6 +28,7 @@ mod core;
 pub mod coverage;
 mod craft;
 pub mod drive;
+pub mod flags;
 mod letting;
 pub mod numbers;
 mod path;

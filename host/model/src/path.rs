@@ -1,7 +1,7 @@
 //! Congestion and round trips: the numbers of the one path.
 
 use crate::numbers::tsn_distance;
-use crate::record::{Clock, Control, Path, TRIES};
+use crate::record::{Clock, Control, Path, NO, TRIES, YES};
 
 pub const PMDCS: u32 = 528;
 pub const START: u32 = 2_112;
@@ -13,16 +13,18 @@ pub const RTO_MOST: u32 = 60_000;
 pub fn fresh() -> Path {
     Path {
         control: Control { cwnd: START, ssthresh: TOP, partial: 0 },
-        clock: Clock { sampled: false, srtt: 0, rttvar: 0, rto: RTO_LEAST },
+        clock: Clock { sampled: NO, srtt: 0, rttvar: 0, rto: RTO_LEAST },
         flight: 0,
-        running: false,
+        running: NO,
         until: 0,
         tries: 0,
     }
 }
 
 pub fn is_sound(p: &Path) -> bool {
-    p.control.cwnd <= TOP
+    p.running <= YES
+        && p.clock.sampled <= YES
+        && p.control.cwnd <= TOP
         && p.control.ssthresh <= TOP
         && p.control.partial <= TOP
         && p.clock.srtt <= RTO_MOST
@@ -34,12 +36,12 @@ pub fn is_sound(p: &Path) -> bool {
 /// A sample of R milliseconds.
 pub fn sample(c: &mut Clock, r: u32) {
     let r = r.min(RTO_MOST);
-    if c.sampled {
+    if c.sampled == YES {
         let off = c.srtt.abs_diff(r);
         c.rttvar = (3 * c.rttvar + off) / 4;
         c.srtt = (7 * c.srtt + r) / 8;
     } else {
-        c.sampled = true;
+        c.sampled = YES;
         c.srtt = r;
         c.rttvar = r / 2;
     }
@@ -62,7 +64,7 @@ pub struct News {
 pub fn grow(p: &mut Path, n: &News) {
     let c = &mut p.control;
     if c.cwnd <= c.ssthresh {
-        if n.flight >= c.cwnd && n.moved && !p.running {
+        if n.flight >= c.cwnd && n.moved && p.running == NO {
             c.cwnd = (c.cwnd + n.newly.min(PMDCS)).min(TOP);
         }
         return;
@@ -80,14 +82,14 @@ pub fn grow(p: &mut Path, n: &News) {
 pub fn strike(p: &mut Path, last: u32) {
     let ssthresh = (p.control.cwnd / 2).max(FLOOR);
     p.control = Control { cwnd: ssthresh, ssthresh, partial: 0 };
-    p.running = true;
+    p.running = YES;
     p.until = last;
 }
 
 /// "recovery ends, as a SACK's last step, when the point reaches": at it or ahead of it, never opposite.
 pub fn end_recovery(p: &mut Path, point: u32) {
-    if p.running && tsn_distance(p.until, point).map_or(false, |d| d >= 0) {
-        p.running = false;
+    if p.running == YES && tsn_distance(p.until, point).map_or(false, |d| d >= 0) {
+        p.running = NO;
     }
 }
 

@@ -2,12 +2,12 @@
 
 use crate::numbers::{ahead, take_key, tsn_distance};
 use crate::read::Data;
-use crate::record::{Blocks, Held, Keeping, Message, Receiving, Sacked, BLOCKS, LISTED, PAYLOAD, PLACES, STREAMS};
+use crate::record::{Blocks, Held, Keeping, Message, Receiving, Sacked, BLOCKS, LISTED, NO, PAYLOAD, PLACES, STREAMS, YES};
 
 /// "Fresh: point = peer's initial TSN minus 1, all else empty or zero."
 pub fn fresh(peer_tsn: u32) -> Receiving {
     Receiving {
-        keeping: Keeping { point: peer_tsn.wrapping_sub(1), come: [false; PLACES], dups: [0; LISTED], listed: 0 },
+        keeping: Keeping { point: peer_tsn.wrapping_sub(1), come: [NO; PLACES], dups: [0; LISTED], listed: 0 },
         held: [Held::default(); PLACES],
         next: [0; STREAMS],
     }
@@ -15,7 +15,7 @@ pub fn fresh(peer_tsn: u32) -> Receiving {
 
 fn is_come(k: &Keeping, tsn: u32) -> bool {
     let d = ahead(k.point, tsn) as usize;
-    (1..=PLACES).contains(&d) && k.come[d - 1]
+    (1..=PLACES).contains(&d) && k.come[d - 1] == YES
 }
 
 /// "the number of held chunks whose offset is not marked come"
@@ -25,7 +25,7 @@ fn low(r: &Receiving) -> usize {
 
 /// "Bounds for 1 … offset 1 not come; highest offset come plus low at most 128; held TSNs distinct".
 pub fn is_sound(r: &Receiving) -> bool {
-    if r.keeping.come[0] || r.keeping.listed > LISTED {
+    if r.keeping.come.iter().any(|&c| c > YES) || r.keeping.come[0] == YES || r.keeping.listed > LISTED {
         return false;
     }
     let mut held = [0u32; PLACES];
@@ -41,16 +41,16 @@ pub fn is_sound(r: &Receiving) -> bool {
     if held[..count].windows(2).any(|w| w[0] == w[1]) {
         return false;
     }
-    let highest = r.keeping.come.iter().rposition(|&c| c).map_or(0, |i| i + 1);
+    let highest = r.keeping.come.iter().rposition(|&c| c == YES).map_or(0, |i| i + 1);
     highest + low(r) <= PLACES
 }
 
 /// The TSN comes; "Then the point moves past every consecutive offset."
 fn mark(k: &mut Keeping, tsn: u32) {
-    k.come[ahead(k.point, tsn) as usize - 1] = true;
-    let run = k.come.iter().take_while(|&&c| c).count();
+    k.come[ahead(k.point, tsn) as usize - 1] = YES;
+    let run = k.come.iter().take_while(|&&c| c == YES).count();
     k.come.copy_within(run.., 0);
-    k.come[PLACES - run..].fill(false);
+    k.come[PLACES - run..].fill(NO);
     k.point = k.point.wrapping_add(run as u32);
 }
 
@@ -183,7 +183,7 @@ pub fn sack(r: &mut Receiving) -> Sacked {
     s.point = k.point;
     s.window = (PAYLOAD * r.held.iter().filter(|h| !h.used).count()) as u32;
     for d in 1..=PLACES {
-        let come = |d: usize| (1..=PLACES).contains(&d) && k.come[d - 1];
+        let come = |d: usize| (1..=PLACES).contains(&d) && k.come[d - 1] == YES;
         if come(d) && !come(d - 1) {
             s.blocks.starts[s.blocks.count] = d as u16;
         }

@@ -32,6 +32,10 @@ pub const FLYING: u8 = 2;
 pub const MARKED: u8 = 3;
 pub const BLOCKED: u8 = 4;
 
+/// A flag of the record, but for those of the chunks; any other byte is outside its bounds.
+pub const NO: u8 = 0;
+pub const YES: u8 = 1;
+
 #[repr(C)]
 #[derive(Clone, Copy, Debug, Default, PartialEq, Eq)]
 pub struct Ends {
@@ -54,7 +58,7 @@ pub struct Cookie {
 #[derive(Clone, Copy, Debug, PartialEq, Eq)]
 pub struct Keeping {
     pub point: u32,
-    pub come: [bool; PLACES],
+    pub come: [u8; PLACES],
     pub dups: [u32; LISTED],
     pub listed: usize,
 }
@@ -114,7 +118,7 @@ pub struct Control {
 #[repr(C)]
 #[derive(Clone, Copy, Debug, Default, PartialEq, Eq)]
 pub struct Clock {
-    pub sampled: bool,
+    pub sampled: u8,
     pub srtt: u32,
     pub rttvar: u32,
     pub rto: u32,
@@ -126,7 +130,7 @@ pub struct Path {
     pub control: Control,
     pub clock: Clock,
     pub flight: u32,
-    pub running: bool,
+    pub running: u8,
     pub until: u32,
     pub tries: u8,
 }

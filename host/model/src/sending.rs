@@ -3,7 +3,7 @@
 use crate::numbers::{ahead, tsn_distance};
 use crate::path::{self, News};
 use crate::read::padded;
-use crate::record::{Chunk, Place, Sending, BLOCKED, FLYING, FREE, MARKED, MESSAGE_MOST, PAYLOAD, PLACES, SENT_MOST, STREAMS, WAITING};
+use crate::record::{Chunk, Place, Sending, BLOCKED, FLYING, FREE, MARKED, MESSAGE_MOST, NO, PAYLOAD, PLACES, SENT_MOST, STREAMS, WAITING, YES};
 use crate::write;
 
 pub fn fresh(tsn: u32, window: u32) -> Sending {
@@ -222,7 +222,7 @@ pub fn acknowledge(s: &mut Sending, point: u32, told: Option<(u32, &[(u16, u16)]
     for &(start, end) in blocks {
         in_block[usize::from(start)..=usize::from(end)].fill(true);
     }
-    let running = s.path.running;
+    let running = s.path.running == YES;
     let mut news = News { flight: s.path.flight, moved: d > 0, newly: 0 };
     // Offsets from the SACK's point; one at or below it has none.
     let mut highest = 0;
@@ -247,7 +247,7 @@ pub fn acknowledge(s: &mut Sending, point: u32, told: Option<(u32, &[(u16, u16)]
     }
     path::grow(&mut s.path, &news);
     let limit = if running && news.moved { blocks.last().map_or(0, |b| i64::from(b.1)) } else { highest };
-    if miss(s, limit) && !s.path.running {
+    if miss(s, limit) && s.path.running == NO {
         let last = s.places.iter().filter(|p| is_outstanding(p)).map(|p| ahead(point, p.chunk.tsn)).max();
         path::strike(&mut s.path, point.wrapping_add(last.unwrap_or(0) as u32));
     }

@@ -179,7 +179,7 @@ impl<'c> Soak<'c> {
             self.report.refused[usize::from(v.number)] += 1;
         }
         if verdicts.iter().any(|v| kind(v) == read::DATA) {
-            let quick = verdicts.iter().any(|v| v.number != 0) || self.ends[who].a.receiving.keeping.come.contains(&true);
+            let quick = verdicts.iter().any(|v| v.number != 0) || self.ends[who].a.receiving.keeping.come.contains(&YES);
             self.note_data(who, quick);
         }
         if verdicts.iter().any(|v| kind(v) == read::SACK && v.number == 0) {
@@ -248,7 +248,7 @@ impl<'c> Soak<'c> {
     fn pump(&mut self, who: usize) {
         while let (ESTABLISHED, Some(&m)) = (self.ends[who].a.state, self.ends[who].to_send.front()) {
             let e = &mut self.ends[who];
-            let r = self.core.hand_in(&mut e.a, &mut e.send_area, &m.bytes(), m.stream, m.unordered, m.id);
+            let r = self.core.hand_in(&mut e.a, &mut e.send_area, &m.bytes(), m.stream, u8::from(m.unordered), m.id);
             self.called(who, r.number);
             if r.number != 0 {
                 assert_eq!(r.number, 20);

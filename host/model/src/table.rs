@@ -83,7 +83,7 @@ fn calls() -> Vec<(Call, [Outcome; 8])> {
     let stays = |s: u8, sent: u8| (0, s, sent);
     vec![
         (Call::Associate { tag: 5, tsn: 5, port: 20, streams: 1, out }, [(0, CW, 1), no, no, no, no, no, no, no]),
-        (Call::HandIn { message: Bytes(vec![1]), stream: 0, unordered: false, ppid: 0, area: AREA }, [no, no, no, stays(ES, 255), no, no, no, no]),
+        (Call::HandIn { message: Bytes(vec![1]), stream: 0, unordered: 0, ppid: 0, area: AREA }, [no, no, no, stays(ES, 255), no, no, no, no]),
         (Call::Transmit { area: AREA, out }, [no, no, no, stays(ES, 255), stays(SP, 255), no, stays(SR, 255), no]),
         (Call::Take { area: AREA, out: 10 }, [(17, CL, 255), (17, CW, 255), (17, CE, 255), (17, ES, 255), (17, SP, 255), (17, SS, 255), (17, SR, 255), (17, SA, 255)]),
         (Call::Sack { out }, [no, no, no, stays(ES, 3), stays(SP, 3), stays(SS, 3), no, no]),
@@ -131,7 +131,7 @@ fn way(state: u8) -> Vec<Call> {
         _ => vec![arrives("COOKIE ECHO")],
     };
     if state == SP || state == SR {
-        calls.push(Call::HandIn { message: Bytes(vec![1]), stream: 0, unordered: false, ppid: 0, area: AREA });
+        calls.push(Call::HandIn { message: Bytes(vec![1]), stream: 0, unordered: 0, ppid: 0, area: AREA });
         calls.push(Call::Transmit { area: AREA, out });
     }
     match state {

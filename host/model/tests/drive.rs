@@ -69,7 +69,7 @@ fn a_bent_core_is_found() {
     });
     is_found("records", |call, b, _| {
         if matches!(call, Call::Take { .. }) {
-            b.a.receiving.keeping.come[7] = false;
+            b.a.receiving.keeping.come[7] = NO;
         }
     });
     is_found("out", |call, b, reply| {

@@ -128,7 +128,7 @@ fn third_timer() {
     e.a.sending.path.control.cwnd = 6_000;
     let mut area = vec![0; AREA];
     assert_eq!(Model.t3(&mut e.a).number, 7);
-    assert_eq!(Model.hand_in(&mut e.a, &mut area, &[1; 1000], 3, false, 0).chunks, 2);
+    assert_eq!(Model.hand_in(&mut e.a, &mut area, &[1; 1000], 3, 0, 0).chunks, 2);
     assert_eq!(Model.transmit(&mut e.a, &area, &mut e.out).length, 12 + 16 + 512);
     assert_eq!(Model.t3(&mut e.a).number, 0);
     let c = e.a.sending.path.control;

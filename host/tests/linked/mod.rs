@@ -49,7 +49,7 @@ impl<L: Library> Core for Linked<L> {
         unsafe { transmute(L::associate(lent(a), tag, tsn, port, streams, out)) }
     }
 
-    fn hand_in(&self, a: &mut Association, area: &mut [u8], message: &[u8], stream: u16, unordered: bool, ppid: u32) -> record::HandedIn {
+    fn hand_in(&self, a: &mut Association, area: &mut [u8], message: &[u8], stream: u16, unordered: u8, ppid: u32) -> record::HandedIn {
         unsafe { transmute(L::hand_in(lent(a), area, message, stream, unordered, ppid)) }
     }
 

@@ -32,7 +32,7 @@ impl Library for Modelled {
         unsafe { transmute(Model.associate(lent(record), tag, tsn, port, streams, out)) }
     }
 
-    fn hand_in(record: &mut Record, area: &mut [u8], message: &[u8], stream: u16, unordered: bool, ppid: u32) -> HandedIn {
+    fn hand_in(record: &mut Record, area: &mut [u8], message: &[u8], stream: u16, unordered: u8, ppid: u32) -> HandedIn {
         unsafe { transmute(Model.hand_in(lent(record), area, message, stream, unordered, ppid)) }
     }
 

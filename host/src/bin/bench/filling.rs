@@ -31,7 +31,7 @@ impl Lone {
     }
 
     pub fn hand_in(&mut self) {
-        let answer = Proved::hand_in(&mut self.record, &mut self.area, &[0x5a; MESSAGE], 0, false, 0);
+        let answer = Proved::hand_in(&mut self.record, &mut self.area, &[0x5a; MESSAGE], 0, 0, 0);
         assert_eq!(answer.number, 0);
     }
 

@@ -10,6 +10,9 @@ is-named-requires c κs = search needs
 unpack-requires : tie.Need-unpack-requires
 unpack-requires c κs = search needs
 
+is-yes-requires : tie.Need-is-yes-requires
+is-yes-requires c κs = search needs
+
 hand-in-requires : tie.Need-hand-in-requires
 hand-in-requires c κs = search needs
 
@@ -20,7 +23,7 @@ same-length : tie.Need-same-length
 same-length c = search needs
 
 returns : tie.Need-returns
-returns c = rw (← c .before .before .before .before .before .unpack .ensures) (served _ (c .before .before .before .before .before .before .before .is-named .ensures) packedHandedIn (c .before .before .before .before .before .before .if1 .taken) (c .before .before .before .hand-in .ensures) (c .handed .ensures))
+returns c = rw (← c .before .before .before .before .before .before .unpack .ensures, ← c .before .before .before .before .before .is-yes .ensures) (served _ (c .before .before .before .before .before .before .before .before .is-named .ensures) packedHandedIn (c .before .before .before .before .before .before .before .if1 .taken) (c .before .before .before .hand-in .ensures) (c .handed .ensures))
 
 not-handed-requires : tie.Need-not-handed-requires
 not-handed-requires c κs = search needs
@@ -34,6 +37,7 @@ hand-in-spec =
     (tie.spec
     is-named-requires
     unpack-requires
+    is-yes-requires
     hand-in-requires
     handed-requires
     same-length

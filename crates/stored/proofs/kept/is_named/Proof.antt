@@ -1,26 +1,21 @@
-use borrow.Author.Tests.{eq-eqb, ne-eqb}
-use Rattle.stored.specs.Stored.{isNamed}
 use borrow.Author.Needs.{needs}
+use Rattle.stored.specs.Stored.{isNamed}
 use Rattle.stored.proofs.kept.is_named.Statement.{statement}
 use Rattle.stored.proofs.kept.is_named.Tie as tie
 
-state-of-requires : tie.Need-state-of-requires
-state-of-requires c κs = search needs
+is-state-requires : tie.Need-is-state-requires
+is-state-requires c κs = search needs
 
-number-of-requires : tie.Need-number-of-requires
-number-of-requires c κs = search needs
-
-tries-of-requires : tie.Need-tries-of-requires
-tries-of-requires c κs = search needs
+has-junk-requires : tie.Need-has-junk-requires
+has-junk-requires c κs = search needs
 
 returns : tie.Need-returns
 unfolding isNamed
-returns c = rw (← c .before .before .before .state-of .ensures, ← c .before .before .number-of .ensures, eq-eqb _ _ (c .before .if1 .taken), ← c .tries-of .ensures)
+returns c = rw (← c .before .before .is-state .ensures, c .before .if1 .taken, ← c .has-junk .ensures)
 
 returns-2 : tie.Need-returns-2
 unfolding isNamed
-returns-2 c = rw (← c .before .before .state-of .ensures, ← c .before .number-of .ensures, ne-eqb _ _ (c .if1 .left))
+returns-2 c = rw (← c .before .is-state .ensures, c .if1 .left)
 
 pub is-named-spec : {M : Type 1} → statement M
-is-named-spec =
-    tie.close (tie.spec state-of-requires number-of-requires tries-of-requires returns returns-2)
+is-named-spec = tie.close (tie.spec is-state-requires has-junk-requires returns returns-2)
