@@ -30,13 +30,7 @@ const TURN: Duration = Duration::from_millis(20);
 /// The relay stops when the process does.
 static NEVER: AtomicBool = AtomicBool::new(false);
 
-const BAD: Weather = Weather {
-    delay: Duration::from_millis(1),
-    loss: 0.03,
-    repeat: 0.03,
-    reorder: 0.05,
-    damage: 0.02,
-};
+const BAD: Weather = Weather { delay: Duration::from_millis(1), loss: 0.03, repeat: 0.03, reorder: 0.05, damage: 0.02 };
 
 type Outcome<T> = Result<T, String>;
 
@@ -312,10 +306,7 @@ fn plan_of(word: &str) -> Outcome<Plan> {
 
 fn end_of(word: &str) -> Outcome<End> {
     match word.split_once(':') {
-        Some(("refused", number)) => number
-            .parse()
-            .map(|number| End::Refused(Refusal(number)))
-            .map_err(|_| format!("{} is no number", number)),
+        Some(("refused", number)) => number.parse().map(|number| End::Refused(Refusal(number))).map_err(|_| format!("{} is no number", number)),
         _ => match word {
             "shutdown" => Ok(End::WeShutDown),
             "abort" => Ok(End::WeAbort),
