@@ -12,18 +12,24 @@ use crate::counts::Counts;
 use crate::heartbeat::{self, Heartbeat};
 use crate::last_word::{chunk_at, LastWord};
 use crate::library::Library;
+use crate::path::Path;
 use crate::random::Random;
 use crate::round_trip::RoundTrip;
 use crate::timers::{Alarm, Timers};
 use std::collections::VecDeque;
 use std::fmt;
 use std::net::SocketAddr;
+use std::ops::Range;
 use std::time::{Duration, Instant};
 
 const DATA: u8 = 0;
+const INIT: u8 = 1;
 const HEARTBEAT_ACK: u8 = 5;
 /// Where the value stands in a HEARTBEAT ACK of ours: behind the headers of the chunk and of its parameter.
 const HEARTBEAT_VALUE: usize = 8;
+/// Where a packet's verification tag stands, and its first chunk.
+const TAG: Range<usize> = 4..8;
+const FIRST_CHUNK: usize = 12;
 
 #[derive(Clone, Copy, Debug)]
 pub struct Config {
@@ -82,7 +88,7 @@ pub struct Datagram {
 pub struct Endpoint<L> {
     core: Association<L>,
     config: Config,
-    peer: Option<SocketAddr>,
+    path: Path,
     random: Random,
     jar: CookieJar,
     timers: Timers,
@@ -120,7 +126,7 @@ impl<L: Library> Endpoint<L> {
         Endpoint {
             core: Association::closed(config.port),
             config,
-            peer: None,
+            path: Path::default(),
             random,
             jar,
             timers: Timers::default(),
@@ -151,7 +157,7 @@ impl<L: Library> Endpoint<L> {
     }
 
     pub fn peer(&self) -> Option<SocketAddr> {
-        self.peer
+        self.path.peer()
     }
 
     /// The next packet to send.
@@ -233,7 +239,7 @@ impl<L: Library> Endpoint<L> {
         let answer = self.core.arrive(packet, &prepared.lent, prepared.echoed, &mut self.out);
         match self.counted(answer) {
             Ok(arrived) => self.heed(packet, from, &before, prepared, arrived, now),
-            Err(refusal) => self.answer_late(packet, from, before.state, refusal),
+            Err(refusal) => self.answer_late(packet, from, before.state, refusal, now),
         }
         self.timers.follow(&self.core.standing(), now);
     }
@@ -301,7 +307,7 @@ impl<L: Library> Endpoint<L> {
 
     /// An association with this peer begins: nothing of an earlier one is left.
     fn started(&mut self, peer: SocketAddr) {
-        self.peer = Some(peer);
+        self.path = Path::to(peer);
         self.sack = DelayedSack::default();
         self.heartbeat = Heartbeat::every(self.config.heartbeat);
         self.round_trip = RoundTrip::default();
@@ -324,7 +330,7 @@ impl<L: Library> Endpoint<L> {
     }
 
     fn send_to_peer(&mut self, length: usize) {
-        if let Some(peer) = self.peer {
+        if let Some(peer) = self.path.peer() {
             self.send(peer, length);
         }
     }
@@ -361,22 +367,39 @@ impl<L: Library> Endpoint<L> {
     /// The core took the packet as the peer's: sends its reply and does what the verdicts ask for.
     fn heed(&mut self, packet: &[u8], from: SocketAddr, before: &Standing, prepared: Prepared, arrived: Arrived, now: Instant) {
         let reply = self.out.get(..arrived.reply).unwrap_or_default().to_vec();
-        if before.state != State::Closed {
-            // RFC 6951 section 5.4: the peer is where its last packet came from.
-            self.peer = Some(from);
+        let shows_our_tag = before.state != State::Closed && packet.get(TAG) == Some(&before.my_tag.to_be_bytes());
+        if shows_our_tag && arrived.verdicts.iter().any(|verdict| verdict.fate == Fate::Accepted) {
+            self.note_sender(from, now);
         }
         for verdict in &arrived.verdicts {
             self.note_turn(packet, from, verdict, &reply, before, now);
         }
-        self.send_bytes(from, reply);
+        // What answers an INIT goes to its sender and belongs to no association yet; everything else goes where the peer is known to be.
+        match self.path.peer() {
+            Some(peer) if !is_init(packet) && before.state != State::Closed => self.send_bytes(peer, reply),
+            _ => self.send_bytes(from, reply),
+        }
         self.note_data(packet, &arrived.verdicts, now);
         self.note_acknowledged(before, now);
         for verdict in &arrived.verdicts {
-            self.note_refusal(packet, from, verdict);
-            self.note_heartbeat(packet, verdict, now);
+            self.note_refusal(packet, verdict);
+            self.note_heartbeat(packet, from, verdict, now);
             self.make_named_call(verdict.named, prepared.stale, from, now);
         }
         self.may_send = true;
+    }
+
+    /// The peer was heard from this address, which may be new.
+    fn note_sender(&mut self, from: SocketAddr, now: Instant) {
+        if self.path.showed(from, now) && self.core.standing().state.is_carrying() {
+            let nonce = self.random.bytes();
+            // The reply to the packet has left the output already.
+            let answer = self.core.heartbeat(nonce, &mut self.out);
+            if let Ok(length) = self.counted(answer) {
+                self.path.asks(from, nonce, now);
+                self.send(from, length);
+            }
+        }
     }
 
     fn note_turn(&mut self, packet: &[u8], from: SocketAddr, verdict: &Verdict, reply: &[u8], before: &Standing, now: Instant) {
@@ -435,22 +458,23 @@ impl<L: Library> Endpoint<L> {
         }
     }
 
-    fn note_refusal(&mut self, packet: &[u8], from: SocketAddr, verdict: &Verdict) {
+    fn note_refusal(&mut self, packet: &[u8], verdict: &Verdict) {
         if let Fate::Refused(refusal) = verdict.fate {
             self.counts.refuse(refusal);
             if refusal == Refusal::STATE {
                 let again = self.last_word.to_echo(chunk_at(packet, verdict.at)).map(<[u8]>::to_vec);
-                self.repeat(from, again);
+                self.repeat(again);
             }
         }
     }
 
-    fn note_heartbeat(&mut self, packet: &[u8], verdict: &Verdict, now: Instant) {
+    fn note_heartbeat(&mut self, packet: &[u8], from: SocketAddr, verdict: &Verdict, now: Instant) {
         let chunk = chunk_at(packet, verdict.at);
         if verdict.fate != Fate::Accepted || chunk.first() != Some(&HEARTBEAT_ACK) {
             return;
         }
         let value = chunk.get(HEARTBEAT_VALUE..).unwrap_or_default();
+        self.path.answered(value, from);
         if let Some(sample) = self.heartbeat.answered(value, now) {
             let answer = self.core.rtt(sample);
             let _ = self.counted(answer);
@@ -467,7 +491,7 @@ impl<L: Library> Endpoint<L> {
             Named::ErrorStream(stream) => {
                 let answer = self.core.error_stream(stream, &mut self.out);
                 if let Ok(length) = self.counted(answer) {
-                    self.send(from, length);
+                    self.send_to_peer(length);
                 }
             }
             Named::ErrorStale => {
@@ -483,17 +507,20 @@ impl<L: Library> Endpoint<L> {
     }
 
     /// A packet that the core refused whole: after the end it may ask for the last word.
-    fn answer_late(&mut self, packet: &[u8], from: SocketAddr, state: State, refusal: Refusal) {
+    fn answer_late(&mut self, packet: &[u8], from: SocketAddr, state: State, refusal: Refusal, now: Instant) {
         if state == State::Closed && refusal == Refusal::TAG && peek::<L>(packet) == Peeked::Nothing {
             let again = self.last_word.to_late(packet).map(<[u8]>::to_vec);
-            self.repeat(from, again);
+            if again.is_some() {
+                self.path.showed(from, now);
+            }
+            self.repeat(again);
         }
     }
 
-    fn repeat(&mut self, to: SocketAddr, word: Option<Vec<u8>>) {
-        if let Some(packet) = word {
+    fn repeat(&mut self, word: Option<Vec<u8>>) {
+        if let (Some(packet), Some(peer)) = (word, self.path.peer()) {
             self.counts.last_words += 1;
-            self.send_bytes(to, packet);
+            self.send_bytes(peer, packet);
         }
     }
 
@@ -541,6 +568,10 @@ impl<L: Library> Endpoint<L> {
         }
         self.heartbeat.sent(value, &self.core.standing(), now);
     }
+}
+
+fn is_init(packet: &[u8]) -> bool {
+    packet.get(FIRST_CHUNK) == Some(&INIT)
 }
 
 fn source_port(packet: &[u8]) -> u16 {

@@ -11,6 +11,7 @@ pub mod heartbeat;
 pub mod hmac;
 pub mod last_word;
 pub mod library;
+pub mod path;
 pub mod pcap;
 pub mod rail;
 pub mod random;

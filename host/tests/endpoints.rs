@@ -1,6 +1,7 @@
 //! What an endpoint does around the core, held on a clock that the test moves: on the model, and on the proved library where it is linked.
 
 mod modelled;
+#[macro_use]
 mod pair;
 
 use model::checksum;
@@ -10,31 +11,10 @@ use oilwhisper::endpoint::{Config, Event, Why};
 use oilwhisper::library::Library;
 use oilwhisper::relay::Weather;
 use oilwhisper::tiles::{tile, Album, Plan};
-use pair::{config, first_chunk, loses_first, Pair};
+use pair::*;
 use std::time::Duration;
 
-const DATA: u8 = 0;
-const INIT: u8 = 1;
-const INIT_ACK: u8 = 2;
-const SACK: u8 = 3;
-const HEARTBEAT: u8 = 4;
-const HEARTBEAT_ACK: u8 = 5;
-const SHUTDOWN_ACK: u8 = 8;
-const COOKIE_ECHO: u8 = 10;
-const COOKIE_ACK: u8 = 11;
-const SHUTDOWN_COMPLETE: u8 = 14;
-
-const MINUTE: Duration = Duration::from_secs(60);
-
 const ROUGH: Weather = Weather { delay: Duration::from_millis(10), loss: 0.05, repeat: 0.03, reorder: 0.1, damage: 0.01 };
-
-fn slow(milliseconds: u64) -> Weather {
-    Weather { delay: Duration::from_millis(milliseconds), ..Weather::FAIR }
-}
-
-fn sent<L>(pair: &Pair<L>, end: usize, chunk: u8) -> usize {
-    pair.ends[end].sent.iter().filter(|packet| first_chunk(packet) == chunk).count()
-}
 
 fn opens_and_shuts_down<L: Library>() {
     let mut pair = Pair::<L>::up(slow(20), 1);
@@ -90,7 +70,6 @@ fn opens_though_every_handshake_packet_is_lost_twice<L: Library>() {
 }
 
 fn closes_though_every_farewell_is_lost_twice<L: Library>() {
-    const SHUTDOWN: u8 = 7;
     for (end, chunk) in [(0, SHUTDOWN), (1, SHUTDOWN_ACK), (0, SHUTDOWN_COMPLETE)] {
         let mut pair = Pair::<L>::up(slow(5), 3);
         pair.ends[end].loses = loses_first(chunk, 2);
@@ -296,25 +275,6 @@ fn noise_changes_nothing<L: Library>() {
     }
     assert_eq!(pair.ends[1].endpoint.standing(), before);
     assert_eq!(pair.ends[1].endpoint.outgoing(), None);
-}
-
-macro_rules! on_both {
-    ($($scenario:ident)*) => {
-        mod on_the_model {
-            $(#[test]
-            fn $scenario() {
-                super::$scenario::<super::Modelled>();
-            })*
-        }
-
-        #[cfg(feature = "proved")]
-        mod on_the_proved_library {
-            $(#[test]
-            fn $scenario() {
-                super::$scenario::<oilwhisper::library::Proved>();
-            })*
-        }
-    };
 }
 
 on_both! {
