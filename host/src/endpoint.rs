@@ -23,10 +23,14 @@ use std::ops::Range;
 use std::time::{Duration, Instant};
 
 const DATA: u8 = 0;
+/// Of DATA's flags: the I bit (RFC 9260 section 3.3.1).
+const IMMEDIATELY: u8 = 8;
 const INIT: u8 = 1;
 const HEARTBEAT_ACK: u8 = 5;
 /// Where the value stands in a HEARTBEAT ACK of ours: behind the headers of the chunk and of its parameter.
 const HEARTBEAT_VALUE: usize = 8;
+/// RFC 9260 section 16: Max.Burst, the packets of DATA that go out at once (section 6.1 D).
+const BURST: usize = 4;
 /// Where a packet's verification tag stands, and its first chunk.
 const TAG: Range<usize> = 4..8;
 const FIRST_CHUNK: usize = 12;
@@ -430,15 +434,17 @@ impl<L: Library> Endpoint<L> {
     /// What the packet's DATA asks of the next SACK, of the taker and of T2. An opposite chunk is neither new nor a duplicate, and asks for nothing.
     fn note_data(&mut self, packet: &[u8], verdicts: &[Verdict], now: Instant) {
         let of_data = |verdict: &&Verdict| packet.get(verdict.at) == Some(&DATA);
+        let asks_for_it = |verdict: &Verdict| packet.get(verdict.at + 1).map_or(false, |flags| flags & IMMEDIATELY != 0);
         let has_come = |fate: Fate| fate == Fate::Accepted || fate == Fate::Refused(Refusal::STRAY);
         let asks_at_once = |fate: Fate| [Refusal::DUPLICATE, Refusal::WEDGED, Refusal::FAR].iter().any(|refusal| fate == Fate::Refused(*refusal));
         let new = verdicts.iter().filter(of_data).any(|verdict| has_come(verdict.fate));
+        let asked = verdicts.iter().filter(of_data).any(|verdict| has_come(verdict.fate) && asks_for_it(verdict));
         let again = verdicts.iter().filter(of_data).any(|verdict| asks_at_once(verdict.fate));
         if !new && !again {
             return;
         }
         let standing = self.core.standing();
-        self.sack.data_came(again || standing.has_gap, now);
+        self.sack.data_came(again || asked || standing.has_gap, now);
         if new {
             self.may_take = true;
             self.timers.restart_t2(&standing, now);
@@ -526,7 +532,7 @@ impl<L: Library> Endpoint<L> {
 
     fn acknowledge(&mut self) {
         let answer = self.core.sack(&mut self.out);
-        self.sack = DelayedSack::default();
+        self.sack.drop_due();
         if let Ok(told) = self.counted(answer) {
             self.counts.acknowledgements += 1;
             self.sack.sent(told.window);
@@ -534,21 +540,23 @@ impl<L: Library> Endpoint<L> {
         }
     }
 
+    /// Sends DATA, in a burst that is no longer than it may be. With all of it outstanding, something will happen that lets the next one go.
     fn transmit(&mut self, now: Instant) {
-        loop {
+        self.may_send = false;
+        for _ in 0..BURST {
             let answer = self.core.transmit(&mut self.out);
-            match self.counted(answer) {
-                Ok(packet) if packet.length > 0 => {
-                    self.counts.resent += u64::from(packet.resent);
-                    self.round_trip.sent(&packet, now);
-                    self.send_to_peer(packet.length);
-                    self.heartbeat.postpone(&self.core.standing(), now);
-                }
-                _ => {
-                    self.may_send = false;
-                    return;
-                }
+            let packet = match self.counted(answer) {
+                Ok(packet) if packet.length > 0 => packet,
+                _ => return,
+            };
+            let standing = self.core.standing();
+            self.counts.resent += u64::from(packet.resent);
+            self.round_trip.sent(&packet, now);
+            if packet.resent && packet.first == standing.acked.wrapping_add(1) {
+                self.timers.restart_t3(&standing, now);
             }
+            self.send_to_peer(packet.length);
+            self.heartbeat.postpone(&standing, now);
         }
     }
 

@@ -116,18 +116,114 @@ fn beats_while_idle_and_notices_silence<L: Library>() {
     assert_eq!(pair.ends[1].events.last(), Some(&Event::Down(Why::PeerAborted)));
 }
 
-fn acknowledges_every_second_packet_or_after_200_ms<L: Library>() {
+/// Two ends, the second of which has acknowledged the first DATA of the association.
+fn acknowledged_first<L: Library>(milliseconds: u64, seed: u64) -> Pair<L> {
+    let mut pair = Pair::<L>::up(slow(milliseconds), seed);
+    pair.ends[0].endpoint.hand_in(&[1; 512], 0, false, 0).expect("there is room");
+    assert!(pair.run_until(MINUTE, |pair| sent(pair, 1, SACK) == 1));
+    pair
+}
+
+fn acknowledges_the_first_data_at_once<L: Library>() {
     let mut pair = Pair::<L>::up(slow(1), 7);
     let start = pair.now;
     pair.ends[0].endpoint.hand_in(&[1; 512], 0, false, 0).expect("there is room");
     assert!(pair.run_until(MINUTE, |pair| sent(pair, 1, SACK) == 1));
+    assert_eq!(pair.now - start, Duration::from_millis(1));
+    // And of the next association.
+    let now = pair.now;
+    pair.ends[0].endpoint.shutdown(now).expect("an established association shuts down");
+    assert!(pair.run_until(MINUTE, |pair| pair.are(State::Closed)));
+    pair.associate();
+    assert!(pair.run_until(MINUTE, |pair| pair.are(State::Established)));
+    let start = pair.now;
+    pair.ends[0].endpoint.hand_in(&[1; 512], 0, false, 0).expect("there is room");
+    assert!(pair.run_until(MINUTE, |pair| sent(pair, 1, SACK) == 2));
+    assert_eq!(pair.now - start, Duration::from_millis(1));
+}
+
+/// RFC 9260 section 5.1: DATA may come with the COOKIE ECHO.
+fn acknowledges_data_that_came_with_the_cookie_at_once<L: Library>() {
+    let mut pair = Pair::<L>::new(slow(1), 17);
+    pair.ends[0].loses = Box::new(|packet| first_chunk(packet) == COOKIE_ECHO);
+    pair.associate();
+    pair.run_for(Duration::from_millis(100));
+    let mut packet = pair.ends[0].sent.last().expect("the cookie was echoed").clone();
+    assert_eq!(first_chunk(&packet), COOKIE_ECHO);
+    packet.extend_from_slice(&[DATA, 3, 0, 20]);
+    packet.extend_from_slice(&(u32::MAX - 99).to_be_bytes());
+    packet.extend_from_slice(&[0, 0, 0, 0, 0, 0, 0, 0, 1, 2, 3, 4]);
+    checksum::seal(&mut packet);
+    let (from, start) = (pair.ends[0].address, pair.now);
+    pair.arrive(1, &packet, from);
+    assert!(pair.run_until(MINUTE, |pair| sent(pair, 1, SACK) == 1));
+    assert_eq!(pair.now, start);
+    assert_eq!(pair.ends[1].taken, [(0, 0, vec![1, 2, 3, 4])]);
+}
+
+fn acknowledges_every_second_packet_or_after_200_ms<L: Library>() {
+    let mut pair = acknowledged_first::<L>(1, 7);
+    let start = pair.now;
+    pair.ends[0].endpoint.hand_in(&[1; 512], 0, false, 0).expect("there is room");
+    assert!(pair.run_until(MINUTE, |pair| sent(pair, 1, SACK) == 2));
     assert_eq!(pair.now - start, Duration::from_millis(201));
     let start = pair.now;
     for _ in 0..2 {
         pair.ends[0].endpoint.hand_in(&[2; 512], 0, false, 0).expect("there is room");
     }
-    assert!(pair.run_until(MINUTE, |pair| sent(pair, 1, SACK) == 2));
+    assert!(pair.run_until(MINUTE, |pair| sent(pair, 1, SACK) == 3));
     assert_eq!(pair.now - start, Duration::from_millis(1));
+}
+
+fn acknowledges_at_once_where_the_sender_asks_for_it<L: Library>() {
+    const I: u8 = 8;
+    let mut pair = acknowledged_first::<L>(1, 18);
+    let mut packet = pair.ends[0].sent.last().expect("the chunk was sent").clone();
+    let tsn = u32::from_be_bytes([packet[16], packet[17], packet[18], packet[19]]);
+    let (from, start) = (pair.ends[0].address, pair.now);
+    for (next, flags, acknowledgements) in [(1, 3, 1), (2, 3 | I, 2), (3, 3 | I, 3)] {
+        packet[13] = flags;
+        packet[16..20].copy_from_slice(&tsn.wrapping_add(next).to_be_bytes());
+        packet[22..24].copy_from_slice(&(next as u16).to_be_bytes());
+        checksum::seal(&mut packet);
+        pair.arrive(1, &packet, from);
+        pair.run_for(Duration::ZERO);
+        assert_eq!((sent(&pair, 1, SACK), pair.now), (acknowledgements, start));
+    }
+}
+
+fn restarts_t3_when_the_first_chunk_is_resent_fast<L: Library>() {
+    let mut pair = Pair::<L>::up(slow(300), 19);
+    pair.ends[0].loses = loses_first(DATA, 1);
+    for _ in 0..4 {
+        pair.ends[0].endpoint.hand_in(&[3; 512], 0, false, 0).expect("there is room");
+    }
+    pair.run_for(Duration::from_secs(5));
+    assert_eq!(pair.ends[1].taken.len(), 4);
+    // Sent at 0, resent at 600 ms and acknowledged at 1,200 ms, with an RTO of 1,000 ms.
+    assert_eq!((pair.ends[0].endpoint.counts().resent, pair.ends[0].endpoint.counts().expiries), (1, 0));
+}
+
+fn sends_four_packets_at_a_time<L: Library>() {
+    let mut pair = Pair::<L>::up(slow(20), 20);
+    let all = 400;
+    let mut handed_in = 0;
+    let mut hand_in = |pair: &mut Pair<L>, all| {
+        while handed_in < all && pair.ends[0].endpoint.hand_in(&[4; 512], 0, false, 0).is_ok() {
+            handed_in += 1;
+        }
+        handed_in == all
+    };
+    assert!(pair.run_until(MINUTE, |pair| hand_in(pair, all) && !pair.ends[0].endpoint.standing().has_outstanding()));
+    pair.run_for(Duration::from_secs(1));
+    // The congestion window is wide, and there is plenty to send.
+    assert!(pair.ends[0].endpoint.core().record().sending.path.control.cwnd > 20_000);
+    let before = sent(&pair, 0, DATA);
+    hand_in(&mut pair, all + 100);
+    pair.run_for(Duration::from_millis(1));
+    assert_eq!(sent(&pair, 0, DATA) - before, 4);
+    assert!(pair.run_until(MINUTE, |pair| pair.ends[1].taken.len() == all + 100));
+    assert_eq!(pair.ends[0].endpoint.counts().expiries, 0);
 }
 
 fn acknowledges_a_gap_at_once_and_resends_without_waiting_for_t3<L: Library>() {
@@ -285,7 +381,12 @@ on_both! {
     gives_up_on_a_peer_that_never_answers
     gives_up_on_a_peer_that_vanished_with_data_outstanding
     beats_while_idle_and_notices_silence
+    acknowledges_the_first_data_at_once
+    acknowledges_data_that_came_with_the_cookie_at_once
     acknowledges_every_second_packet_or_after_200_ms
+    acknowledges_at_once_where_the_sender_asks_for_it
+    restarts_t3_when_the_first_chunk_is_resent_fast
+    sends_four_packets_at_a_time
     acknowledges_a_gap_at_once_and_resends_without_waiting_for_t3
     an_opposite_chunk_asks_for_no_sack
     a_contradiction_aborts
