@@ -60,6 +60,7 @@ impl<L: Library> Association<L> {
             next_tsn: sending.next_tsn,
             has_gap: receiving.keeping.come.contains(&true),
             window: (free * PAYLOAD) as u32,
+            peer_window: sending.advertised,
         }
     }
 

@@ -43,12 +43,15 @@ pub struct Config {
     pub streams: u16,
     /// Our first TSN, where it is not to be random.
     pub first_tsn: Option<u32>,
+    /// How long an idle path waits for its next heartbeat, to which an RTO is added.
     pub heartbeat: Duration,
+    /// So many heartbeats may go unanswered; after one more the association is over.
+    pub unanswered: u32,
 }
 
 impl Config {
     pub fn at_port(port: u16) -> Config {
-        Config { port, streams: 8, first_tsn: None, heartbeat: heartbeat::INTERVAL }
+        Config { port, streams: 8, first_tsn: None, heartbeat: heartbeat::INTERVAL, unanswered: heartbeat::UNANSWERED_MOST }
     }
 }
 
@@ -127,6 +130,7 @@ impl Prepared {
 impl<L: Library> Endpoint<L> {
     pub fn new(config: Config, mut random: Random, now: Instant) -> Endpoint<L> {
         let jar = CookieJar::new(random.key(), now);
+        let heartbeat = Heartbeat::every(config.heartbeat, config.unanswered, u64::from(random.word()));
         Endpoint {
             core: Association::closed(config.port),
             config,
@@ -135,7 +139,7 @@ impl<L: Library> Endpoint<L> {
             jar,
             timers: Timers::default(),
             sack: DelayedSack::default(),
-            heartbeat: Heartbeat::every(config.heartbeat),
+            heartbeat,
             round_trip: RoundTrip::default(),
             last_word: LastWord::default(),
             counts: Counts::default(),
@@ -280,7 +284,13 @@ impl<L: Library> Endpoint<L> {
             self.round_trip.spoil();
             self.may_send = true;
             match self.counted(answer) {
-                Ok(Expired::TriedAgain(length)) => self.send_to_peer(length),
+                Ok(Expired::TriedAgain(length)) => {
+                    self.send_to_peer(length);
+                    if alarm == Alarm::T3 {
+                        // Its round trip ends the doubled RTO, which what is sent again cannot (RFC 9260 section 6.3.3).
+                        self.ask(now);
+                    }
+                }
                 Ok(Expired::Over) => self.events.push_back(Event::Down(Why::NoAnswer)),
                 Err(_) => {}
             }
@@ -313,7 +323,7 @@ impl<L: Library> Endpoint<L> {
     fn started(&mut self, peer: SocketAddr) {
         self.path = Path::to(peer);
         self.sack = DelayedSack::default();
-        self.heartbeat = Heartbeat::every(self.config.heartbeat);
+        self.heartbeat = Heartbeat::every(self.config.heartbeat, self.config.unanswered, u64::from(self.random.word()));
         self.round_trip = RoundTrip::default();
         self.last_word.forget();
     }
@@ -481,7 +491,9 @@ impl<L: Library> Endpoint<L> {
         }
         let value = chunk.get(HEARTBEAT_VALUE..).unwrap_or_default();
         self.path.answered(value, from);
-        if let Some(sample) = self.heartbeat.answered(value, now) {
+        // Behind a shut window the RTO stays doubled, so that probes go further and further apart (RFC 9260 section 6.1 A).
+        let is_probing = self.core.standing().is_probing();
+        if let Some(sample) = self.heartbeat.answered(value, now).filter(|_| !is_probing) {
             let answer = self.core.rtt(sample);
             let _ = self.counted(answer);
         }
@@ -556,7 +568,9 @@ impl<L: Library> Endpoint<L> {
                 self.timers.restart_t3(&standing, now);
             }
             self.send_to_peer(packet.length);
-            self.heartbeat.postpone(&standing, now);
+            if !packet.resent {
+                self.heartbeat.postpone(&standing, now);
+            }
         }
     }
 
@@ -569,12 +583,25 @@ impl<L: Library> Endpoint<L> {
             }
             return;
         }
+        if let Some(value) = self.send_heartbeat() {
+            self.heartbeat.sent(value, &self.core.standing(), now);
+        }
+    }
+
+    /// Asks whether the peer is there, beside what a timer sends again.
+    fn ask(&mut self, now: Instant) {
+        if let Some(value) = self.send_heartbeat() {
+            self.heartbeat.asked(value, &self.core.standing(), now);
+        }
+    }
+
+    /// The value that will come back.
+    fn send_heartbeat(&mut self) -> Option<[u8; 8]> {
         let value = self.random.bytes();
         let answer = self.core.heartbeat(value, &mut self.out);
-        if let Ok(length) = self.counted(answer) {
-            self.send_to_peer(length);
-        }
-        self.heartbeat.sent(value, &self.core.standing(), now);
+        let length = self.counted(answer).ok()?;
+        self.send_to_peer(length);
+        Some(value)
     }
 }
 

@@ -77,7 +77,7 @@ mod tests {
     const RTO: Duration = Duration::from_millis(1000);
 
     fn standing(state: State, acked: u32, next_tsn: u32) -> Standing {
-        Standing { state, rto: RTO, my_tag: 1, streams_out: 8, acked, next_tsn, has_gap: false, window: 65_536 }
+        Standing { state, rto: RTO, my_tag: 1, streams_out: 8, acked, next_tsn, has_gap: false, window: 65_536, peer_window: 65_536 }
     }
 
     fn millis(n: u64) -> Duration {

@@ -105,11 +105,13 @@ fn beats_while_idle_and_notices_silence<L: Library>() {
     pair.run_for(MINUTE);
     assert!(pair.are(State::Established));
     let beats = sent(&pair, 0, HEARTBEAT);
-    assert!((15..=20).contains(&beats), "{}", beats);
+    // Every 2 s and an RTO of 1 s, which is spread by half of it each way.
+    assert!((15..=24).contains(&beats), "{}", beats);
     // Each end measured a round trip of 80 ms by its heartbeats, so its RTO stays the least.
     assert_eq!(pair.ends[0].endpoint.standing().rto, Duration::from_secs(1));
     pair.ends[1].loses = Box::new(|packet| first_chunk(packet) == HEARTBEAT_ACK);
-    assert!(pair.run_until(MINUTE * 5, |pair| pair.state(0) == State::Closed));
+    // 11 of them, with an RTO that doubles up to 60 s.
+    assert!(pair.run_until(MINUTE * 10, |pair| pair.state(0) == State::Closed));
     assert_eq!(pair.ends[0].events.last(), Some(&Event::Down(Why::NoAnswer)));
     // Its ABORT reached the other end.
     pair.run_for(Duration::from_secs(1));
@@ -290,10 +292,26 @@ fn measures_round_trips_but_not_of_what_was_resent<L: Library>() {
     assert_eq!(pair.ends[0].endpoint.standing().rto, Duration::from_millis(2400));
     pair.ends[0].loses = loses_first(DATA, 1);
     pair.ends[0].endpoint.hand_in(&[5; 512], 0, false, 0).expect("there is room");
+    pair.ends[1].loses = Box::new(|packet| first_chunk(packet) == HEARTBEAT_ACK);
     pair.run_for(Duration::from_secs(10));
     assert_eq!(pair.ends[1].taken.len(), 3);
     // T3 doubled it, and the chunk that was sent twice is no sample.
     assert_eq!(pair.ends[0].endpoint.standing().rto, Duration::from_millis(4800));
+}
+
+fn a_heartbeat_beside_what_t3_resends_ends_the_doubled_rto<L: Library>() {
+    let mut pair = acknowledged_first::<L>(400, 27);
+    pair.run_for(Duration::from_secs(2));
+    assert_eq!(pair.ends[0].endpoint.standing().rto, Duration::from_millis(2400));
+    pair.ends[0].loses = loses_first(DATA, 3);
+    pair.ends[0].endpoint.hand_in(&[5; 512], 0, false, 0).expect("there is room");
+    let start = pair.now;
+    assert!(pair.run_until(MINUTE, |pair| pair.ends[1].taken.len() == 2));
+    // T3 rings after 2,400 ms, after 4,800 more, since it runs already when the heartbeat's answer comes, and then not after 9,600 but after 4,000.
+    assert_eq!(pair.now - start, Duration::from_millis(11_600));
+    pair.run_for(Duration::from_secs(2));
+    assert_eq!((sent(&pair, 0, HEARTBEAT), pair.ends[0].endpoint.counts().expiries), (3, 3));
+    assert!(pair.ends[0].endpoint.standing().rto < Duration::from_millis(2400));
 }
 
 fn a_slow_taker_shuts_the_window_and_opens_it_again<L: Library>() {
@@ -391,6 +409,7 @@ on_both! {
     an_opposite_chunk_asks_for_no_sack
     a_contradiction_aborts
     measures_round_trips_but_not_of_what_was_resent
+    a_heartbeat_beside_what_t3_resends_ends_the_doubled_rto
     a_slow_taker_shuts_the_window_and_opens_it_again
     a_stale_cookie_is_told_to_the_peer
     an_old_cookie_starts_no_second_association
