@@ -97,6 +97,11 @@ impl<L: Library> Association<L> {
         }
     }
 
+    /// Whether there is a message to take: one that is asked for with no room at all is named and stays.
+    pub fn has_message(&mut self) -> bool {
+        matches!(self.take(&mut []), Err(NotTaken::Short(_)))
+    }
+
     pub fn sack(&mut self, out: &mut [u8]) -> Answer<Acknowledged> {
         let answer = L::sack(&mut self.record, out);
         answered(answer.number, Acknowledged { length: answer.length, window: answer.sack.window })

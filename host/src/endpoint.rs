@@ -94,6 +94,8 @@ pub struct Datagram {
 
 pub struct Endpoint<L> {
     core: Association<L>,
+    /// The association before, while it has messages that were acknowledged and not taken.
+    finished: Option<Association<L>>,
     config: Config,
     path: Path,
     random: Random,
@@ -133,6 +135,7 @@ impl<L: Library> Endpoint<L> {
         let heartbeat = Heartbeat::every(config.heartbeat, config.unanswered, u64::from(random.word()));
         Endpoint {
             core: Association::closed(config.port),
+            finished: None,
             config,
             path: Path::default(),
             random,
@@ -178,8 +181,11 @@ impl<L: Library> Endpoint<L> {
         self.events.pop_front()
     }
 
-    /// Asks a peer for an association.
+    /// Asks a peer for an association. Refused with `Refusal::STATE` also while there are messages to take of the two associations before.
     pub fn associate(&mut self, peer: SocketAddr, port: u16, now: Instant) -> Answer<()> {
+        if self.core.standing().state == State::Closed && !self.make_room() {
+            return self.counted(Err(Refusal::STATE));
+        }
         let (tag, tsn) = (self.random.tag(), self.first_tsn());
         let answer = self.core.associate(tag, tsn, port, self.config.streams, &mut self.out);
         let length = self.counted(answer)?;
@@ -198,16 +204,35 @@ impl<L: Library> Endpoint<L> {
         Ok(())
     }
 
-    /// The next message that came, if there is one.
+    /// The next message that came, if there is one; those of the association before come first.
     pub fn take(&mut self) -> Option<(Taken, &[u8])> {
+        let taken = match self.take_of_finished() {
+            Some(taken) => taken,
+            None => self.take_of_present()?,
+        };
+        self.counts.messages_out += 1;
+        Some((taken, self.message.get(..taken.length).unwrap_or_default()))
+    }
+
+    /// Whether what `take` gives next is of the association before this one, whose streams and SSNs are others.
+    pub fn has_finished_messages(&mut self) -> bool {
+        self.finished.as_mut().map_or(false, Association::has_message)
+    }
+
+    fn take_of_finished(&mut self) -> Option<Taken> {
+        let taken = self.finished.as_mut()?.take(&mut self.message).ok();
+        if taken.is_none() {
+            self.finished = None;
+        }
+        taken
+    }
+
+    fn take_of_present(&mut self) -> Option<Taken> {
         if !self.may_take {
             return None;
         }
         match self.core.take(&mut self.message) {
-            Ok(taken) => {
-                self.counts.messages_out += 1;
-                Some((taken, self.message.get(..taken.length).unwrap_or_default()))
-            }
+            Ok(taken) => Some(taken),
             Err(NotTaken::Refused(Refusal::NOTHING)) => {
                 self.may_take = false;
                 None
@@ -219,6 +244,18 @@ impl<L: Library> Endpoint<L> {
             // The buffer has the length of the longest message.
             Err(NotTaken::Short(_)) => None,
         }
+    }
+
+    /// Makes a record free for a new association: one with messages to take is set aside. False where the place for it is taken; nothing new begins then.
+    fn make_room(&mut self) -> bool {
+        if !self.core.has_message() {
+            return true;
+        }
+        if self.has_finished_messages() {
+            return false;
+        }
+        self.finished = Some(std::mem::replace(&mut self.core, Association::closed(self.config.port)));
+        true
     }
 
     /// No more messages: closes when all that was handed in has come.
@@ -243,7 +280,17 @@ impl<L: Library> Endpoint<L> {
     pub fn arrive(&mut self, packet: &[u8], from: SocketAddr, now: Instant) {
         self.counts.packets_received += 1;
         let before = self.core.standing();
-        let prepared = self.prepare(packet, from, before.state, now);
+        let prepared = match before.state {
+            State::Closed => self.prepare(packet, from, now),
+            _ => Some(Prepared::nothing()),
+        };
+        let prepared = match prepared {
+            Some(prepared) => prepared,
+            None => {
+                self.counts.turned_away += 1;
+                return;
+            }
+        };
         let answer = self.core.arrive(packet, &prepared.lent, prepared.echoed, &mut self.out);
         match self.counted(answer) {
             Ok(arrived) => self.heed(packet, from, &before, prepared, arrived, now),
@@ -349,22 +396,27 @@ impl<L: Library> Endpoint<L> {
         }
     }
 
-    /// Makes a cookie for an INIT, or judges the one that is echoed. Only a closed record reads either.
-    fn prepare(&mut self, packet: &[u8], from: SocketAddr, state: State, now: Instant) -> Prepared {
-        if state != State::Closed {
-            return Prepared::nothing();
-        }
+    /// Makes a cookie for an INIT, or judges the one that is echoed, for a closed record, since no other reads either. None where no association is to be taken
+    /// up: an INIT is promised only what its cookie will get.
+    fn prepare(&mut self, packet: &[u8], from: SocketAddr, now: Instant) -> Option<Prepared> {
         match peek::<L>(packet) {
             Peeked::Init(init) => {
+                if self.core.has_message() && self.has_finished_messages() {
+                    return None;
+                }
                 let (tag, tsn) = (self.random.tag(), self.first_tsn());
                 let streams = self.config.streams;
                 let made = agreed(&init, tag, tsn, streams);
                 let cookie = self.jar.bake(made, from, init.source, now);
                 let lent = Lent { tag, tsn, streams, cookie };
-                Prepared { lent, ..Prepared::nothing() }
+                Some(Prepared { lent, ..Prepared::nothing() })
             }
-            Peeked::Echo { at, len } => self.judge_echo(packet, at, len, from, now),
-            Peeked::Nothing | Peeked::Refused(_) => Prepared::nothing(),
+            Peeked::Echo { at, len } => {
+                let prepared = self.judge_echo(packet, at, len, from, now);
+                let may_begin = !matches!(prepared.echoed, Echoed::Good(_)) || self.make_room();
+                may_begin.then_some(prepared)
+            }
+            Peeked::Nothing | Peeked::Refused(_) => Some(Prepared::nothing()),
         }
     }
 

@@ -12,6 +12,47 @@ use std::time::Duration;
 
 const SECOND: Duration = Duration::from_secs(1);
 
+/// The first end sends so many messages of its round in an association of their own, which both shut down.
+fn send_and_close<L: Library>(pair: &mut Pair<L>, round: u8, messages: u8) {
+    for n in 0..messages {
+        pair.ends[0].endpoint.hand_in(&[round, n], 0, false, 0).expect("there is room");
+    }
+    let now = pair.now;
+    pair.ends[0].endpoint.shutdown(now).expect("an established association shuts down");
+    assert!(pair.run_until(MINUTE, |pair| pair.are(State::Closed)));
+}
+
+fn acknowledged_messages_outlive_their_association<L: Library>() {
+    let mut pair = Pair::<L>::up(slow(1), 30);
+    pair.ends[1].takes = false;
+    send_and_close(&mut pair, 0, 5);
+    pair.associate();
+    assert!(pair.run_until(MINUTE, |pair| pair.are(State::Established)));
+    send_and_close(&mut pair, 1, 3);
+    pair.ends[1].takes = true;
+    pair.run_for(SECOND);
+    let taken: Vec<Vec<u8>> = pair.ends[1].taken.iter().map(|(_, _, message)| message.clone()).collect();
+    let rounds = (0..5).map(|n| vec![0, n]).chain((0..3).map(|n| vec![1, n]));
+    assert_eq!(taken, rounds.collect::<Vec<_>>());
+}
+
+fn a_third_association_waits_until_the_first_was_taken<L: Library>() {
+    let mut pair = Pair::<L>::up(slow(1), 31);
+    pair.ends[1].takes = false;
+    send_and_close(&mut pair, 0, 2);
+    pair.associate();
+    assert!(pair.run_until(MINUTE, |pair| pair.are(State::Established)));
+    send_and_close(&mut pair, 1, 2);
+    pair.associate();
+    assert!(!pair.run_until(SECOND * 2, |pair| pair.are(State::Established)));
+    assert_eq!(sent(&pair, 1, INIT_ACK), 2);
+    pair.ends[1].takes = true;
+    assert!(pair.run_until(MINUTE, |pair| pair.are(State::Established)));
+    send_and_close(&mut pair, 2, 2);
+    let taken: Vec<Vec<u8>> = pair.ends[1].taken.iter().map(|(_, _, message)| message.clone()).collect();
+    assert_eq!(taken, [[0, 0], [0, 1], [1, 0], [1, 1], [2, 0], [2, 1]]);
+}
+
 fn hand_in_up_to<L: Library>(pair: &mut Pair<L>, handed_in: &mut u8, all: u8) {
     while *handed_in < all && pair.ends[0].endpoint.hand_in(&vec![*handed_in; 512], 0, false, 0).is_ok() {
         *handed_in += 1;
@@ -58,6 +99,8 @@ fn a_peer_that_vanished_behind_a_closed_window_ends_it_at_the_eleventh_expiry<L:
 }
 
 on_both! {
+    acknowledged_messages_outlive_their_association
+    a_third_association_waits_until_the_first_was_taken
     a_window_closed_for_an_hour_keeps_the_association_up
     a_peer_that_vanished_behind_a_closed_window_ends_it_at_the_eleventh_expiry
 }
