@@ -10,6 +10,7 @@ pub mod ffi;
 pub mod heartbeat;
 pub mod last_word;
 pub mod library;
+pub mod path;
 pub mod pcap;
 pub mod rail;
 pub mod random;

@@ -1,0 +1,140 @@
+//! What packets from a third address can do: nothing to an association, whoever sends them. On the model and on the proved library, and over real sockets.
+
+mod modelled;
+#[macro_use]
+mod pair;
+
+use modelled::Modelled;
+use oilwhisper::calls::State;
+use oilwhisper::endpoint::Endpoint;
+use oilwhisper::library::Library;
+use oilwhisper::random::Random;
+use oilwhisper::relay::Weather;
+use oilwhisper::udp::Line;
+use pair::*;
+use std::net::{SocketAddr, UdpSocket};
+use std::time::{Duration, Instant};
+
+const SECOND: Duration = Duration::from_secs(1);
+
+fn with_strangers<L: Library>(weather: Weather, seed: u64) -> Pair<L> {
+    let mut pair = Pair::up(weather, seed);
+    pair.has_strangers = true;
+    pair
+}
+
+fn inits_from_forged_addresses_change_nothing_for_an_hour<L: Library>() {
+    let mut pair = with_strangers::<L>(slow(5), 20);
+    let peers = [pair.ends[0].endpoint.peer(), pair.ends[1].endpoint.peer()];
+    for second in 0..3600u32 {
+        for end in 0..2 {
+            pair.arrive(end, &init_to(end), stranger(second as u8));
+        }
+        pair.ends[0].endpoint.hand_in(&second.to_be_bytes(), 0, false, 0).expect("there is room");
+        pair.run_for(SECOND);
+    }
+    assert!(pair.are(State::Established));
+    assert_eq!([pair.ends[0].endpoint.peer(), pair.ends[1].endpoint.peer()], peers);
+    assert!(pair.ends.iter().all(|end| end.astray.is_empty()), "{} packets went astray", pair.ends[0].astray.len());
+    assert_eq!(pair.ends[1].taken.len(), 3600);
+    assert_eq!(pair.ends[0].endpoint.counts().expiries, 0);
+}
+
+fn another_port_of_the_peer_is_followed_at_once<L: Library>() {
+    let mut pair = with_strangers::<L>(slow(5), 21);
+    pair.ends[0].address.set_port(40_000);
+    pair.ends[0].endpoint.hand_in(b"from another port", 0, false, 0).expect("there is room");
+    pair.run_for(SECOND);
+    assert_eq!(pair.ends[1].endpoint.peer(), Some(pair.ends[0].address));
+    assert_eq!(pair.ends[1].taken.len(), 1);
+    assert_eq!(pair.ends[1].astray, []);
+    assert_eq!(pair.ends[0].endpoint.counts().expiries, 0);
+}
+
+fn another_address_is_believed_when_it_has_answered<L: Library>() {
+    let mut pair = with_strangers::<L>(slow(5), 22);
+    let (before, after) = (pair.ends[0].address, stranger(1));
+    pair.ends[0].address = after;
+    pair.ends[0].endpoint.hand_in(b"from another address", 0, false, 0).expect("there is room");
+    let already_sent = pair.ends[1].sent.len();
+    // Half way: the DATA has come and the HEARTBEAT ACK has not.
+    pair.run_for(Duration::from_millis(14));
+    assert_eq!(pair.ends[1].endpoint.peer(), Some(before));
+    assert!(pair.ends[1].astray.iter().all(|datagram| datagram.to == before));
+    let there: Vec<u8> = pair.ends[1].sent[already_sent..].iter().map(|packet| first_chunk(packet)).collect();
+    assert_eq!(there, [HEARTBEAT]);
+    pair.run_for(SECOND * 5);
+    assert_eq!(pair.ends[1].endpoint.peer(), Some(after));
+    assert_eq!(pair.ends[1].taken.len(), 1);
+    // The SACK that went to the old address is lost, and one comes from the new on the DATA sent again.
+    assert!(!pair.ends[0].endpoint.standing().has_outstanding());
+    let now = pair.now;
+    pair.ends[1].endpoint.shutdown(now).expect("an established association shuts down");
+    assert!(pair.run_until(MINUTE, |pair| pair.are(State::Closed)));
+}
+
+/// Whoever reads along can repeat a packet that is good, from an address of its own.
+fn an_address_that_does_not_answer_gets_one_heartbeat_a_second<L: Library>() {
+    let mut pair = with_strangers::<L>(slow(5), 23);
+    let sender = pair.ends[0].address;
+    let mut repeated = 0;
+    for round in 0..300u32 {
+        pair.ends[0].endpoint.hand_in(&round.to_be_bytes(), 0, false, 0).expect("there is room");
+        let now = pair.now;
+        pair.ends[0].endpoint.flush(now);
+        while let Some(datagram) = pair.ends[0].endpoint.outgoing() {
+            pair.arrive(1, &datagram.packet, stranger(round as u8 % 4));
+            repeated += 1;
+        }
+        pair.run_for(Duration::from_millis(100));
+    }
+    assert!(repeated >= 100);
+    let astray = &pair.ends[1].astray;
+    assert!(astray.iter().all(|datagram| first_chunk(&datagram.packet) == HEARTBEAT));
+    assert!((10..=31).contains(&astray.len()), "{}", astray.len());
+    assert_eq!(pair.ends[1].endpoint.peer(), Some(sender));
+    assert_eq!(pair.ends[1].taken.len(), 300);
+}
+
+fn over_real_sockets_a_stranger_gets_nothing<L: Library>() {
+    let bound = |last: u8| UdpSocket::bind(SocketAddr::from(([127, 0, 0, last], 0))).expect("loopback has the address");
+    let endpoint = |end: usize| Endpoint::<L>::new(config(end), Random::from_key([end as u8; 32]), Instant::now());
+    let mut lines = [Line::new(endpoint(0), bound(2), None), Line::new(endpoint(1), bound(3), None)];
+    let addresses = [0, 1].map(|end: usize| lines[end].address().expect("it is bound"));
+    let third = bound(4);
+    third.set_nonblocking(true).expect("a socket can be asked without waiting");
+    lines[0].endpoint.associate(addresses[1], PORTS[1], Instant::now()).expect("a closed record can associate");
+    let until = Instant::now() + SECOND * 30;
+    let (mut handed_in, mut taken, mut last_init) = (0u32, 0u32, Instant::now());
+    let mut buffer = [0; 2048];
+    while taken < 200 && Instant::now() < until {
+        for line in &mut lines {
+            line.turn(Duration::from_millis(2)).expect("the line goes on");
+        }
+        let is_up = lines.iter().all(|line| line.endpoint.standing().state == State::Established);
+        if is_up && handed_in < 200 && handed_in - taken < 3 && lines[0].endpoint.hand_in(&handed_in.to_be_bytes(), 0, false, 0).is_ok() {
+            handed_in += 1;
+        }
+        while let Some((_, message)) = lines[1].endpoint.take() {
+            assert_eq!(message, taken.to_be_bytes());
+            taken += 1;
+        }
+        if is_up && last_init.elapsed() > Duration::from_millis(20) {
+            last_init = Instant::now();
+            for end in 0..2 {
+                third.send_to(&init_to(end), addresses[end]).expect("loopback carries it");
+            }
+        }
+        assert!(third.recv(&mut buffer).is_err(), "the stranger got a packet of type {}", buffer[12]);
+    }
+    assert_eq!(taken, 200);
+    assert_eq!(lines[0].endpoint.counts().expiries, 0);
+}
+
+on_both! {
+    inits_from_forged_addresses_change_nothing_for_an_hour
+    another_port_of_the_peer_is_followed_at_once
+    another_address_is_believed_when_it_has_answered
+    an_address_that_does_not_answer_gets_one_heartbeat_a_second
+    over_real_sockets_a_stranger_gets_nothing
+}
