@@ -31,7 +31,7 @@ impl DelayedSack {
         if at_once || self.is_first || self.packets >= PACKETS {
             self.due = Some(now);
         } else {
-            self.due = self.due.or(Some(now + DELAY));
+            self.due = self.due.or_else(|| Some(now + DELAY));
         }
     }
 
