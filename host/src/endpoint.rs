@@ -2,6 +2,7 @@
 //! the core's; here stands what it leaves to the host: timers, when to acknowledge, which round trips count, cookies, and the calls that verdicts name.
 
 use crate::acknowledging::DelayedSack;
+use crate::admission::{Admission, Network};
 use crate::association::{peek, Association};
 use crate::calls::{
     Answer, Arrived, Cause, Echoed, Expired, Fate, Lent, Named, NotTaken, Peeked, Refusal, Standing, State, Taken, Turn, Verdict, MESSAGE_MOST,
@@ -35,7 +36,7 @@ const BURST: usize = 4;
 const TAG: Range<usize> = 4..8;
 const FIRST_CHUNK: usize = 12;
 
-#[derive(Clone, Copy, Debug)]
+#[derive(Clone, Debug)]
 pub struct Config {
     /// Our SCTP port, inside UDP.
     pub port: u16,
@@ -47,11 +48,27 @@ pub struct Config {
     pub heartbeat: Duration,
     /// So many heartbeats may go unanswered; after one more the association is over.
     pub unanswered: u32,
+    /// Whether INITs are answered. Whoever asks for an association listens no longer, whatever stands here, until told to: see `Endpoint::listen`.
+    pub listens: bool,
+    /// From where INITs are answered; from everywhere, if nothing is said. There is no other test of who comes: a network that strangers can send into needs one.
+    pub admits: Option<Vec<Network>>,
+    /// How many associations are taken up in the endpoint's life, asked for by others; any number, if nothing is said. At once it is one.
+    pub most: Option<u64>,
 }
 
 impl Config {
+    /// As RFC 9260 section 16 has it, and listening to everyone.
     pub fn at_port(port: u16) -> Config {
-        Config { port, streams: 8, first_tsn: None, heartbeat: heartbeat::INTERVAL, unanswered: heartbeat::UNANSWERED_MOST }
+        Config {
+            port,
+            streams: 8,
+            first_tsn: None,
+            heartbeat: heartbeat::INTERVAL,
+            unanswered: heartbeat::UNANSWERED_MOST,
+            listens: true,
+            admits: None,
+            most: None,
+        }
     }
 }
 
@@ -97,6 +114,7 @@ pub struct Endpoint<L> {
     /// The association before, while it has messages that were acknowledged and not taken.
     finished: Option<Association<L>>,
     config: Config,
+    admission: Admission,
     path: Path,
     random: Random,
     jar: CookieJar,
@@ -133,10 +151,12 @@ impl<L: Library> Endpoint<L> {
     pub fn new(config: Config, mut random: Random, now: Instant) -> Endpoint<L> {
         let jar = CookieJar::new(random.key(), now);
         let heartbeat = Heartbeat::every(config.heartbeat, config.unanswered, u64::from(random.word()));
+        let admission = Admission::new(config.listens, config.admits.clone(), config.most);
         Endpoint {
             core: Association::closed(config.port),
             finished: None,
             config,
+            admission,
             path: Path::default(),
             random,
             jar,
@@ -181,7 +201,12 @@ impl<L: Library> Endpoint<L> {
         self.events.pop_front()
     }
 
-    /// Asks a peer for an association. Refused with `Refusal::STATE` also while there are messages to take of the two associations before.
+    /// Whether INITs are answered from now on.
+    pub fn listen(&mut self, listens: bool) {
+        self.admission.listens = listens;
+    }
+
+    /// Asks a peer for an association, and listens to no other from now on. Refused with `Refusal::STATE` also while there are messages to take of the two associations before.
     pub fn associate(&mut self, peer: SocketAddr, port: u16, now: Instant) -> Answer<()> {
         if self.core.standing().state == State::Closed && !self.make_room() {
             return self.counted(Err(Refusal::STATE));
@@ -190,6 +215,7 @@ impl<L: Library> Endpoint<L> {
         let answer = self.core.associate(tag, tsn, port, self.config.streams, &mut self.out);
         let length = self.counted(answer)?;
         self.started(peer);
+        self.listen(false);
         self.send(peer, length);
         self.timers.follow(&self.core.standing(), now);
         Ok(())
@@ -399,7 +425,12 @@ impl<L: Library> Endpoint<L> {
     /// Makes a cookie for an INIT, or judges the one that is echoed, for a closed record, since no other reads either. None where no association is to be taken
     /// up: an INIT is promised only what its cookie will get.
     fn prepare(&mut self, packet: &[u8], from: SocketAddr, now: Instant) -> Option<Prepared> {
-        match peek::<L>(packet) {
+        let seen = peek::<L>(packet);
+        let wants_to_open = matches!(seen, Peeked::Init(_) | Peeked::Echo { .. });
+        if wants_to_open && !self.admission.admits(from.ip()) {
+            return None;
+        }
+        match seen {
             Peeked::Init(init) => {
                 if self.core.has_message() && self.has_finished_messages() {
                     return None;
@@ -474,6 +505,7 @@ impl<L: Library> Endpoint<L> {
             Turn::Up => {
                 if before.state == State::Closed {
                     self.started(from);
+                    self.admission.took_up();
                     self.jar.spend(self.core.standing().my_tag, now);
                     self.last_word.opened(chunk_at(packet, verdict.at), reply);
                 }

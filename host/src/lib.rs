@@ -1,6 +1,7 @@
 //! A host of the proved SCTP core: safe calls, an endpoint over UDP (RFC 6951), and what the rail's demonstration is made of.
 
 pub mod acknowledging;
+pub mod admission;
 pub mod association;
 pub mod calls;
 pub mod cookie;

@@ -6,7 +6,7 @@ mod pair;
 
 use modelled::Modelled;
 use oilwhisper::calls::State;
-use oilwhisper::endpoint::Endpoint;
+use oilwhisper::endpoint::{Config, Endpoint};
 use oilwhisper::library::Library;
 use oilwhisper::random::Random;
 use oilwhisper::relay::Weather;
@@ -96,6 +96,65 @@ fn an_address_that_does_not_answer_gets_one_heartbeat_a_second<L: Library>() {
     assert_eq!(pair.ends[1].taken.len(), 300);
 }
 
+fn a_client_takes_no_stranger<L: Library>() {
+    let mut pair = with_strangers::<L>(slow(1), 24);
+    let now = pair.now;
+    pair.ends[0].endpoint.shutdown(now).expect("an established association shuts down");
+    assert!(pair.run_until(MINUTE, |pair| pair.are(State::Closed)));
+    for end in 0..2 {
+        pair.arrive(end, &init_to(end), stranger(1));
+    }
+    pair.run_for(SECOND);
+    assert_eq!(pair.ends[0].astray, []);
+    // The end that was asked listens still.
+    assert_eq!(pair.ends[1].astray.iter().map(|datagram| first_chunk(&datagram.packet)).collect::<Vec<_>>(), [INIT_ACK]);
+}
+
+/// The answers of an endpoint that nothing has happened to yet, to one INIT from each address.
+fn answers_of<L: Library>(config: Config, strangers: &[SocketAddr]) -> Vec<SocketAddr> {
+    let now = Instant::now();
+    let mut endpoint = Endpoint::<L>::new(config, Random::from_key([3; 32]), now);
+    for from in strangers {
+        endpoint.arrive(&init_to(1), *from, now);
+    }
+    let answers: Vec<_> = std::iter::from_fn(|| endpoint.outgoing()).collect();
+    assert!(answers.iter().all(|answer| first_chunk(&answer.packet) == INIT_ACK));
+    assert_eq!(endpoint.counts().turned_away as usize, strangers.len() - answers.len());
+    answers.iter().map(|answer| answer.to).collect()
+}
+
+fn who_may_come_is_a_setting<L: Library>() {
+    let strangers = [stranger(1), stranger(200)];
+    assert_eq!(answers_of::<L>(config(1), &strangers), strangers);
+    assert_eq!(answers_of::<L>(Config { listens: false, ..config(1) }, &strangers), []);
+    let near = "203.0.113.0/25".parse().expect("it is a network");
+    assert_eq!(answers_of::<L>(Config { admits: Some(vec![near]), ..config(1) }, &strangers), [stranger(1)]);
+    assert_eq!(answers_of::<L>(Config { admits: Some(Vec::new()), ..config(1) }, &strangers), []);
+}
+
+fn no_more_than_so_many_are_taken_up<L: Library>() {
+    let mut pair = Pair::<L>::with(slow(1), 28, [config(0), Config { most: Some(2), ..config(1) }]);
+    for round in 0..3 {
+        pair.associate();
+        assert_eq!(pair.run_until(MINUTE, |pair| pair.are(State::Established)), round < 2);
+        let now = pair.now;
+        let _ = pair.ends[0].endpoint.shutdown(now);
+        pair.run_for(MINUTE);
+    }
+    assert_eq!(sent(&pair, 1, INIT_ACK), 2);
+}
+
+fn who_asked_listens_again_when_told_to<L: Library>() {
+    let mut pair = with_strangers::<L>(slow(1), 29);
+    let now = pair.now;
+    pair.ends[0].endpoint.shutdown(now).expect("an established association shuts down");
+    assert!(pair.run_until(MINUTE, |pair| pair.are(State::Closed)));
+    pair.ends[0].endpoint.listen(true);
+    pair.arrive(0, &init_to(0), stranger(1));
+    pair.run_for(SECOND);
+    assert_eq!(pair.ends[0].astray.len(), 1);
+}
+
 fn over_real_sockets_a_stranger_gets_nothing<L: Library>() {
     let bound = |last: u8| UdpSocket::bind(SocketAddr::from(([127, 0, 0, last], 0))).expect("loopback has the address");
     let endpoint = |end: usize| Endpoint::<L>::new(config(end), Random::from_key([end as u8; 32]), Instant::now());
@@ -136,5 +195,9 @@ on_both! {
     another_port_of_the_peer_is_followed_at_once
     another_address_is_believed_when_it_has_answered
     an_address_that_does_not_answer_gets_one_heartbeat_a_second
+    a_client_takes_no_stranger
+    who_may_come_is_a_setting
+    no_more_than_so_many_are_taken_up
+    who_asked_listens_again_when_told_to
     over_real_sockets_a_stranger_gets_nothing
 }

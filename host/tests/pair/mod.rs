@@ -86,7 +86,7 @@ impl<L: Library> Pair<L> {
     pub fn with(weather: Weather, seed: u64, configs: [Config; 2]) -> Pair<L> {
         let now = Instant::now();
         let end = |n: usize| End {
-            endpoint: Endpoint::new(configs[n], Random::from_key([seed as u8 ^ n as u8; 32]), now),
+            endpoint: Endpoint::new(configs[n].clone(), Random::from_key([seed as u8 ^ n as u8; 32]), now),
             address: SocketAddr::from(([10, 0, 0, n as u8], 9899)),
             channel: Channel::new(weather, seed.wrapping_mul(2) + n as u64),
             loses: Box::new(|_| false),
