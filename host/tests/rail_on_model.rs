@@ -166,6 +166,22 @@ fn a_head_says_where_nobody_listens_and_can_be_stopped() {
 }
 
 #[test]
+fn a_head_from_a_network_that_is_not_admitted_gets_no_answer() {
+    let port = free_port();
+    let stops = [Stop::default(), Stop::default()];
+    let lines = [format!("field 127.0.0.1:{} --admit 192.0.2.0/24", port), format!("head 127.0.0.1:{}", port)];
+    let mut runs = Vec::new();
+    for (line, stop) in lines.into_iter().zip(stops.clone()) {
+        runs.push(thread::spawn(move || run_until(&line, &stop).unwrap_or_else(|failure| panic!("{}", failure))));
+    }
+    thread::sleep(Duration::from_millis(2500));
+    stops.iter().for_each(Stop::ask);
+    let ended: Vec<_> = runs.into_iter().map(|run| run.join().expect("it ends")).collect();
+    assert_eq!(ended[0].0.verdict, "no head came");
+    assert!(ended[1].1.contains(&format!("  no answer from 127.0.0.1:{} yet\n", port)), "{}", ended[1].1);
+}
+
+#[test]
 fn a_demonstration_that_is_stopped_loses_nothing_that_was_handed_in() {
     let stop = Stop::default();
     let asked = stop.clone();

@@ -1,6 +1,7 @@
 //! What the command line asks for.
 
 use super::Failure;
+use crate::admission::Network;
 use crate::pcap::ENCAPSULATION;
 use crate::relay::Weather;
 use std::net::{Ipv6Addr, SocketAddr, ToSocketAddrs};
@@ -32,6 +33,13 @@ pub struct Demo {
     pub pcap: Option<PathBuf>,
 }
 
+/// How a silent peer is found out.
+#[derive(Clone, Copy, Debug, PartialEq, Eq)]
+pub struct Beats {
+    pub heartbeat: Duration,
+    pub unanswered: u32,
+}
+
 #[derive(Clone, Debug, PartialEq, Eq)]
 pub struct Head {
     /// The field computer's.
@@ -41,6 +49,7 @@ pub struct Head {
     pub to_port: u16,
     pub messages: u64,
     pub seed: u64,
+    pub beats: Beats,
     pub pcap: Option<PathBuf>,
 }
 
@@ -50,8 +59,15 @@ pub struct Field {
     pub port: u16,
     /// After so many heads it ends.
     pub count: Option<u64>,
+    /// From where heads may come; from everywhere, if nothing is said.
+    pub admits: Option<Vec<Network>>,
+    pub beats: Beats,
     pub pcap: Option<PathBuf>,
 }
+
+/// Seconds. RFC 9260 section 16 has 30 and 10, by which a rail would miss a head for six minutes.
+const HEARTBEAT: u64 = 5;
+const UNANSWERED: u64 = 5;
 
 const MESSAGES: u64 = 66_000;
 /// An index of a tile has 32 bits.
@@ -99,6 +115,7 @@ fn head(mut options: Options) -> Result<Head, Failure> {
         to_port: options.port("--to-port", FIELD_PORT)?,
         messages: options.number("--messages", MESSAGES, 1, MESSAGES_MOST)?,
         seed: options.number("--seed", 1, 0, u64::MAX)?,
+        beats: options.beats()?,
         pcap: options.path("--pcap"),
     };
     options.end().map(|()| head)
@@ -110,6 +127,8 @@ fn field(mut options: Options) -> Result<Field, Failure> {
         address: listening_address(&at)?,
         port: options.port("--port", FIELD_PORT)?,
         count: options.optional("--count", 1, u64::MAX)?,
+        admits: options.networks("--admit")?,
+        beats: options.beats()?,
         pcap: options.path("--pcap"),
     };
     options.end().map(|()| field)
@@ -196,6 +215,21 @@ impl Options {
         }
     }
 
+    fn beats(&mut self) -> Result<Beats, Failure> {
+        let heartbeat = Duration::from_secs(self.number("--heartbeat", HEARTBEAT, 1, 3600)?);
+        let unanswered = self.number("--unanswered", UNANSWERED, 0, 100)? as u32;
+        Ok(Beats { heartbeat, unanswered })
+    }
+
+    /// Networks with commas between them.
+    fn networks(&mut self, name: &str) -> Result<Option<Vec<Network>>, Failure> {
+        let network = |word: &str| {
+            let wrong = |e| Failure(format!("{} takes addresses and networks, as in 192.0.2.7,2001:db8::/32: '{}' is {}", name, word, e));
+            word.parse::<Network>().map_err(wrong)
+        };
+        self.text(name).map(|text| text.split(',').map(network).collect()).transpose()
+    }
+
     fn port(&mut self, name: &str, default: u16) -> Result<u16, Failure> {
         self.number(name, u64::from(default), 1, u64::from(u16::MAX)).map(|port| port as u16)
     }
@@ -269,6 +303,19 @@ mod tests {
     }
 
     #[test]
+    fn a_field_computer_is_told_who_may_come_and_how_often_to_ask() {
+        match parsed("field --admit 10.0.0.0/8,2001:db8::7 --heartbeat 2 --unanswered 3") {
+            Ok(Command::Field(field)) => {
+                let admits = field.admits.expect("some are named");
+                let is_in = |text: &str| admits.iter().any(|network| network.contains(text.parse().unwrap()));
+                assert!(is_in("10.1.2.3") && is_in("2001:db8::7") && !is_in("11.0.0.1"));
+                assert_eq!(field.beats, Beats { heartbeat: Duration::from_secs(2), unanswered: 3 });
+            }
+            other => panic!("{:?}", other),
+        }
+    }
+
+    #[test]
     fn a_link_can_be_named() {
         match parsed("head [fe80::1%lo]:9899") {
             Ok(Command::Head(Head { address: SocketAddr::V6(six), .. })) => assert_eq!((six.port(), six.scope_id() > 0), (9899, true)),
@@ -286,6 +333,8 @@ mod tests {
         assert!(complaint("demo 127.0.0.1:1").contains("one word too many"));
         assert!(complaint("head").contains("the field computer's ADDRESS is missing"));
         assert!(complaint("field 127.0.0.1:5 --messages 3").contains("--messages is no option"));
+        assert!(complaint("field --admit 10.0.0.0/33").contains("--admit takes addresses and networks"));
+        assert!(complaint("field --heartbeat 0").contains("--heartbeat takes a number from 1"));
         assert!(complaint("field --count 0").contains("--count takes a number from 1"));
         assert!(complaint("head 127.0.0.1").contains("'127.0.0.1' is no address"));
         assert!(complaint("head 127.0.0.1:99999").contains("is no address"));

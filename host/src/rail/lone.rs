@@ -63,6 +63,10 @@ impl Pace {
     }
 }
 
+fn config(port: u16, beats: arguments::Beats) -> Config {
+    Config { streams: BANDS, heartbeat: beats.heartbeat, unanswered: beats.unanswered, ..Config::at_port(port) }
+}
+
 fn line<L: Library>(socket: UdpSocket, config: Config, recording: &Recording) -> Result<Line<L>, Failure> {
     let here = socket.local_addr().map_err(Failure::of_network)?;
     let random = Random::from_system().map_err(|e| Failure(format!("the system gives no random numbers: {}", e)))?;
@@ -79,7 +83,7 @@ pub fn head<L: Library>(arguments: &arguments::Head, stop: &Stop, out: &mut dyn 
     let recording = Recording::start(&arguments.pcap)?;
     // So that the system tells where nobody listens. Where it cannot, the line tells why nothing can be sent.
     let _ = socket.connect(arguments.address);
-    let config = Config { streams: BANDS, ..Config::at_port(arguments.port) };
+    let config = Config { listens: false, ..config(arguments.port, arguments.beats) };
     let plan = Plan::of(arguments.messages);
     let mut head = Head::start(line::<L>(socket, config, &recording)?, arguments.address, arguments.to_port, plan, arguments.seed, stop)?;
     let total = Plan::total(arguments.messages);
@@ -186,7 +190,7 @@ impl Visits {
 pub fn field<L: Library>(arguments: &arguments::Field, stop: &Stop, out: &mut dyn Write) -> Result<Ended, Failure> {
     let socket = bind(arguments.address)?;
     let recording = Recording::start(&arguments.pcap)?;
-    let config = Config { streams: BANDS, ..Config::at_port(arguments.port) };
+    let config = Config { admits: arguments.admits.clone(), most: arguments.count, ..config(arguments.port, arguments.beats) };
     let mut field = Field::new(line::<L>(socket, config, &recording)?, stop);
     let address = field.line.address().map_err(Failure::of_network)?;
     let _ = writeln!(out, "field: waiting at {} for heads (SCTP port {}), until Ctrl-C", address, arguments.port);
