@@ -58,6 +58,7 @@ impl<L: Library> Field<L> {
         while let Some(event) = self.line.endpoint.event() {
             self.stage = match event {
                 Event::Up => Stage::Open,
+                Event::Quiet(_) | Event::Heard => self.stage,
                 Event::Down(Why::ShutDown) if self.stage == Stage::Closing => Stage::Closed,
                 Event::Down(why) => return Err(Failure(format!("the field computer's association is closed: {}", why))),
             };
@@ -129,6 +130,7 @@ impl<L: Library> Head<L> {
         while let Some(event) = self.line.endpoint.event() {
             self.stage = match event {
                 Event::Up => Stage::Open,
+                Event::Quiet(_) | Event::Heard => self.stage,
                 Event::Down(Why::ShutDown) => Stage::Closed,
                 Event::Down(why) => return Err(Failure(format!("the head's association is closed: {}", why))),
             };
