@@ -16,6 +16,8 @@ use crate::library::Library;
 use crate::path::Path;
 use crate::random::Random;
 use crate::round_trip::RoundTrip;
+use crate::silence::{self, Silence};
+use crate::stray::Strays;
 use crate::timers::{Alarm, Timers};
 use std::collections::VecDeque;
 use std::fmt;
@@ -48,6 +50,8 @@ pub struct Config {
     pub heartbeat: Duration,
     /// So many heartbeats may go unanswered; after one more the association is over.
     pub unanswered: u32,
+    /// How long a peer that owes an answer may be silent before that is an event. Beyond it an answer always has an RTO.
+    pub quiet: Duration,
     /// Whether INITs are answered. Whoever asks for an association listens no longer, whatever stands here, until told to: see `Endpoint::listen`.
     pub listens: bool,
     /// From where INITs are answered; from everywhere, if nothing is said. There is no other test of who comes: a network that strangers can send into needs one.
@@ -65,10 +69,17 @@ impl Config {
             first_tsn: None,
             heartbeat: heartbeat::INTERVAL,
             unanswered: heartbeat::UNANSWERED_MOST,
+            quiet: silence::QUIET,
             listens: true,
             admits: None,
             most: None,
         }
+    }
+
+    /// On a rail's own network, where a peer that is lost should show within seconds: a heartbeat every 2 s, so that silence is an event 5 s after the last
+    /// packet, and an association that only listens is over after about 80 s.
+    pub fn on_a_rail(port: u16) -> Config {
+        Config { heartbeat: Duration::from_secs(2), unanswered: 5, ..Config::at_port(port) }
     }
 }
 
@@ -76,6 +87,10 @@ impl Config {
 pub enum Event {
     Up,
     Down(Why),
+    /// The peer owes an answer and has not been heard for so long. The association is still up, or still asked for.
+    Quiet(Duration),
+    /// A peer that was quiet is heard again.
+    Heard,
 }
 
 #[derive(Clone, Copy, Debug, PartialEq, Eq)]
@@ -121,6 +136,8 @@ pub struct Endpoint<L> {
     timers: Timers,
     sack: DelayedSack,
     heartbeat: Heartbeat,
+    silence: Silence,
+    strays: Strays,
     round_trip: RoundTrip,
     last_word: LastWord,
     counts: Counts,
@@ -155,6 +172,8 @@ impl<L: Library> Endpoint<L> {
         Endpoint {
             core: Association::closed(config.port),
             finished: None,
+            silence: Silence::after(config.quiet),
+            strays: Strays::default(),
             config,
             admission,
             path: Path::default(),
@@ -187,6 +206,11 @@ impl<L: Library> Endpoint<L> {
         &self.counts
     }
 
+    /// How long nothing was heard of the peer.
+    pub fn silence(&self, now: Instant) -> Duration {
+        self.silence.lasted(now)
+    }
+
     pub fn peer(&self) -> Option<SocketAddr> {
         self.path.peer()
     }
@@ -214,7 +238,7 @@ impl<L: Library> Endpoint<L> {
         let (tag, tsn) = (self.random.tag(), self.first_tsn());
         let answer = self.core.associate(tag, tsn, port, self.config.streams, &mut self.out);
         let length = self.counted(answer)?;
-        self.started(peer);
+        self.started(peer, now);
         self.listen(false);
         self.send(peer, length);
         self.timers.follow(&self.core.standing(), now);
@@ -320,7 +344,7 @@ impl<L: Library> Endpoint<L> {
         let answer = self.core.arrive(packet, &prepared.lent, prepared.echoed, &mut self.out);
         match self.counted(answer) {
             Ok(arrived) => self.heed(packet, from, &before, prepared, arrived, now),
-            Err(refusal) => self.answer_late(packet, from, before.state, refusal, now),
+            Err(refusal) => self.answer_refused(packet, from, before.state, refusal, now),
         }
         self.timers.follow(&self.core.standing(), now);
     }
@@ -343,6 +367,9 @@ impl<L: Library> Endpoint<L> {
         let standing = self.core.standing();
         self.timers.follow(&standing, now);
         self.heartbeat.follow(&standing, now);
+        let waits = standing.state.is_opening() || standing.state.is_closing();
+        let waits_for_ack = standing.state.is_carrying() && standing.has_outstanding();
+        self.silence.follow(waits || waits_for_ack || self.heartbeat.is_awaited(), standing.rto, now);
     }
 
     /// Does what timers ask for at this moment; `flush` then sends.
@@ -371,11 +398,14 @@ impl<L: Library> Endpoint<L> {
         if self.heartbeat.is_due(now) {
             self.beat(now);
         }
+        if let Some(silence) = self.silence.ring(now) {
+            self.events.push_back(Event::Quiet(silence));
+        }
     }
 
     /// When `expire` and `flush` are to be called next.
     pub fn next_moment(&self) -> Option<Instant> {
-        [self.timers.next(), self.sack.next(), self.heartbeat.next()].iter().flatten().min().copied()
+        [self.timers.next(), self.sack.next(), self.heartbeat.next(), self.silence.next()].iter().flatten().min().copied()
     }
 
     fn first_tsn(&mut self) -> u32 {
@@ -393,8 +423,9 @@ impl<L: Library> Endpoint<L> {
     }
 
     /// An association with this peer begins: nothing of an earlier one is left.
-    fn started(&mut self, peer: SocketAddr) {
+    fn started(&mut self, peer: SocketAddr, now: Instant) {
         self.path = Path::to(peer);
+        self.silence.start(now);
         self.sack = DelayedSack::default();
         self.heartbeat = Heartbeat::every(self.config.heartbeat, self.config.unanswered, u64::from(self.random.word()));
         self.round_trip = RoundTrip::default();
@@ -488,6 +519,9 @@ impl<L: Library> Endpoint<L> {
 
     /// The peer was heard from this address, which may be new.
     fn note_sender(&mut self, from: SocketAddr, now: Instant) {
+        if self.silence.heard(now) {
+            self.events.push_back(Event::Heard);
+        }
         if self.path.showed(from, now) && self.core.standing().state.is_carrying() {
             let nonce = self.random.bytes();
             // The reply to the packet has left the output already.
@@ -504,7 +538,7 @@ impl<L: Library> Endpoint<L> {
             Turn::None => return,
             Turn::Up => {
                 if before.state == State::Closed {
-                    self.started(from);
+                    self.started(from, now);
                     self.admission.took_up();
                     self.jar.spend(self.core.standing().my_tag, now);
                     self.last_word.opened(chunk_at(packet, verdict.at), reply);
@@ -608,14 +642,26 @@ impl<L: Library> Endpoint<L> {
         }
     }
 
-    /// A packet that the core refused whole: after the end it may ask for the last word.
-    fn answer_late(&mut self, packet: &[u8], from: SocketAddr, state: State, refusal: Refusal, now: Instant) {
-        if state == State::Closed && refusal == Refusal::TAG && peek::<L>(packet) == Peeked::Nothing {
+    /// A packet that the core refused whole. After the end it may ask for the last word; one that is not the peer's is out of the blue.
+    fn answer_refused(&mut self, packet: &[u8], from: SocketAddr, state: State, refusal: Refusal, now: Instant) {
+        if refusal != Refusal::TAG || peek::<L>(packet) != Peeked::Nothing {
+            return;
+        }
+        let is_of_peer = self.path.is_of_peer(from) && source_port(packet) == self.core.record().ends.peer_port;
+        if state == State::Closed && is_of_peer && self.last_word.is_late(packet) {
+            // An ABORT would make a failure of an end that was clean.
             let again = self.last_word.to_late(packet).map(<[u8]>::to_vec);
-            if again.is_some() {
-                self.path.showed(from, now);
-            }
-            self.repeat(again);
+            self.path.showed(from, now);
+            return self.repeat(again);
+        }
+        // RFC 9260 section 8.5: a packet of the peer's with a wrong tag is dropped.
+        let is_known = state != State::Closed && is_of_peer;
+        if is_known || destination_port(packet) != self.config.port {
+            return;
+        }
+        if let Some(answer) = self.strays.answer(packet, from, now) {
+            self.counts.strays += 1;
+            self.send_bytes(from, answer.to_vec());
         }
     }
 
@@ -694,8 +740,16 @@ fn is_init(packet: &[u8]) -> bool {
 }
 
 fn source_port(packet: &[u8]) -> u16 {
-    match packet {
-        [high, low, ..] => u16::from_be_bytes([*high, *low]),
+    half_at(packet, 0)
+}
+
+fn destination_port(packet: &[u8]) -> u16 {
+    half_at(packet, 2)
+}
+
+fn half_at(packet: &[u8], at: usize) -> u16 {
+    match packet.get(at..at + 2) {
+        Some([high, low]) => u16::from_be_bytes([*high, *low]),
         _ => 0,
     }
 }

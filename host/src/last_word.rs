@@ -35,12 +35,16 @@ impl LastWord {
         }
     }
 
-    /// What answers a whole packet that came after the end.
+    /// Whether a whole packet that came after the end is of the association that was shut down: held up on its way, or the peer's who waits for the last word.
+    pub fn is_late(&self, packet: &[u8]) -> bool {
+        self.closing.as_ref().map_or(false, |(tag, _)| packet.get(4..8) == Some(&tag.to_be_bytes()))
+    }
+
+    /// What answers a late packet.
     pub fn to_late(&self, packet: &[u8]) -> Option<&[u8]> {
-        let (tag, reply) = self.closing.as_ref()?;
+        let (_, reply) = self.closing.as_ref()?;
         let is_shutdown_ack = packet.get(HEADER) == Some(&SHUTDOWN_ACK);
-        let is_to_us = packet.get(4..8) == Some(&tag.to_be_bytes());
-        (is_shutdown_ack && is_to_us).then_some(reply.as_slice())
+        (is_shutdown_ack && self.is_late(packet)).then_some(reply.as_slice())
     }
 }
 
@@ -88,6 +92,11 @@ mod tests {
         assert_eq!(word.to_late(&shutdown_ack(5)), Some(&b"complete"[..]));
         assert_eq!(word.to_late(&shutdown_ack(6)), None);
         assert_eq!(word.to_late(&[0; 4]), None);
+        let mut data = shutdown_ack(5);
+        data[HEADER] = 0;
+        assert!(word.is_late(&data));
+        assert_eq!(word.to_late(&data), None);
+        assert!(!word.is_late(&shutdown_ack(6)));
     }
 
     #[test]

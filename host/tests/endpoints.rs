@@ -85,7 +85,7 @@ fn gives_up_on_a_peer_that_never_answers<L: Library>() {
     pair.ends[0].loses = Box::new(|_| true);
     pair.associate();
     assert!(pair.run_until(MINUTE * 10, |pair| pair.state(0) == State::Closed));
-    assert_eq!(pair.ends[0].events, [Event::Down(Why::NoAnswer)]);
+    assert_eq!(pair.ends[0].events, [Event::Quiet(Duration::from_secs(5)), Event::Down(Why::NoAnswer)]);
     assert_eq!(sent(&pair, 0, INIT), 9);
 }
 
@@ -348,7 +348,7 @@ fn a_stale_cookie_is_told_to_the_peer<L: Library>() {
     let (from, now) = (pair.ends[1].address, pair.now);
     pair.ends[0].endpoint.arrive(&init_ack, from, now);
     assert!(pair.run_until(MINUTE, |pair| pair.state(0) == State::Closed));
-    assert_eq!(pair.ends[0].events, [Event::Down(Why::StaleCookie)]);
+    assert_eq!(pair.ends[0].events, [Event::Quiet(Duration::from_secs(5)), Event::Heard, Event::Down(Why::StaleCookie)]);
     assert_eq!(pair.state(1), State::Closed);
 }
 

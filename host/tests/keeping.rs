@@ -6,6 +6,7 @@ mod pair;
 
 use modelled::Modelled;
 use oilwhisper::calls::State;
+use oilwhisper::endpoint::{Config, Event, Why};
 use oilwhisper::library::Library;
 use pair::*;
 use std::time::Duration;
@@ -98,9 +99,51 @@ fn a_peer_that_vanished_behind_a_closed_window_ends_it_at_the_eleventh_expiry<L:
     assert_eq!(expiries, 11);
 }
 
+/// A rail's settings, with the tests' first TSN.
+fn on_a_rail(end: usize) -> Config {
+    Config { first_tsn: config(end).first_tsn, ..Config::on_a_rail(PORTS[end]) }
+}
+
+fn a_peer_that_is_lost_shows_after_five_seconds<L: Library>() {
+    let mut pair = Pair::<L>::with(slow(5), 34, [on_a_rail(0), on_a_rail(1)]);
+    pair.associate();
+    assert!(pair.run_until(MINUTE, |pair| pair.are(State::Established)));
+    // An hour without a message is no silence: heartbeats are answered.
+    pair.run_for(MINUTE * 60);
+    assert!(pair.ends.iter().all(|end| end.events == [Event::Up]));
+    pair.ends[0].loses = Box::new(|_| true);
+    let last_heard = pair.now - pair.ends[1].endpoint.silence(pair.now);
+    assert!(pair.run_until(MINUTE, |pair| pair.ends[1].events.len() > 1));
+    assert_eq!(pair.ends[1].events, [Event::Up, Event::Quiet(pair.now - last_heard)]);
+    assert_eq!(pair.now - last_heard, SECOND * 5);
+    pair.run_for(SECOND * 5);
+    pair.ends[0].loses = Box::new(|_| false);
+    pair.run_for(MINUTE);
+    assert_eq!(pair.ends[1].events[2..], [Event::Heard]);
+    // Gone for good it is given up, long before six minutes.
+    pair.ends[0].loses = Box::new(|_| true);
+    let start = pair.now;
+    assert!(pair.run_until(MINUTE * 10, |pair| pair.state(1) == State::Closed));
+    assert_eq!(pair.ends[1].events.last(), Some(&Event::Down(Why::NoAnswer)));
+    assert!(pair.now - start < SECOND * 120, "{:?}", pair.now - start);
+}
+
+fn silence_shows_with_data_outstanding_too<L: Library>() {
+    let mut pair = Pair::<L>::up(slow(5), 35);
+    pair.ends[0].loses = Box::new(|_| true);
+    pair.run_for(MINUTE * 20 / 60);
+    pair.ends[0].endpoint.hand_in(b"into the void", 0, false, 0).expect("there is room");
+    let start = pair.now;
+    assert!(pair.run_until(MINUTE, |pair| pair.ends[0].events.len() > 1));
+    assert!(matches!(pair.ends[0].events[1], Event::Quiet(_)));
+    assert!(pair.now - start <= SECOND * 5, "{:?}", pair.now - start);
+}
+
 on_both! {
     acknowledged_messages_outlive_their_association
     a_third_association_waits_until_the_first_was_taken
     a_window_closed_for_an_hour_keeps_the_association_up
     a_peer_that_vanished_behind_a_closed_window_ends_it_at_the_eleventh_expiry
+    a_peer_that_is_lost_shows_after_five_seconds
+    silence_shows_with_data_outstanding_too
 }

@@ -6,7 +6,7 @@ mod pair;
 
 use modelled::Modelled;
 use oilwhisper::calls::State;
-use oilwhisper::endpoint::{Config, Endpoint};
+use oilwhisper::endpoint::{Config, Endpoint, Event, Why};
 use oilwhisper::library::Library;
 use oilwhisper::random::Random;
 use oilwhisper::relay::Weather;
@@ -155,6 +155,69 @@ fn who_asked_listens_again_when_told_to<L: Library>() {
     assert_eq!(pair.ends[0].astray.len(), 1);
 }
 
+fn a_packet_to_an_endpoint_that_lost_its_memory_is_answered_by_abort<L: Library>() {
+    let mut pair = Pair::<L>::up(slow(5), 25);
+    pair.ends[1].endpoint = Endpoint::new(config(1), Random::from_key([99; 32]), pair.now);
+    pair.ends[0].endpoint.hand_in(b"is anybody there?", 0, false, 0).expect("there is room");
+    let start = pair.now;
+    assert!(pair.run_until(MINUTE * 10, |pair| pair.state(0) == State::Closed));
+    assert_eq!(pair.ends[0].events.last(), Some(&Event::Down(Why::PeerAborted)));
+    assert_eq!(pair.now - start, Duration::from_millis(10));
+}
+
+fn a_shutdown_ack_to_an_endpoint_that_lost_its_memory_is_answered<L: Library>() {
+    let mut pair = Pair::<L>::up(slow(5), 26);
+    pair.ends[0].loses = Box::new(|packet| first_chunk(packet) == SHUTDOWN_COMPLETE);
+    let now = pair.now;
+    pair.ends[0].endpoint.shutdown(now).expect("an established association shuts down");
+    assert!(pair.run_until(MINUTE, |pair| pair.state(1) == State::ShutdownAckSent));
+    pair.ends[0].endpoint = Endpoint::new(config(0), Random::from_key([99; 32]), pair.now);
+    pair.ends[0].loses = Box::new(|_| false);
+    let start = pair.now;
+    assert!(pair.run_until(MINUTE * 10, |pair| pair.state(1) == State::Closed));
+    assert_eq!(pair.ends[1].events.last(), Some(&Event::Down(Why::ShutDown)));
+    assert!(pair.now - start < SECOND * 2);
+}
+
+/// A second sender that knows an association of which this end knows nothing is told so, and the one that is up goes on.
+fn packets_out_of_the_blue_are_answered_beside_an_association<L: Library>() {
+    let mut pair = with_strangers::<L>(slow(1), 27);
+    let data = [DATA, 3, 0, 20, 0, 0, 0, 1, 0, 0, 0, 0, 0, 0, 0, 0, 1, 2, 3, 4];
+    let before = pair.ends[1].endpoint.standing();
+    for n in 0..50 {
+        pair.arrive(1, &sealed(1, 5, &data), stranger(n));
+        // The same from the peer's own address is dropped (RFC 9260 section 8.5), and so is what is for another port.
+        let peer = pair.ends[0].address;
+        pair.arrive(1, &sealed(1, 5, &data), peer);
+        pair.arrive(1, &sealed(0, 5, &data), stranger(n));
+        pair.run_for(Duration::from_millis(10));
+    }
+    let astray = &pair.ends[1].astray;
+    // One in 100 ms.
+    assert_eq!(astray.len(), 5);
+    assert_eq!(astray[0].to, stranger(0));
+    assert_eq!(astray[0].packet, sealed(0, 5, &[ABORT, 1, 0, 4]));
+    assert_eq!((pair.ends[1].endpoint.standing(), pair.ends[1].sent.len()), (before, 2));
+}
+
+/// Held up on its way, a packet comes when this end has shut down and the other still waits for the last word.
+fn a_packet_that_comes_after_a_clean_end_spoils_nothing<L: Library>() {
+    let mut pair = Pair::<L>::up(slow(5), 30);
+    pair.ends[1].endpoint.hand_in(b"delayed", 0, false, 0).expect("there is room");
+    pair.run_for(SECOND);
+    let late = pair.ends[1].sent.last().expect("it was sent").clone();
+    assert_eq!(first_chunk(&late), DATA);
+    pair.ends[0].loses = loses_first(SHUTDOWN_COMPLETE, 1);
+    let now = pair.now;
+    pair.ends[0].endpoint.shutdown(now).expect("an established association shuts down");
+    assert!(pair.run_until(MINUTE, |pair| pair.state(0) == State::Closed));
+    let from = pair.ends[1].address;
+    pair.arrive(0, &late, from);
+    assert!(pair.run_until(MINUTE, |pair| pair.are(State::Closed)));
+    assert!(pair.ends.iter().all(|end| end.events.last() == Some(&Event::Down(Why::ShutDown))));
+    assert_eq!(sent(&pair, 0, ABORT), 0);
+}
+
 fn over_real_sockets_a_stranger_gets_nothing<L: Library>() {
     let bound = |last: u8| UdpSocket::bind(SocketAddr::from(([127, 0, 0, last], 0))).expect("loopback has the address");
     let endpoint = |end: usize| Endpoint::<L>::new(config(end), Random::from_key([end as u8; 32]), Instant::now());
@@ -199,5 +262,9 @@ on_both! {
     who_may_come_is_a_setting
     no_more_than_so_many_are_taken_up
     who_asked_listens_again_when_told_to
+    a_packet_to_an_endpoint_that_lost_its_memory_is_answered_by_abort
+    a_shutdown_ack_to_an_endpoint_that_lost_its_memory_is_answered
+    packets_out_of_the_blue_are_answered_beside_an_association
+    a_packet_that_comes_after_a_clean_end_spoils_nothing
     over_real_sockets_a_stranger_gets_nothing
 }

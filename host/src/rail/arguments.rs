@@ -2,6 +2,7 @@
 
 use super::Failure;
 use crate::admission::Network;
+use crate::endpoint::Config;
 use crate::pcap::ENCAPSULATION;
 use crate::relay::Weather;
 use std::net::{Ipv6Addr, SocketAddr, ToSocketAddrs};
@@ -64,10 +65,6 @@ pub struct Field {
     pub beats: Beats,
     pub pcap: Option<PathBuf>,
 }
-
-/// Seconds. RFC 9260 section 16 has 30 and 10, by which a rail would miss a head for six minutes.
-const HEARTBEAT: u64 = 5;
-const UNANSWERED: u64 = 5;
 
 const MESSAGES: u64 = 66_000;
 /// An index of a tile has 32 bits.
@@ -216,8 +213,9 @@ impl Options {
     }
 
     fn beats(&mut self) -> Result<Beats, Failure> {
-        let heartbeat = Duration::from_secs(self.number("--heartbeat", HEARTBEAT, 1, 3600)?);
-        let unanswered = self.number("--unanswered", UNANSWERED, 0, 100)? as u32;
+        let usual = Config::on_a_rail(0);
+        let heartbeat = Duration::from_secs(self.number("--heartbeat", usual.heartbeat.as_secs(), 1, 3600)?);
+        let unanswered = self.number("--unanswered", u64::from(usual.unanswered), 0, 100)? as u32;
         Ok(Beats { heartbeat, unanswered })
     }
 

@@ -23,26 +23,6 @@ pub enum Stage {
     Closed,
 }
 
-/// How long an end has not heard the other.
-#[derive(Clone, Copy, Debug)]
-struct Heard {
-    packets: u64,
-    at: Instant,
-}
-
-impl Heard {
-    fn new() -> Heard {
-        Heard { packets: 0, at: Instant::now() }
-    }
-
-    fn note<L: Library>(&mut self, endpoint: &Endpoint<L>, now: Instant) {
-        let packets = endpoint.counts().packets_received;
-        if packets != self.packets {
-            *self = Heard { packets, at: now };
-        }
-    }
-}
-
 /// What is to be done for one who wants the association ended: nothing of it is left open without the other end knowing.
 fn wind_up<L: Library>(endpoint: &mut Endpoint<L>, wish: Wish, now: Instant) {
     let state = endpoint.standing().state;
@@ -69,7 +49,7 @@ pub struct Head<L> {
     first_tsn: u32,
     has_handed_in_all: bool,
     why: Option<Why>,
-    heard: Heard,
+    is_quiet: bool,
     stop: Heeded,
 }
 
@@ -89,7 +69,7 @@ impl<L: Library> Head<L> {
             first_tsn,
             has_handed_in_all: false,
             why: None,
-            heard: Heard::new(),
+            is_quiet: false,
             stop: Heeded::of(stop),
         })
     }
@@ -110,7 +90,12 @@ impl<L: Library> Head<L> {
 
     /// How long nothing has come.
     pub fn silence(&self) -> Duration {
-        self.heard.at.elapsed()
+        self.line.endpoint.silence(Instant::now())
+    }
+
+    /// Whether the field computer owes an answer for too long.
+    pub fn is_quiet(&self) -> bool {
+        self.is_quiet
     }
 
     /// Whether the peer has acknowledged a TSN past the end of the circle.
@@ -140,11 +125,14 @@ impl<L: Library> Head<L> {
     pub fn turn(&mut self, longest: Duration) -> Result<(), Failure> {
         self.line.turn(longest).map_err(Failure::of_network)?;
         let now = Instant::now();
-        self.heard.note(&self.line.endpoint, now);
         while let Some(event) = self.line.endpoint.event() {
             self.stage = match event {
                 Event::Up => Stage::Open,
                 Event::Down(why) => self.closed(why)?,
+                Event::Quiet(_) | Event::Heard => {
+                    self.is_quiet = event != Event::Heard;
+                    self.stage
+                }
             };
         }
         if self.stage == Stage::Open && self.line.endpoint.standing().state != State::Established {
@@ -211,21 +199,13 @@ pub struct Field<L> {
     album: Album,
     differences: Vec<Difference>,
     stage: Stage,
-    heard: Heard,
+    is_quiet: bool,
     stop: Heeded,
 }
 
 impl<L: Library> Field<L> {
     pub fn new(line: Line<L>, stop: &Stop) -> Field<L> {
-        Field {
-            line,
-            head: None,
-            album: Album::default(),
-            differences: Vec::new(),
-            stage: Stage::Opening,
-            heard: Heard::new(),
-            stop: Heeded::of(stop),
-        }
+        Field { line, head: None, album: Album::default(), differences: Vec::new(), stage: Stage::Opening, is_quiet: false, stop: Heeded::of(stop) }
     }
 
     pub fn stage(&self) -> Stage {
@@ -247,7 +227,12 @@ impl<L: Library> Field<L> {
     }
 
     pub fn silence(&self) -> Duration {
-        self.heard.at.elapsed()
+        self.line.endpoint.silence(Instant::now())
+    }
+
+    /// Whether the head owes an answer for too long.
+    pub fn is_quiet(&self) -> bool {
+        self.is_quiet
     }
 
     pub fn is_asked_to_stop(&self) -> bool {
@@ -257,7 +242,6 @@ impl<L: Library> Field<L> {
     pub fn turn(&mut self, longest: Duration) -> Result<Turned, Failure> {
         self.line.turn(longest).map_err(Failure::of_network)?;
         let now = Instant::now();
-        self.heard.note(&self.line.endpoint, now);
         let mut turned = Turned::Nothing;
         while let Some(event) = self.line.endpoint.event() {
             turned = match event {
@@ -266,6 +250,10 @@ impl<L: Library> Field<L> {
                     Turned::Up
                 }
                 Event::Down(why) => Turned::Ended(why),
+                Event::Quiet(_) | Event::Heard => {
+                    self.is_quiet = event != Event::Heard;
+                    turned
+                }
             };
         }
         while let Some((taken, message)) = self.line.endpoint.take() {
@@ -293,6 +281,7 @@ impl<L: Library> Field<L> {
         self.head = self.line.endpoint.peer();
         self.album = Album::default();
         self.differences = Vec::new();
+        self.is_quiet = false;
         self.stage = Stage::Open;
     }
 }

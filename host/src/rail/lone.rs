@@ -67,6 +67,24 @@ fn config(port: u16, beats: arguments::Beats) -> Config {
     Config { streams: BANDS, heartbeat: beats.heartbeat, unanswered: beats.unanswered, ..Config::at_port(port) }
 }
 
+/// Tells once when the other end falls silent, and once when it is heard again.
+#[derive(Default)]
+struct Watch {
+    is_quiet: bool,
+}
+
+impl Watch {
+    fn look(&mut self, is_quiet: bool, lasted: Duration, who: &str, out: &mut dyn Write) {
+        if is_quiet != self.is_quiet {
+            self.is_quiet = is_quiet;
+            let _ = match is_quiet {
+                true => writeln!(out, "  the {} is silent{}", who, silence(lasted)),
+                false => writeln!(out, "  the {} is heard again", who),
+            };
+        }
+    }
+}
+
 fn line<L: Library>(socket: UdpSocket, config: Config, recording: &Recording) -> Result<Line<L>, Failure> {
     let here = socket.local_addr().map_err(Failure::of_network)?;
     let random = Random::from_system().map_err(|e| Failure(format!("the system gives no random numbers: {}", e)))?;
@@ -92,8 +110,12 @@ pub fn head<L: Library>(arguments: &arguments::Head, stop: &Stop, out: &mut dyn 
     let began = Instant::now();
     let mut ended = Ok(());
     let mut has_told_circle = false;
+    let mut watch = Watch::default();
     while ended.is_ok() && head.stage() != Stage::Closed {
         ended = head.turn(TURN);
+        if head.stage() != Stage::Opening {
+            watch.look(head.is_quiet(), head.silence(), "field computer", out);
+        }
         if head.has_closed_tsn_circle() && !has_told_circle {
             has_told_circle = true;
             let _ = writeln!(out, "  TSN 4,294,967,295 to 0");
@@ -198,11 +220,12 @@ pub fn field<L: Library>(arguments: &arguments::Field, stop: &Stop, out: &mut dy
     let mut visits = Visits::default();
     let mut began = Instant::now();
     let mut wraps = 0;
+    let mut watch = Watch::default();
     while arguments.count.map_or(true, |count| visits.heads < count) && (field.has_association() || stop.wish() == Wish::GoOn) {
         match field.turn(TURN)? {
             Turned::Nothing => {}
             Turned::Up => {
-                (began, wraps) = (Instant::now(), 0);
+                (began, wraps, watch) = (Instant::now(), 0, Watch::default());
                 if let Some(head) = field.head() {
                     let _ = writeln!(out, "field: {} is there", shown(head));
                 }
@@ -216,6 +239,9 @@ pub fn field<L: Library>(arguments: &arguments::Field, stop: &Stop, out: &mut dy
             let _ = writeln!(out, "  SSN 65,535 to 0 on band {}", band);
         }
         wraps = field.album().wrapped().len();
+        if field.has_association() {
+            watch.look(field.is_quiet(), field.silence(), "head", out);
+        }
         if field.has_association() && pace.is_due() {
             let _ = writeln!(out, "  {} tiles compared{}", grouped(field.album().tiles()), silence(field.silence()));
         }
