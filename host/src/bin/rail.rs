@@ -32,7 +32,7 @@ fn say(text: &str) -> ExitCode {
 
 fn run(command: Command) -> Result<Ended, Failure> {
     let out = &mut io::stdout();
-    let stop = Stop::on_signals().map_err(|e| Failure(format!("cannot hear Ctrl-C: {}", e)))?;
+    let stop = Stop::on_signals();
     match command {
         Command::Help | Command::Version => Ok(Ended::default()),
         Command::Demo(asked) => demo::run::<Proved>(&asked, &stop, out),

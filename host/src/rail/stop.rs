@@ -1,11 +1,7 @@
 //! Ctrl-C and SIGTERM: the first asks for a shutdown, the second for an abort.
 
-use signal_hook::consts::{SIGINT, SIGTERM};
-use signal_hook::iterator::Signals;
-use std::io;
 use std::sync::atomic::{AtomicUsize, Ordering};
 use std::sync::Arc;
-use std::thread;
 use std::time::{Duration, Instant};
 
 /// How long a shutdown that was asked for may take before it becomes an abort.
@@ -20,32 +16,52 @@ pub enum Wish {
 
 /// How often the end was asked for.
 #[derive(Clone, Debug, Default)]
-pub struct Stop(Arc<AtomicUsize>);
+pub struct Stop {
+    asked: Arc<AtomicUsize>,
+    hears_signals: bool,
+}
 
 impl Stop {
     /// Counts the process's signals from now on.
-    pub fn on_signals() -> io::Result<Stop> {
-        let stop = Stop::default();
-        let mut signals = Signals::new([SIGINT, SIGTERM])?;
-        let counted = stop.clone();
-        thread::spawn(move || {
-            for _ in signals.forever() {
-                counted.ask();
-            }
-        });
-        Ok(stop)
+    pub fn on_signals() -> Stop {
+        hear_signals();
+        Stop { hears_signals: true, ..Stop::default() }
     }
 
     pub fn ask(&self) {
-        self.0.fetch_add(1, Ordering::Relaxed);
+        self.asked.fetch_add(1, Ordering::Relaxed);
     }
 
     pub fn wish(&self) -> Wish {
-        match self.0.load(Ordering::Relaxed) {
+        let signals = if self.hears_signals { SIGNALS.load(Ordering::Relaxed) } else { 0 };
+        match self.asked.load(Ordering::Relaxed) + signals {
             0 => Wish::GoOn,
             1 => Wish::ShutDown,
             _ => Wish::Abort,
         }
+    }
+}
+
+static SIGNALS: AtomicUsize = AtomicUsize::new(0);
+
+/// Linux's numbers.
+const SIGINT: i32 = 2;
+const SIGTERM: i32 = 15;
+
+extern "C" fn count(_: i32) {
+    SIGNALS.fetch_add(1, Ordering::Relaxed);
+}
+
+extern "C" {
+    fn signal(number: i32, handler: extern "C" fn(i32)) -> usize;
+}
+
+/// A handler that adds to a counter and does no more: Debian's signal-hook keeps vectors on the stack, which its emulator of x86-64 does not align for a handler.
+fn hear_signals() {
+    for number in [SIGINT, SIGTERM] {
+        // C's `signal` is given a number that it knows and a function that lives as long as the process, and which may interrupt anything: it touches an
+        // atomic counter alone. It fails only for a number that it does not know.
+        unsafe { signal(number, count) };
     }
 }
 
@@ -93,6 +109,22 @@ mod tests {
         assert_eq!(heeded.wish(now), Wish::ShutDown);
         stop.ask();
         assert_eq!(heeded.wish(now), Wish::Abort);
+    }
+
+    #[test]
+    fn signals_are_counted_by_those_who_hear_them() {
+        let (hears, deaf) = (Stop::on_signals(), Stop::default());
+        assert_eq!(hears.wish(), Wish::GoOn);
+        for (signal, wish) in [("INT", Wish::ShutDown), ("TERM", Wish::Abort)] {
+            let sent = std::process::Command::new("sh").args(["-c", &format!("kill -{} {}", signal, std::process::id())]).status();
+            assert!(sent.map_or(false, |status| status.success()));
+            let until = Instant::now() + PATIENCE;
+            while hears.wish() != wish && Instant::now() < until {
+                std::thread::yield_now();
+            }
+            assert_eq!(hears.wish(), wish);
+        }
+        assert_eq!(deaf.wish(), Wish::GoOn);
     }
 
     #[test]
