@@ -230,7 +230,8 @@ impl<L: Library> Endpoint<L> {
         self.admission.listens = listens;
     }
 
-    /// Asks a peer for an association, and listens to no other from now on. Refused with `Refusal::STATE` also while there are messages to take of the two associations before.
+    /// Asks a peer for an association, and listens to no other from now on. Refused with `Refusal::STATE` also while there are messages to take of two
+    /// associations before.
     pub fn associate(&mut self, peer: SocketAddr, port: u16, now: Instant) -> Answer<()> {
         if self.core.standing().state == State::Closed && !self.make_room() {
             return self.counted(Err(Refusal::STATE));
@@ -398,7 +399,8 @@ impl<L: Library> Endpoint<L> {
         if self.heartbeat.is_due(now) {
             self.beat(now);
         }
-        if let Some(silence) = self.silence.ring(now) {
+        let is_over = self.core.standing().state == State::Closed;
+        if let Some(silence) = self.silence.ring(now).filter(|_| !is_over) {
             self.events.push_back(Event::Quiet(silence));
         }
     }
@@ -424,7 +426,7 @@ impl<L: Library> Endpoint<L> {
 
     /// An association with this peer begins: nothing of an earlier one is left.
     fn started(&mut self, peer: SocketAddr, now: Instant) {
-        self.path = Path::to(peer);
+        self.path.start(peer);
         self.silence.start(now);
         self.sack = DelayedSack::default();
         self.heartbeat = Heartbeat::every(self.config.heartbeat, self.config.unanswered, u64::from(self.random.word()));

@@ -18,9 +18,10 @@ pub struct Path {
 }
 
 impl Path {
-    /// The address that was asked for an association, or that echoed the cookie which was sent to it.
-    pub fn to(peer: SocketAddr) -> Path {
-        Path { peer: Some(peer), asked: None, asked_at: None }
+    /// An association begins with the address that was asked for it, or that echoed the cookie which was sent to it.
+    pub fn start(&mut self, peer: SocketAddr) {
+        self.peer = Some(peer);
+        self.asked = None;
     }
 
     pub fn peer(&self) -> Option<SocketAddr> {
@@ -67,9 +68,15 @@ mod tests {
         SocketAddr::from(([10, 0, 0, last], port))
     }
 
+    fn to(peer: SocketAddr) -> Path {
+        let mut path = Path::default();
+        path.start(peer);
+        path
+    }
+
     #[test]
     fn a_port_moves_at_once() {
-        let mut path = Path::to(address(1, 9899));
+        let mut path = to(address(1, 9899));
         assert!(!path.showed(address(1, 40_000), Instant::now()));
         assert_eq!(path.peer(), Some(address(1, 40_000)));
     }
@@ -77,7 +84,7 @@ mod tests {
     #[test]
     fn an_address_moves_when_its_nonce_comes_back_from_there() {
         let now = Instant::now();
-        let mut path = Path::to(address(1, 9899));
+        let mut path = to(address(1, 9899));
         assert!(path.showed(address(2, 9899), now));
         path.asks(address(2, 9899), [7; 8], now);
         assert_eq!(path.peer(), Some(address(1, 9899)));
@@ -93,9 +100,12 @@ mod tests {
     #[test]
     fn addresses_are_asked_once_a_second() {
         let now = Instant::now();
-        let mut path = Path::to(address(1, 9899));
+        let mut path = to(address(1, 9899));
         path.asks(address(2, 9899), [7; 8], now);
         assert!(!path.showed(address(3, 9899), now + CHECK_EVERY - Duration::from_millis(1)));
+        path.start(address(1, 9899));
+        assert!(!path.showed(address(3, 9899), now + CHECK_EVERY - Duration::from_millis(1)));
+        assert!(!path.answered(&[7; 8], address(2, 9899)));
         assert!(path.showed(address(3, 9899), now + CHECK_EVERY));
     }
 }
