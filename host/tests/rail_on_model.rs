@@ -85,14 +85,16 @@ fn a_field_computer_at_all_addresses_serves_one_head_after_another() {
     let port = free_port();
     let field_line = format!("field {} --count 2", port);
     let field = thread::spawn(move || well(&field_line));
-    for (address, messages) in [("127.0.0.1", 100), ("127.0.0.1", 50)] {
+    // Of both kinds, where the machine has both.
+    let other = if UdpSocket::bind("[::1]:0").is_ok() { "[::1]" } else { "127.0.0.1" };
+    for (address, messages) in [("127.0.0.1", 100), (other, 50)] {
         let (head, _) = well(&format!("head {}:{} --messages {}", address, port, messages));
         assert!(head.verdict.starts_with("the field computer has all"), "{}", head.verdict);
     }
     let (field, said) = field.join().expect("the field computer ends");
     assert_eq!(field.verdict, "all 168 tiles of 2 heads came once, in order, byte for byte");
     assert!(said.contains("112 tiles from 127.0.0.1:"), "{}", said);
-    assert!(said.contains("56 tiles from 127.0.0.1:"), "{}", said);
+    assert!(said.contains(&format!("56 tiles from {}:", other)), "{}", said);
 }
 
 /// A field computer and a head that have begun, each with what stops it.
@@ -163,6 +165,22 @@ fn a_head_says_where_nobody_listens_and_can_be_stopped() {
     let (head, said) = head.join().expect("the head ends");
     assert!(said.contains(&format!("  nobody listens at {} (port unreachable)\n", address)), "{}", said);
     assert!(head.was_stopped, "{:?}", head);
+}
+
+#[test]
+fn a_head_says_why_the_answer_is_refused() {
+    let peer = UdpSocket::bind("127.0.0.1:0").expect("there is a free port");
+    let address = peer.local_addr().expect("it has an address");
+    peer.set_read_timeout(Some(Duration::from_secs(20))).expect("it can wait");
+    let stop = Stop::default();
+    let asked = stop.clone();
+    let head = thread::spawn(move || run_until(&format!("head {}", address), &asked).unwrap_or_else(|failure| panic!("{}", failure)));
+    let (_, from) = peer.recv_from(&mut [0; 2048]).expect("it is asked");
+    peer.send_to(b"not today", from).expect("loopback carries it");
+    thread::sleep(Duration::from_millis(2500));
+    stop.ask();
+    let (_, said) = head.join().expect("the head ends");
+    assert!(said.contains(&format!("  {} answers, and its answer is refused: 2 (packet size)\n", address)), "{}", said);
 }
 
 #[test]
