@@ -279,11 +279,9 @@ impl<L: Library> World<L> {
                 let _ = endpoint.abort(Cause::User, now);
             }
             78..=81 => self.tried.listen(true),
-            82..=90 => {
-                if self.tried.associate(address(0), PORTS[0], now).is_ok() {
-                    self.answered = HashSet::from([address(0).ip()]);
-                    self.honest.listen(true);
-                }
+            82..=90 if self.tried.associate(address(0), PORTS[0], now).is_ok() => {
+                self.answered = HashSet::from([address(0).ip()]);
+                self.honest.listen(true);
             }
             // Two that ask each other are refused by each other until they give up.
             _ if self.tried.standing().state == State::Closed => {

@@ -243,8 +243,8 @@ fn over_real_sockets_a_stranger_gets_nothing<L: Library>() {
         }
         if is_up && last_init.elapsed() > Duration::from_millis(20) {
             last_init = Instant::now();
-            for end in 0..2 {
-                third.send_to(&init_to(end), addresses[end]).expect("loopback carries it");
+            for (end, address) in addresses.iter().enumerate() {
+                third.send_to(&init_to(end), address).expect("loopback carries it");
             }
         }
         assert!(third.recv(&mut buffer).is_err(), "the stranger got a packet of type {}", buffer[12]);
