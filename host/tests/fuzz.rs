@@ -430,7 +430,7 @@ fn endures<L: Library>(seed: u64, steps: u32) {
     assert!(highest[1] - highest[0] < 200_000, "{:?}", highest);
     world.seen.turned_away = world.tried.counts().turned_away;
     let seen = &world.seen;
-    let least = steps / 1000;
+    let least = steps / 5000;
     let counts = [seen.up, seen.down, seen.checks, seen.moves, seen.strays, seen.turned_away as u32, seen.taken];
     assert!(counts.iter().all(|count| *count > least), "{:?}", seen);
     // When nothing comes any more, every timer ends.
