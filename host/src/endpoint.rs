@@ -2,121 +2,35 @@
 //! the core's; here stands what it leaves to the host: timers, when to acknowledge, which round trips count, cookies, and the calls that verdicts name.
 
 use crate::acknowledging::DelayedSack;
-use crate::admission::{Admission, Network};
 use crate::association::{peek, Association};
 use crate::calls::{
-    Answer, Arrived, Cause, Echoed, Expired, Fate, Lent, Named, NotTaken, Peeked, Refusal, Standing, State, Taken, Turn, Verdict, MESSAGE_MOST,
-    OUTPUT,
+    Answer, Arrived, Cause, Expired, Fate, Named, NotTaken, Peeked, Refusal, Standing, State, Taken, Turn, Verdict, MESSAGE_MOST, OUTPUT,
 };
-use crate::cookie::{agreed, CookieJar, Judgement};
 use crate::counts::Counts;
-use crate::heartbeat::{self, Heartbeat};
-use crate::last_word::{chunk_at, LastWord};
+use crate::door::{Door, Prepared};
+use crate::heartbeat::Heartbeat;
+use crate::last_word::LastWord;
 use crate::library::Library;
+use crate::packet::{chunk_at, destination_port, first_chunk, source_port, tag, DATA, HEARTBEAT_ACK, INIT};
 use crate::path::Path;
 use crate::random::Random;
 use crate::round_trip::RoundTrip;
-use crate::silence::{self, Silence};
+use crate::silence::Silence;
 use crate::stray::Strays;
 use crate::timers::{Alarm, Timers};
 use std::collections::VecDeque;
-use std::fmt;
 use std::net::SocketAddr;
-use std::ops::Range;
 use std::time::{Duration, Instant};
 
-const DATA: u8 = 0;
+pub use crate::config::Config;
+pub use crate::event::{Event, Why};
+
 /// Of DATA's flags: the I bit (RFC 9260 section 3.3.1).
 const IMMEDIATELY: u8 = 8;
-const INIT: u8 = 1;
-const HEARTBEAT_ACK: u8 = 5;
 /// Where the value stands in a HEARTBEAT ACK of ours: behind the headers of the chunk and of its parameter.
 const HEARTBEAT_VALUE: usize = 8;
 /// RFC 9260 section 16: Max.Burst, the packets of DATA that go out at once (section 6.1 D).
 const BURST: usize = 4;
-/// Where a packet's verification tag stands, and its first chunk.
-const TAG: Range<usize> = 4..8;
-const FIRST_CHUNK: usize = 12;
-
-#[derive(Clone, Debug)]
-pub struct Config {
-    /// Our SCTP port, inside UDP.
-    pub port: u16,
-    /// The streams wanted for sending.
-    pub streams: u16,
-    /// Our first TSN, where it is not to be random.
-    pub first_tsn: Option<u32>,
-    /// How long an idle path waits for its next heartbeat, to which an RTO is added.
-    pub heartbeat: Duration,
-    /// So many heartbeats may go unanswered; after one more the association is over.
-    pub unanswered: u32,
-    /// How long a peer that owes an answer may be silent before that is an event. Beyond it an answer always has an RTO.
-    pub quiet: Duration,
-    /// Whether INITs are answered. Whoever asks for an association listens no longer, whatever stands here, until told to: see `Endpoint::listen`.
-    pub listens: bool,
-    /// From where INITs are answered; from everywhere, if nothing is said. There is no other test of who comes: a network that strangers can send into needs one.
-    pub admits: Option<Vec<Network>>,
-    /// How many associations are taken up in the endpoint's life, asked for by others; any number, if nothing is said. At once it is one.
-    pub most: Option<u64>,
-}
-
-impl Config {
-    /// As RFC 9260 section 16 has it, and listening to everyone.
-    pub fn at_port(port: u16) -> Config {
-        Config {
-            port,
-            streams: 8,
-            first_tsn: None,
-            heartbeat: heartbeat::INTERVAL,
-            unanswered: heartbeat::UNANSWERED_MOST,
-            quiet: silence::QUIET,
-            listens: true,
-            admits: None,
-            most: None,
-        }
-    }
-
-    /// On a rail's own network, where a peer that is lost should show within seconds: a heartbeat every 2 s, so that silence is an event 5 s after the last
-    /// packet, and an association that only listens is over after about 80 s.
-    pub fn on_a_rail(port: u16) -> Config {
-        Config { heartbeat: Duration::from_secs(2), unanswered: 5, ..Config::at_port(port) }
-    }
-}
-
-#[derive(Clone, Copy, Debug, PartialEq, Eq)]
-pub enum Event {
-    Up,
-    Down(Why),
-    /// The peer owes an answer and has not been heard for so long. The association is still up, or still asked for.
-    Quiet(Duration),
-    /// A peer that was quiet is heard again.
-    Heard,
-}
-
-#[derive(Clone, Copy, Debug, PartialEq, Eq)]
-pub enum Why {
-    ShutDown,
-    PeerAborted,
-    WeAborted(Cause),
-    StaleCookie,
-    HostName,
-    NoAnswer,
-}
-
-impl fmt::Display for Why {
-    fn fmt(&self, f: &mut fmt::Formatter) -> fmt::Result {
-        match self {
-            Why::ShutDown => write!(f, "shut down by both ends"),
-            Why::PeerAborted => write!(f, "aborted by the peer"),
-            Why::WeAborted(Cause::User) => write!(f, "aborted by this end"),
-            Why::WeAborted(Cause::NoData(tsn)) => write!(f, "aborted: DATA {} had no payload", tsn),
-            Why::WeAborted(Cause::Violation) => write!(f, "aborted: the peer broke the protocol"),
-            Why::StaleCookie => write!(f, "the cookie came back too late"),
-            Why::HostName => write!(f, "the peer wants a host name resolved"),
-            Why::NoAnswer => write!(f, "the peer does not answer"),
-        }
-    }
-}
 
 #[derive(Clone, Debug, PartialEq, Eq)]
 pub struct Datagram {
@@ -129,10 +43,9 @@ pub struct Endpoint<L> {
     /// The association before, while it has messages that were acknowledged and not taken.
     finished: Option<Association<L>>,
     config: Config,
-    admission: Admission,
+    door: Door,
     path: Path,
     random: Random,
-    jar: CookieJar,
     timers: Timers,
     sack: DelayedSack,
     heartbeat: Heartbeat,
@@ -150,35 +63,19 @@ pub struct Endpoint<L> {
     message: Box<[u8]>,
 }
 
-/// What was lent to the core with a packet, and what a verdict on it may need.
-struct Prepared {
-    lent: Lent,
-    echoed: Echoed,
-    /// Of a stale cookie: the port and tag to tell it to, and by how much it is late.
-    stale: Option<(u16, u32, Duration)>,
-}
-
-impl Prepared {
-    fn nothing() -> Prepared {
-        Prepared { lent: Lent::default(), echoed: Echoed::Bad, stale: None }
-    }
-}
-
 impl<L: Library> Endpoint<L> {
     pub fn new(config: Config, mut random: Random, now: Instant) -> Endpoint<L> {
-        let jar = CookieJar::new(random.key(), now);
+        let door = Door::new(&config, &mut random, now);
         let heartbeat = Heartbeat::every(config.heartbeat, config.unanswered, u64::from(random.word()));
-        let admission = Admission::new(config.listens, config.admits.clone(), config.most);
         Endpoint {
             core: Association::closed(config.port),
             finished: None,
             silence: Silence::after(config.quiet),
             strays: Strays::default(),
             config,
-            admission,
+            door,
             path: Path::default(),
             random,
-            jar,
             timers: Timers::default(),
             sack: DelayedSack::default(),
             heartbeat,
@@ -227,7 +124,7 @@ impl<L: Library> Endpoint<L> {
 
     /// Whether INITs are answered from now on.
     pub fn listen(&mut self, listens: bool) {
-        self.admission.listens = listens;
+        self.door.listen(listens);
     }
 
     /// Asks a peer for an association, and listens to no other from now on. Refused with `Refusal::STATE` also while there are messages to take of two
@@ -455,49 +352,26 @@ impl<L: Library> Endpoint<L> {
         }
     }
 
-    /// Makes a cookie for an INIT, or judges the one that is echoed, for a closed record, since no other reads either. None where no association is to be taken
-    /// up: an INIT is promised only what its cookie will get.
+    /// What is lent with a packet to a closed record, which alone reads an INIT or an echoed cookie. None where no association is to be taken up: an INIT is
+    /// promised only what its cookie will get.
     fn prepare(&mut self, packet: &[u8], from: SocketAddr, now: Instant) -> Option<Prepared> {
-        let seen = peek::<L>(packet);
-        let wants_to_open = matches!(seen, Peeked::Init(_) | Peeked::Echo { .. });
-        if wants_to_open && !self.admission.admits(from.ip()) {
-            return None;
-        }
-        match seen {
+        let prepared = match peek::<L>(packet) {
+            Peeked::Nothing | Peeked::Refused(_) => return Some(Prepared::nothing()),
+            _ if !self.door.admits(from.ip()) => return None,
+            Peeked::Init(_) if self.core.has_message() && self.has_finished_messages() => return None,
             Peeked::Init(init) => {
-                if self.core.has_message() && self.has_finished_messages() {
-                    return None;
-                }
                 let (tag, tsn) = (self.random.tag(), self.first_tsn());
-                let streams = self.config.streams;
-                let made = agreed(&init, tag, tsn, streams);
-                let cookie = self.jar.bake(made, from, init.source, now);
-                let lent = Lent { tag, tsn, streams, cookie };
-                Some(Prepared { lent, ..Prepared::nothing() })
+                self.door.invite(&init, from, tag, tsn, now)
             }
-            Peeked::Echo { at, len } => {
-                let prepared = self.judge_echo(packet, at, len, from, now);
-                let may_begin = !matches!(prepared.echoed, Echoed::Good(_)) || self.make_room();
-                may_begin.then_some(prepared)
-            }
-            Peeked::Nothing | Peeked::Refused(_) => Some(Prepared::nothing()),
-        }
-    }
-
-    fn judge_echo(&self, packet: &[u8], at: usize, len: usize, from: SocketAddr, now: Instant) -> Prepared {
-        let port = source_port(packet);
-        let cookie = packet.get(at..at + len).unwrap_or_default();
-        match self.jar.judge(cookie, from, port, now) {
-            Judgement::Bad => Prepared::nothing(),
-            Judgement::Good(made) => Prepared { echoed: Echoed::Good(made), ..Prepared::nothing() },
-            Judgement::Stale(made, late) => Prepared { echoed: Echoed::Stale(made), stale: Some((port, made.peer_tag, late)), ..Prepared::nothing() },
-        }
+            Peeked::Echo { at, len } => self.door.judge(packet, at, len, from, now),
+        };
+        (!prepared.opens() || self.make_room()).then_some(prepared)
     }
 
     /// The core took the packet as the peer's: sends its reply and does what the verdicts ask for.
     fn heed(&mut self, packet: &[u8], from: SocketAddr, before: &Standing, prepared: Prepared, arrived: Arrived, now: Instant) {
         let reply = self.out.get(..arrived.reply).unwrap_or_default().to_vec();
-        let shows_our_tag = before.state != State::Closed && packet.get(TAG) == Some(&before.my_tag.to_be_bytes());
+        let shows_our_tag = before.state != State::Closed && tag(packet) == Some(before.my_tag);
         if shows_our_tag && arrived.verdicts.iter().any(|verdict| verdict.fate == Fate::Accepted) {
             self.note_sender(from, now);
         }
@@ -506,7 +380,7 @@ impl<L: Library> Endpoint<L> {
         }
         // What answers an INIT goes to its sender and belongs to no association yet; everything else goes where the peer is known to be.
         match self.path.peer() {
-            Some(peer) if !is_init(packet) && before.state != State::Closed => self.send_bytes(peer, reply),
+            Some(peer) if first_chunk(packet) != Some(INIT) && before.state != State::Closed => self.send_bytes(peer, reply),
             _ => self.send_bytes(from, reply),
         }
         self.note_data(packet, &arrived.verdicts, now);
@@ -526,7 +400,7 @@ impl<L: Library> Endpoint<L> {
         }
         if self.path.showed(from, now) && self.core.standing().state.is_carrying() {
             let nonce = self.random.bytes();
-            // The reply to the packet has left the output already.
+            // The reply to the packet was taken from the output before.
             let answer = self.core.heartbeat(nonce, &mut self.out);
             if let Ok(length) = self.counted(answer) {
                 self.path.asks(from, nonce, now);
@@ -541,8 +415,7 @@ impl<L: Library> Endpoint<L> {
             Turn::Up => {
                 if before.state == State::Closed {
                     self.started(from, now);
-                    self.admission.took_up();
-                    self.jar.spend(self.core.standing().my_tag, now);
+                    self.door.opened(self.core.standing().my_tag, now);
                     self.last_word.opened(chunk_at(packet, verdict.at), reply);
                 }
                 self.events.push_back(Event::Up);
@@ -649,7 +522,7 @@ impl<L: Library> Endpoint<L> {
         if refusal != Refusal::TAG || peek::<L>(packet) != Peeked::Nothing {
             return;
         }
-        let is_of_peer = self.path.is_of_peer(from) && source_port(packet) == self.core.record().ends.peer_port;
+        let is_of_peer = self.path.is_of_peer(from) && source_port(packet) == Some(self.core.record().ends.peer_port);
         if state == State::Closed && is_of_peer && self.last_word.is_late(packet) {
             // An ABORT would make a failure of an end that was clean.
             let again = self.last_word.to_late(packet).map(<[u8]>::to_vec);
@@ -658,7 +531,7 @@ impl<L: Library> Endpoint<L> {
         }
         // RFC 9260 section 8.5: a packet of the peer's with a wrong tag is dropped.
         let is_known = state != State::Closed && is_of_peer;
-        if is_known || destination_port(packet) != self.config.port {
+        if is_known || destination_port(packet) != Some(self.config.port) {
             return;
         }
         if let Some(answer) = self.strays.answer(packet, from, now) {
@@ -734,24 +607,5 @@ impl<L: Library> Endpoint<L> {
         let length = self.counted(answer).ok()?;
         self.send_to_peer(length);
         Some(value)
-    }
-}
-
-fn is_init(packet: &[u8]) -> bool {
-    packet.get(FIRST_CHUNK) == Some(&INIT)
-}
-
-fn source_port(packet: &[u8]) -> u16 {
-    half_at(packet, 0)
-}
-
-fn destination_port(packet: &[u8]) -> u16 {
-    half_at(packet, 2)
-}
-
-fn half_at(packet: &[u8], at: usize) -> u16 {
-    match packet.get(at..at + 2) {
-        Some([high, low]) => u16::from_be_bytes([*high, *low]),
-        _ => 0,
     }
 }

@@ -1,20 +1,11 @@
 //! Packets out of the blue (RFC 9260 section 8.4): well formed, to our port, and of no association that we know. Whoever sends one learns that there is none.
 
 use crate::checksum;
-use crate::last_word::chunk_at;
+use crate::packet::{chunks, ABORT, COOKIE_ACK, COOKIE_ECHO, ERROR, INIT, INIT_ACK, SHUTDOWN_ACK, SHUTDOWN_COMPLETE};
 use std::net::{IpAddr, SocketAddr};
 use std::time::{Duration, Instant};
 
-const INIT: u8 = 1;
-const INIT_ACK: u8 = 2;
-const ABORT: u8 = 6;
-const SHUTDOWN_ACK: u8 = 8;
-const ERROR: u8 = 9;
-const COOKIE_ECHO: u8 = 10;
-const COOKIE_ACK: u8 = 11;
-const SHUTDOWN_COMPLETE: u8 = 14;
 const STALE_COOKIE: [u8; 2] = [0, 3];
-const HEADER: usize = 12;
 /// The tag is that of the packet which is answered.
 const T: u8 = 1;
 
@@ -51,15 +42,6 @@ fn kind_of_answer(packet: &[u8]) -> Option<u8> {
     } else {
         Some(ABORT)
     }
-}
-
-fn chunks(packet: &[u8]) -> impl Iterator<Item = &[u8]> {
-    let mut at = HEADER;
-    std::iter::from_fn(move || {
-        let chunk = chunk_at(packet, at);
-        at += (chunk.len() + 3) & !3;
-        (chunk.len() >= 4).then_some(chunk)
-    })
 }
 
 /// A packet of one empty chunk, back to the port that it came from with the tag that it came with.

@@ -58,6 +58,31 @@ fn carries_both_ways_in_any_weather<L: Library>() {
     }
 }
 
+/// Every doubled RTO is ended by the heartbeat beside it, so that a bad path is slow and does not stand still.
+fn carries_at_twenty_percent_loss<L: Library>() {
+    let lossy = Weather { loss: 0.2, ..slow(5) };
+    for seed in 0..3 {
+        let mut pair = Pair::<L>::up(lossy, seed);
+        let mut plan = Plan::of(1000).peekable();
+        let mut album = Album::default();
+        let start = pair.now;
+        let done = pair.run_until(MINUTE * 60, |pair| {
+            while let Some((band, index)) = plan.peek() {
+                match pair.ends[0].endpoint.hand_in(&tile(seed, *band, *index), *band, false, 7) {
+                    Ok(()) => plan.next(),
+                    Err(Refusal::FULL) => break,
+                    Err(refusal) => panic!("{}", refusal),
+                };
+            }
+            for (stream, ssn, message) in pair.ends[1].taken.drain(..) {
+                assert_eq!(album.add(stream, ssn, &message), Ok(()));
+            }
+            album.tiles() == Plan::total(1000)
+        });
+        assert!(done && pair.now - start < MINUTE * 2, "seed {}: {:?}", seed, pair.now - start);
+    }
+}
+
 fn opens_though_every_handshake_packet_is_lost_twice<L: Library>() {
     for (end, chunk) in [(0, INIT), (1, INIT_ACK), (0, COOKIE_ECHO), (1, COOKIE_ACK)] {
         let mut pair = Pair::<L>::new(slow(5), 2);
@@ -394,6 +419,7 @@ fn noise_changes_nothing<L: Library>() {
 on_both! {
     opens_and_shuts_down
     carries_both_ways_in_any_weather
+    carries_at_twenty_percent_loss
     opens_though_every_handshake_packet_is_lost_twice
     closes_though_every_farewell_is_lost_twice
     gives_up_on_a_peer_that_never_answers

@@ -279,11 +279,9 @@ impl<L: Library> World<L> {
                 let _ = endpoint.abort(Cause::User, now);
             }
             78..=81 => self.tried.listen(true),
-            82..=90 => {
-                if self.tried.associate(address(0), PORTS[0], now).is_ok() {
-                    self.answered = HashSet::from([address(0).ip()]);
-                    self.honest.listen(true);
-                }
+            82..=90 if self.tried.associate(address(0), PORTS[0], now).is_ok() => {
+                self.answered = HashSet::from([address(0).ip()]);
+                self.honest.listen(true);
             }
             // Two that ask each other are refused by each other until they give up.
             _ if self.tried.standing().state == State::Closed => {
@@ -432,7 +430,7 @@ fn endures<L: Library>(seed: u64, steps: u32) {
     assert!(highest[1] - highest[0] < 200_000, "{:?}", highest);
     world.seen.turned_away = world.tried.counts().turned_away;
     let seen = &world.seen;
-    let least = steps / 1000;
+    let least = steps / 5000;
     let counts = [seen.up, seen.down, seen.checks, seen.moves, seen.strays, seen.turned_away as u32, seen.taken];
     assert!(counts.iter().all(|count| *count > least), "{:?}", seen);
     // When nothing comes any more, every timer ends.
