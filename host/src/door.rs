@@ -49,7 +49,7 @@ impl Door {
     }
 
     /// An INIT is answered with this tag and first TSN of ours.
-    pub fn invite(&self, init: &Init, from: SocketAddr, tag: u32, tsn: u32, now: Instant) -> Prepared {
+    pub fn invite(&mut self, init: &Init, from: SocketAddr, tag: u32, tsn: u32, now: Instant) -> Prepared {
         let made = agreed(init, tag, tsn, self.streams);
         let cookie = self.jar.bake(made, from, init.source, now);
         Prepared { lent: Lent { tag, tsn, streams: self.streams, cookie }, ..Prepared::nothing() }
