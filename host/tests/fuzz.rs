@@ -39,6 +39,8 @@ const SHUTDOWN_COMPLETE: u8 = 14;
 struct Counting;
 
 thread_local! {
+    // Rust 1.63 makes it a constant, which its clippy then takes for one that could change.
+    #[allow(clippy::declare_interior_mutable_const)]
     static LIVE: Cell<isize> = const { Cell::new(0) };
 }
 
