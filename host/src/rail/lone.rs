@@ -113,7 +113,7 @@ pub fn head<L: Library>(arguments: &arguments::Head, stop: &Stop, out: &mut dyn 
     let mut watch = Watch::default();
     while ended.is_ok() && head.stage() != Stage::Closed {
         ended = head.turn(TURN);
-        if head.stage() != Stage::Opening {
+        if matches!(head.stage(), Stage::Open | Stage::Closing) {
             watch.look(head.is_quiet(), head.silence(), "field computer", out);
         }
         if head.has_closed_tsn_circle() && !has_told_circle {
