@@ -5,7 +5,7 @@ use crate::admission::Network;
 use crate::endpoint::Config;
 use crate::pcap::ENCAPSULATION;
 use crate::relay::Weather;
-use std::net::{Ipv6Addr, SocketAddr, ToSocketAddrs};
+use std::net::{Ipv4Addr, Ipv6Addr, SocketAddr, ToSocketAddrs};
 use std::path::PathBuf;
 use std::str::FromStr;
 use std::time::Duration;
@@ -45,7 +45,7 @@ pub struct Beats {
 pub struct Head {
     /// The field computer's.
     pub address: SocketAddr,
-    pub bind: Option<SocketAddr>,
+    pub bind: SocketAddr,
     pub port: u16,
     pub to_port: u16,
     pub messages: u64,
@@ -105,9 +105,13 @@ fn demo(mut options: Options) -> Result<Demo, Failure> {
 
 fn head(mut options: Options) -> Result<Head, Failure> {
     let to = options.plain.pop().ok_or_else(|| Failure(format!("the field computer's ADDRESS is missing, as in 192.0.2.7:{}", ENCAPSULATION)))?;
+    let address = address(&to)?;
     let head = Head {
-        address: address(&to)?,
-        bind: options.text("--bind").map(|text| listening_address(&text)).transpose()?,
+        address,
+        bind: match options.text("--bind") {
+            Some(text) => u16::from_str(&text).map(|port| anywhere(address, port)).or_else(|_| resolved(&text))?,
+            None => anywhere(address, 0),
+        },
         port: options.port("--port", HEAD_PORT)?,
         to_port: options.port("--to-port", FIELD_PORT)?,
         messages: options.number("--messages", MESSAGES, 1, MESSAGES_MOST)?,
@@ -136,6 +140,14 @@ fn address(text: &str) -> Result<SocketAddr, Failure> {
     match resolved(text)? {
         address if address.port() == 0 => Err(no_address(text, "port 0 is none to send to")),
         address => Ok(address),
+    }
+}
+
+/// All addresses of this machine from which the other can be reached.
+fn anywhere(other: SocketAddr, port: u16) -> SocketAddr {
+    match other {
+        SocketAddr::V4(_) => SocketAddr::from((Ipv4Addr::UNSPECIFIED, port)),
+        SocketAddr::V6(_) => SocketAddr::from((Ipv6Addr::UNSPECIFIED, port)),
     }
 }
 
@@ -290,14 +302,16 @@ mod tests {
         assert_eq!(field_at("field"), "[::]:9899");
         assert_eq!(field_at("field 7000"), "[::]:7000");
         assert_eq!(field_at("field 127.0.0.1:0"), "127.0.0.1:0");
-        match parsed("head [::1]:9899 --bind 127.0.0.1:7000 --to-port 7") {
-            Ok(Command::Head(head)) => {
-                assert_eq!(head.address.to_string(), "[::1]:9899");
-                assert_eq!(head.bind.map(|address| address.to_string()), Some("127.0.0.1:7000".to_string()));
-                assert_eq!((head.port, head.to_port), (5000, 7));
-            }
+        let head = |line: &str| match parsed(line) {
+            Ok(Command::Head(head)) => head,
             other => panic!("{:?}", other),
-        }
+        };
+        let asked = head("head [::1]:9899 --bind [::1]:7000 --to-port 7");
+        assert_eq!((asked.address.to_string(), asked.bind.to_string()), ("[::1]:9899".to_string(), "[::1]:7000".to_string()));
+        assert_eq!((asked.port, asked.to_port), (5000, 7));
+        assert_eq!(head("head [::1]:9899").bind.to_string(), "[::]:0");
+        assert_eq!(head("head 127.0.0.1:9899").bind.to_string(), "0.0.0.0:0");
+        assert_eq!(head("head 127.0.0.1:9899 --bind 7000").bind.to_string(), "0.0.0.0:7000");
     }
 
     #[test]

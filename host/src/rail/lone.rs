@@ -12,7 +12,7 @@ use crate::random::Random;
 use crate::tiles::{Plan, BANDS};
 use crate::udp::Line;
 use std::io::Write;
-use std::net::{Ipv4Addr, Ipv6Addr, SocketAddr, UdpSocket};
+use std::net::{SocketAddr, UdpSocket};
 use std::path::PathBuf;
 use std::time::{Duration, Instant};
 
@@ -93,11 +93,7 @@ fn line<L: Library>(socket: UdpSocket, config: Config, recording: &Recording) ->
 }
 
 pub fn head<L: Library>(arguments: &arguments::Head, stop: &Stop, out: &mut dyn Write) -> Result<Ended, Failure> {
-    let anywhere = match arguments.address {
-        SocketAddr::V4(_) => SocketAddr::from((Ipv4Addr::UNSPECIFIED, 0)),
-        SocketAddr::V6(_) => SocketAddr::from((Ipv6Addr::UNSPECIFIED, 0)),
-    };
-    let socket = bind(arguments.bind.unwrap_or(anywhere))?;
+    let socket = bind(arguments.bind)?;
     let recording = Recording::start(&arguments.pcap)?;
     // So that the system tells where nobody listens. Where it cannot, the line tells why nothing can be sent.
     let _ = socket.connect(arguments.address);
