@@ -99,7 +99,7 @@ struct Ledger {
 }
 
 impl Ledger {
-    fn message(&mut self, length: usize) -> Vec<u8> {
+    fn message(&self, length: usize) -> Vec<u8> {
         let mut message = self.handed_in.to_be_bytes().to_vec();
         message.resize(length.clamp(8, 512), 0);
         message
@@ -310,24 +310,20 @@ impl<L: Library> World<L> {
         let now = self.now;
         let length = 1 + self.chance.below(1500) as usize;
         let (stream, unordered) = (self.chance.below(8) as u16, self.chance.happens(0.2));
-        let endpoint = if self.chance.happens(0.5) { &mut self.tried } else { &mut self.honest };
+        let is_tried = self.chance.happens(0.5);
         // Refused or not, a call changes nothing that is not its to change.
         match self.chance.below(100) {
             0..=9 => {
                 let _ = self.tried.hand_in(&vec![7; length], stream, unordered, 0);
             }
-            10..=39 => {
-                if self.honest.hand_in(&self.ledger.message(length), stream, unordered, 0).is_ok() {
-                    self.ledger.was_handed_in();
-                }
-            }
+            10..=39 if self.honest.hand_in(&self.ledger.message(length), stream, unordered, 0).is_ok() => self.ledger.was_handed_in(),
             40..=68 => while self.takes && self.chance.happens(0.9) && self.take() {},
             69 => self.takes = !self.takes,
             70..=74 => {
-                let _ = endpoint.shutdown(now);
+                let _ = self.either(is_tried).shutdown(now);
             }
             75..=77 => {
-                let _ = endpoint.abort(Cause::User, now);
+                let _ = self.either(is_tried).abort(Cause::User, now);
             }
             78..=81 => self.tried.listen(true),
             82..=90 if self.tried.associate(address(0), PORTS[0], now).is_ok() => {
@@ -340,6 +336,14 @@ impl<L: Library> World<L> {
                 let _ = self.honest.associate(TRIED.into(), PORTS[1], now);
             }
             _ => {}
+        }
+    }
+
+    fn either(&mut self, is_tried: bool) -> &mut Endpoint<L> {
+        if is_tried {
+            &mut self.tried
+        } else {
+            &mut self.honest
         }
     }
 
