@@ -120,7 +120,7 @@ pub struct Standing {
     pub has_gap: bool,
     /// What a SACK would offer now.
     pub window: u32,
-    /// What the peer's last SACK left to us.
+    /// The window that the peer's last SACK offered.
     pub peer_window: u32,
 }
 

@@ -1,6 +1,6 @@
 //! An endpoint among four addresses, one of which is its peer's: sealed packets with right and wrong ports and tags come from all of them at random moments,
 //! between those of an honest association and the calls of a user. Held at every step: nothing of an association goes to an address that has not answered,
-//! every timer moves on or ends, and no queue and no memory grows.
+//! every timer moves on or ends, and no queue and no memory grows; and where nobody knows a tag who should not, every message that was acknowledged is taken.
 
 mod modelled;
 
@@ -19,6 +19,7 @@ use std::time::{Duration, Instant};
 /// Emulated, it is a tenth of what runs natively.
 const STEPS: u32 = if cfg!(feature = "proved") { 20_000 } else { 200_000 };
 const PORTS: [u16; 2] = [5000, 5001];
+const FIRST_TSN: u32 = u32::MAX - 99;
 /// Where the tried endpoint is.
 const TRIED: ([u8; 4], u16) = ([10, 0, 0, 99], 9899);
 const KEPT: usize = 64;
@@ -89,9 +90,49 @@ struct Seen {
     taken: u32,
 }
 
+/// The honest end's messages, each of one chunk and with a number of its own.
+#[derive(Default)]
+struct Ledger {
+    handed_in: u64,
+    /// Of this association, in the order of their TSNs.
+    present: Vec<u64>,
+    acknowledged: HashSet<u64>,
+    taken: HashSet<u64>,
+}
+
+impl Ledger {
+    fn message(&self, length: usize) -> Vec<u8> {
+        let mut message = self.handed_in.to_be_bytes().to_vec();
+        message.resize(length.clamp(8, 512), 0);
+        message
+    }
+
+    fn was_handed_in(&mut self) {
+        self.present.push(self.handed_in);
+        self.handed_in += 1;
+    }
+
+    /// The association stands here, or ended here: everything up to this TSN was acknowledged.
+    fn ended(&mut self, acked: u32) {
+        let count = acked.wrapping_sub(FIRST_TSN.wrapping_sub(1)) as usize;
+        self.acknowledged.extend(self.present.drain(..).take(count));
+    }
+
+    fn took(&mut self, message: &[u8]) {
+        let number = u64::from(word(message, 0)) << 32 | u64::from(word(message, 4));
+        assert!(number < self.handed_in, "{} was never handed in", number);
+        assert!(self.taken.insert(number), "{} was taken twice", number);
+    }
+}
+
 struct World<L> {
     now: Instant,
     chance: Seeded,
+    /// Strangers know the tags of the association, and answer what they are asked.
+    knows_tags: bool,
+    /// The user has time to take messages.
+    takes: bool,
+    ledger: Ledger,
     tried: Endpoint<L>,
     honest: Endpoint<L>,
     /// Packets on their way to the tried endpoint and to the honest one.
@@ -107,15 +148,18 @@ struct World<L> {
 }
 
 impl<L: Library> World<L> {
-    fn new(seed: u64) -> World<L> {
+    fn new(seed: u64, knows_tags: bool) -> World<L> {
         let now = Instant::now();
         let endpoint = |n: usize| {
-            let config = Config { heartbeat: Duration::from_secs(2), unanswered: 2, first_tsn: Some(u32::MAX - 99), ..Config::at_port(PORTS[n]) };
+            let config = Config { heartbeat: Duration::from_secs(2), unanswered: 2, first_tsn: Some(FIRST_TSN), ..Config::at_port(PORTS[n]) };
             Endpoint::new(config, Random::from_key([seed as u8 ^ n as u8; 32]), now)
         };
         World {
             now,
             chance: Seeded::new(seed),
+            knows_tags,
+            takes: true,
+            ledger: Ledger::default(),
             tried: endpoint(1),
             honest: endpoint(0),
             ways: [VecDeque::new(), VecDeque::new()],
@@ -187,7 +231,11 @@ impl<L: Library> World<L> {
             }
             assert!(count < 8, "more than 8 events at once");
         }
-        while self.honest.event().is_some() {}
+        while let Some(event) = self.honest.event() {
+            if matches!(event, Event::Down(_)) {
+                self.ledger.ended(self.honest.standing().acked);
+            }
+        }
         while self.honest.take().is_some() {}
     }
 
@@ -232,7 +280,7 @@ impl<L: Library> World<L> {
         let fate = self.chance.below(100);
         if self.chance.happens(0.5) {
             if let Some(packet) = self.ways[0].pop_front() {
-                let from = if fate < 3 { address(self.chance.below(4)) } else { address(0) };
+                let from = if fate < 8 { address(self.chance.below(4)) } else { address(0) };
                 if fate < 95 {
                     self.arrive(&packet, from);
                 }
@@ -262,23 +310,22 @@ impl<L: Library> World<L> {
 
     fn use_it(&mut self) {
         let now = self.now;
-        let message = vec![self.chance.number() as u8; 1 + self.chance.below(1500) as usize];
-        let endpoint = if self.chance.happens(0.5) { &mut self.tried } else { &mut self.honest };
+        let length = 1 + self.chance.below(1500) as usize;
+        let (stream, unordered) = (self.chance.below(8) as u16, self.chance.happens(0.2));
+        let is_tried = self.chance.happens(0.5);
         // Refused or not, a call changes nothing that is not its to change.
         match self.chance.below(100) {
-            0..=39 => {
-                let _ = endpoint.hand_in(&message, self.chance.below(8) as u16, self.chance.happens(0.2), 0);
+            0..=9 => {
+                let _ = self.tried.hand_in(&vec![7; length], stream, unordered, 0);
             }
-            40..=69 => {
-                while self.chance.happens(0.9) && self.tried.take().is_some() {
-                    self.seen.taken += 1;
-                }
-            }
+            10..=39 if self.honest.hand_in(&self.ledger.message(length), stream, unordered, 0).is_ok() => self.ledger.was_handed_in(),
+            40..=68 => while self.takes && self.chance.happens(0.9) && self.take() {},
+            69 => self.takes = !self.takes,
             70..=74 => {
-                let _ = endpoint.shutdown(now);
+                let _ = self.either(is_tried).shutdown(now);
             }
             75..=77 => {
-                let _ = endpoint.abort(Cause::User, now);
+                let _ = self.either(is_tried).abort(Cause::User, now);
             }
             78..=81 => self.tried.listen(true),
             82..=90 if self.tried.associate(address(0), PORTS[0], now).is_ok() => {
@@ -294,6 +341,27 @@ impl<L: Library> World<L> {
         }
     }
 
+    fn either(&mut self, is_tried: bool) -> &mut Endpoint<L> {
+        if is_tried {
+            &mut self.tried
+        } else {
+            &mut self.honest
+        }
+    }
+
+    fn take(&mut self) -> bool {
+        let taken = match self.tried.take() {
+            Some((_, message)) if !self.knows_tags => {
+                self.ledger.took(message);
+                true
+            }
+            // Whoever knows the tag can put a message in another's place.
+            taken => taken.is_some(),
+        };
+        self.seen.taken += u32::from(taken);
+        taken
+    }
+
     /// A stranger that was sent something does what an honest peer would: echoes a cookie, or answers a heartbeat.
     fn answer_as_a_stranger(&mut self) {
         let Datagram { to, packet } = match self.to_strangers.pop_front() {
@@ -306,7 +374,10 @@ impl<L: Library> World<L> {
                 let cookie = packet.get(36..32 + length).unwrap_or_default();
                 self.packet(word(&packet, 16), &[chunk(COOKIE_ECHO, 0, cookie)])
             }
-            HEARTBEAT => self.packet(self.tried.standing().my_tag, &[chunk(HEARTBEAT_ACK, 0, &packet[16..28])]),
+            // Without the tag it can answer only what is its own.
+            HEARTBEAT if self.knows_tags || self.tried.peer() == Some(to) => {
+                self.packet(self.tried.standing().my_tag, &[chunk(HEARTBEAT_ACK, 0, &packet[16..28])])
+            }
             _ => return,
         };
         self.arrive(&answer, to);
@@ -334,11 +405,11 @@ impl<L: Library> World<L> {
         }
         let standing = self.tried.standing();
         let tag = match self.chance.below(10) {
-            0 => self.tried.core().record().ends.peer_tag,
+            0 if self.knows_tags => self.tried.core().record().ends.peer_tag,
             1 => self.chance.number() as u32,
             _ if chunks[0][0] == INIT => 0,
-            2..=6 => self.chance.number() as u32 & 0xff,
-            _ => standing.my_tag,
+            _ if self.knows_tags && self.chance.happens(0.4) => standing.my_tag,
+            _ => self.chance.number() as u32 & 0xff,
         };
         let mut packet = self.packet(tag, &chunks);
         if self.chance.happens(0.1) {
@@ -418,8 +489,8 @@ fn keep<T>(queue: &mut VecDeque<T>, item: T) {
     queue.push_back(item);
 }
 
-fn endures<L: Library>(seed: u64, steps: u32) {
-    let mut world = World::<L>::new(seed);
+fn endures<L: Library>(seed: u64, knows_tags: bool, steps: u32) {
+    let mut world = World::<L>::new(seed, knows_tags);
     let mut highest = [0; 2];
     for step in 0..steps {
         world.step();
@@ -433,9 +504,9 @@ fn endures<L: Library>(seed: u64, steps: u32) {
     world.seen.turned_away = world.tried.counts().turned_away;
     let seen = &world.seen;
     let least = steps / 5000;
-    let counts = [seen.up, seen.down, seen.checks, seen.moves, seen.strays, seen.turned_away as u32, seen.taken];
-    assert!(counts.iter().all(|count| *count > least), "{:?}", seen);
-    // When nothing comes any more, every timer ends.
+    let counts = [seen.up, seen.down, seen.checks, seen.strays, seen.turned_away as u32, seen.taken];
+    assert!(counts.iter().all(|count| *count > least) && (seen.moves > least || !knows_tags), "{:?}", seen);
+    // When nothing comes any more, every timer ends, and what was acknowledged is there.
     world.ways = [VecDeque::new(), VecDeque::new()];
     for moment in 0.. {
         assert!(moment < 1000, "the timers do not end");
@@ -449,17 +520,24 @@ fn endures<L: Library>(seed: u64, steps: u32) {
         while world.tried.outgoing().is_some() {}
     }
     assert_eq!(world.tried.standing().state, State::Closed);
+    while world.take() {}
+    world.ledger.ended(world.honest.standing().acked);
+    let Ledger { acknowledged, taken, .. } = &world.ledger;
+    assert!(knows_tags || acknowledged.len() > least as usize);
+    assert!(knows_tags || acknowledged.is_subset(taken), "{:?} were acknowledged and not taken", acknowledged.difference(taken));
 }
 
 #[test]
 fn an_endpoint_on_the_model_endures_whatever_comes() {
     for seed in 0..4 {
-        endures::<Modelled>(seed, STEPS / 4);
+        endures::<Modelled>(seed, seed < 2, STEPS / 4);
     }
 }
 
 #[cfg(feature = "proved")]
 #[test]
 fn an_endpoint_on_the_proved_library_endures_whatever_comes() {
-    endures::<oilwhisper::library::Proved>(4, STEPS / 4);
+    for seed in 4..6 {
+        endures::<oilwhisper::library::Proved>(seed, seed == 4, STEPS / 4);
+    }
 }
