@@ -1,5 +1,5 @@
-//! When a SACK is due (RFC 9260 section 6.2): with every second packet that brought DATA, else 200 ms after one, and at once where something is missing or came
-//! twice, or where a window that was nearly shut has opened again.
+//! When a SACK is due (RFC 9260 section 6.2): with every second packet that brought DATA, else 200 ms after one, and at once for the first DATA of an
+//! association (section 5.1), where something is missing or came twice, where the sender asks for it, or where a window that was nearly shut has opened again.
 
 use crate::calls::AREA;
 use std::time::{Duration, Instant};
@@ -11,6 +11,8 @@ const GROWTH: u32 = (AREA / 2) as u32;
 
 #[derive(Debug)]
 pub struct DelayedSack {
+    /// No SACK has gone out in this association.
+    is_first: bool,
     packets: u32,
     due: Option<Instant>,
     offered: u32,
@@ -18,7 +20,7 @@ pub struct DelayedSack {
 
 impl Default for DelayedSack {
     fn default() -> DelayedSack {
-        DelayedSack { packets: 0, due: None, offered: AREA as u32 }
+        DelayedSack { is_first: true, packets: 0, due: None, offered: AREA as u32 }
     }
 }
 
@@ -26,10 +28,10 @@ impl DelayedSack {
     /// A packet with DATA came.
     pub fn data_came(&mut self, at_once: bool, now: Instant) {
         self.packets += 1;
-        if at_once || self.packets >= PACKETS {
+        if at_once || self.is_first || self.packets >= PACKETS {
             self.due = Some(now);
         } else {
-            self.due = self.due.or(Some(now + DELAY));
+            self.due = self.due.or_else(|| Some(now + DELAY));
         }
     }
 
@@ -44,10 +46,15 @@ impl DelayedSack {
         self.due.map_or(false, |due| due <= now)
     }
 
+    /// A SACK went out that offers this window.
     pub fn sent(&mut self, window: u32) {
+        *self = DelayedSack { is_first: false, packets: 0, due: None, offered: window };
+    }
+
+    /// None can go out now.
+    pub fn drop_due(&mut self) {
         self.packets = 0;
         self.due = None;
-        self.offered = window;
     }
 
     pub fn next(&self) -> Option<Instant> {
@@ -59,11 +66,28 @@ impl DelayedSack {
 mod tests {
     use super::*;
 
+    /// One that has acknowledged the first DATA.
+    fn begun() -> DelayedSack {
+        let mut sack = DelayedSack::default();
+        sack.sent(AREA as u32);
+        sack
+    }
+
     #[test]
-    fn the_first_packet_waits_and_the_second_does_not() {
+    fn the_first_data_of_all_waits_for_nothing() {
         let now = Instant::now();
         let mut sack = DelayedSack::default();
         assert_eq!(sack.next(), None);
+        sack.data_came(false, now);
+        assert!(sack.is_due(now));
+        sack.drop_due();
+        assert_eq!(sack.next(), None);
+    }
+
+    #[test]
+    fn the_first_packet_waits_and_the_second_does_not() {
+        let now = Instant::now();
+        let mut sack = begun();
         sack.data_came(false, now);
         assert!(!sack.is_due(now));
         assert!(sack.is_due(now + DELAY));
@@ -74,7 +98,7 @@ mod tests {
     #[test]
     fn a_sack_that_was_sent_ends_the_count() {
         let now = Instant::now();
-        let mut sack = DelayedSack::default();
+        let mut sack = begun();
         sack.data_came(false, now);
         sack.sent(AREA as u32);
         assert_eq!(sack.next(), None);
@@ -85,7 +109,7 @@ mod tests {
     #[test]
     fn a_gap_or_a_duplicate_waits_for_nothing() {
         let now = Instant::now();
-        let mut sack = DelayedSack::default();
+        let mut sack = begun();
         sack.data_came(true, now);
         assert!(sack.is_due(now));
     }
@@ -93,7 +117,7 @@ mod tests {
     #[test]
     fn a_window_that_opened_is_told() {
         let now = Instant::now();
-        let mut sack = DelayedSack::default();
+        let mut sack = begun();
         sack.window_is(AREA as u32, now);
         assert_eq!(sack.next(), None);
         sack.sent(1024);

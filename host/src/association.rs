@@ -60,6 +60,7 @@ impl<L: Library> Association<L> {
             next_tsn: sending.next_tsn,
             has_gap: receiving.keeping.come.contains(&1),
             window: (free * PAYLOAD) as u32,
+            peer_window: sending.advertised,
         }
     }
 
@@ -94,6 +95,11 @@ impl<L: Library> Association<L> {
             ffi::SHORT => Err(NotTaken::Short(message.length)),
             number => Err(NotTaken::Refused(Refusal(number))),
         }
+    }
+
+    /// Whether there is a message to take: one that is asked for with no room at all is named and stays.
+    pub fn has_message(&mut self) -> bool {
+        matches!(self.take(&mut []), Err(NotTaken::Short(_)))
     }
 
     pub fn sack(&mut self, out: &mut [u8]) -> Answer<Acknowledged> {

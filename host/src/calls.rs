@@ -120,12 +120,19 @@ pub struct Standing {
     pub has_gap: bool,
     /// What a SACK would offer now.
     pub window: u32,
+    /// The window that the peer's last SACK offered.
+    pub peer_window: u32,
 }
 
 impl Standing {
     /// Whether T3 has something to wait for.
     pub fn has_outstanding(&self) -> bool {
         self.acked.wrapping_add(1) != self.next_tsn
+    }
+
+    /// Whether what is outstanding is a probe of a window that the peer has shut (RFC 9260 section 6.1 A).
+    pub fn is_probing(&self) -> bool {
+        self.has_outstanding() && (self.peer_window as usize) < PAYLOAD
     }
 }
 

@@ -1,16 +1,19 @@
 //! State cookies (RFC 9260 section 5.1.3): what an association starts from, when the cookie was made and for whom, signed with a key that only this
-//! endpoint has. Nothing is kept for an INIT; only cookies that were used are remembered, until they are too old to be good anyway.
+//! endpoint has and changes now and then. Nothing is kept for an INIT; only cookies that were used are remembered, until they are too old to be good anyway.
 
 use crate::calls::{Init, Made, STREAMS_MOST};
-use crate::hmac::{hmac_sha256, is_same_code, DIGEST};
+use crate::random::Random;
+use crate::signature::{is_signed, sign, Key, SIGNATURE};
 use std::net::{IpAddr, SocketAddr};
 use std::time::{Duration, Instant};
 
 /// RFC 9260 section 16: Valid.Cookie.Life.
 pub const LIFETIME: Duration = Duration::from_secs(60);
+/// A key signs for so long, and its cookies are known for as long again: longer than any is good.
+const KEY_LIFETIME: Duration = Duration::from_secs(600);
 
-const SIGNED: usize = 50;
-const COOKIE: usize = SIGNED + DIGEST;
+const SIGNED: usize = 52;
+const COOKIE: usize = SIGNED + SIGNATURE;
 
 #[derive(Clone, Copy, Debug, PartialEq, Eq)]
 pub enum Judgement {
@@ -21,17 +24,24 @@ pub enum Judgement {
 }
 
 pub struct CookieJar {
-    key: [u8; DIGEST],
+    /// What keys are made of. It signs nothing that anybody sees.
+    source: Random,
+    present: Key,
+    before: Option<Key>,
+    changed: Instant,
     opened: Instant,
     used: Vec<(u32, Instant)>,
 }
 
 impl CookieJar {
-    pub fn new(key: [u8; DIGEST], now: Instant) -> CookieJar {
-        CookieJar { key, opened: now, used: Vec::new() }
+    pub fn new(key: Key, now: Instant) -> CookieJar {
+        let mut source = Random::from_key(key);
+        let present = source.key();
+        CookieJar { source, present, before: None, changed: now, opened: now, used: Vec::new() }
     }
 
-    pub fn bake(&self, made: Made, from: SocketAddr, port: u16, now: Instant) -> Vec<u8> {
+    pub fn bake(&mut self, made: Made, from: SocketAddr, port: u16, now: Instant) -> Vec<u8> {
+        self.change_key(now);
         let mut cookie = Vec::with_capacity(COOKIE);
         cookie.extend_from_slice(&made.my_tag.to_be_bytes());
         cookie.extend_from_slice(&made.peer_tag.to_be_bytes());
@@ -42,9 +52,9 @@ impl CookieJar {
         cookie.extend_from_slice(&made.window.to_be_bytes());
         cookie.extend_from_slice(&self.age(now).to_be_bytes());
         cookie.extend_from_slice(&port.to_be_bytes());
-        cookie.extend_from_slice(&address_bytes(from.ip()));
-        let code = hmac_sha256(&self.key, &cookie);
-        cookie.extend_from_slice(&code);
+        cookie.extend_from_slice(&address_bytes(from));
+        let signature = sign(&self.present, &cookie);
+        cookie.extend_from_slice(&signature);
         cookie
     }
 
@@ -53,8 +63,8 @@ impl CookieJar {
         if cookie.len() != COOKIE {
             return Judgement::Bad;
         }
-        let (signed, code) = cookie.split_at(SIGNED);
-        if !is_same_code(&hmac_sha256(&self.key, signed), code) {
+        let (signed, signature) = cookie.split_at(SIGNED);
+        if !self.keys().any(|key| is_signed(key, signed, signature)) {
             return Judgement::Bad;
         }
         let mut fields = Fields(signed);
@@ -68,7 +78,7 @@ impl CookieJar {
             window: fields.word(),
         };
         let baked = Duration::from_millis(fields.double());
-        let is_for_this_peer = fields.half() == port && fields.0 == address_bytes(from.ip());
+        let is_for_this_peer = fields.half() == port && fields.0 == address_bytes(from);
         if !is_for_this_peer || self.used.iter().any(|(tag, _)| *tag == made.my_tag) {
             return Judgement::Bad;
         }
@@ -88,6 +98,19 @@ impl CookieJar {
     fn age(&self, now: Instant) -> u64 {
         now.saturating_duration_since(self.opened).as_millis() as u64
     }
+
+    /// The key that signs, and the one before it.
+    fn keys(&self) -> impl Iterator<Item = &Key> {
+        [Some(&self.present), self.before.as_ref()].into_iter().flatten()
+    }
+
+    fn change_key(&mut self, now: Instant) {
+        if now.saturating_duration_since(self.changed) >= KEY_LIFETIME {
+            self.before = Some(self.present);
+            self.present = self.source.key();
+            self.changed = now;
+        }
+    }
 }
 
 /// What an association starts from, if this INIT is answered with such a tag, first TSN and number of streams (RFC 9260 section 5.1.1).
@@ -103,11 +126,17 @@ pub fn agreed(init: &Init, my_tag: u32, my_tsn: u32, streams: u16) -> Made {
     }
 }
 
-fn address_bytes(address: IpAddr) -> [u8; 16] {
-    match address {
-        IpAddr::V4(four) => four.to_ipv6_mapped().octets(),
-        IpAddr::V6(six) => six.octets(),
-    }
+/// The address and its UDP port.
+fn address_bytes(address: SocketAddr) -> [u8; 18] {
+    let six = match address.ip() {
+        IpAddr::V4(four) => four.to_ipv6_mapped(),
+        IpAddr::V6(six) => six,
+    };
+    let mut bytes = [0; 18];
+    let (host, port) = bytes.split_at_mut(16);
+    host.copy_from_slice(&six.octets());
+    port.copy_from_slice(&address.port().to_be_bytes());
+    bytes
 }
 
 /// Reads fields from the head of a slice that has them.
@@ -145,7 +174,7 @@ mod tests {
     }
 
     fn jar(now: Instant) -> CookieJar {
-        CookieJar::new([9; DIGEST], now)
+        CookieJar::new([9; SIGNATURE], now)
     }
 
     #[test]
@@ -159,7 +188,7 @@ mod tests {
     #[test]
     fn a_cookie_past_its_lifetime_is_stale_by_so_much() {
         let now = Instant::now();
-        let jar = jar(now);
+        let mut jar = jar(now);
         let baked = now + Duration::from_secs(5);
         let cookie = jar.bake(MADE, peer(), 5001, baked);
         let late = Duration::from_millis(1500);
@@ -169,7 +198,7 @@ mod tests {
     #[test]
     fn any_changed_bit_makes_it_bad() {
         let now = Instant::now();
-        let jar = jar(now);
+        let mut jar = jar(now);
         let cookie = jar.bake(MADE, peer(), 5001, now);
         for bit in 0..cookie.len() * 8 {
             let mut changed = cookie.clone();
@@ -181,15 +210,39 @@ mod tests {
     #[test]
     fn another_length_key_port_or_address_makes_it_bad() {
         let now = Instant::now();
-        let jar = jar(now);
+        let mut jar = jar(now);
         let cookie = jar.bake(MADE, peer(), 5001, now);
         let stranger = SocketAddr::from(([192, 0, 2, 8], 9899));
+        let neighbour = SocketAddr::from(([192, 0, 2, 7], 9898));
         assert_eq!(jar.judge(&cookie[1..], peer(), 5001, now), Judgement::Bad);
         assert_eq!(jar.judge(&[], peer(), 5001, now), Judgement::Bad);
         assert_eq!(jar.judge(&cookie, peer(), 5002, now), Judgement::Bad);
         assert_eq!(jar.judge(&cookie, stranger, 5001, now), Judgement::Bad);
-        let other = CookieJar::new([8; DIGEST], now);
+        assert_eq!(jar.judge(&cookie, neighbour, 5001, now), Judgement::Bad);
+        let other = CookieJar::new([8; SIGNATURE], now);
         assert_eq!(other.judge(&cookie, peer(), 5001, now), Judgement::Bad);
+    }
+
+    #[test]
+    fn a_key_is_changed_and_the_one_before_still_known() {
+        let start = Instant::now();
+        let mut jar = jar(start);
+        let mut baked = |since: Duration| {
+            let now = start + since;
+            let cookie = jar.bake(MADE, peer(), 5001, now);
+            (now, cookie, jar.present)
+        };
+        let just_before = KEY_LIFETIME - Duration::from_millis(1);
+        let (first, old, one) = baked(just_before);
+        let (_, _, two) = baked(KEY_LIFETIME);
+        let (_, _, same) = baked(KEY_LIFETIME + just_before);
+        assert_ne!(one, two);
+        assert_eq!(two, same);
+        assert_eq!(jar.judge(&old, peer(), 5001, first + LIFETIME), Judgement::Good(MADE));
+        let third = start + KEY_LIFETIME * 2;
+        let new = jar.bake(MADE, peer(), 5001, third);
+        assert_eq!(jar.judge(&old, peer(), 5001, third), Judgement::Bad);
+        assert_eq!(jar.judge(&new, peer(), 5001, third), Judgement::Good(MADE));
     }
 
     #[test]

@@ -15,6 +15,10 @@ pub struct Counts {
     pub acknowledgements: u64,
     pub expiries: u64,
     pub last_words: u64,
+    /// INITs and cookies that nobody is asked about, since no association is taken up.
+    pub turned_away: u64,
+    /// Packets out of the blue that were answered.
+    pub strays: u64,
     refused: [u64; NUMBERS],
 }
 

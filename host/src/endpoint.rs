@@ -4,74 +4,33 @@
 use crate::acknowledging::DelayedSack;
 use crate::association::{peek, Association};
 use crate::calls::{
-    Answer, Arrived, Cause, Echoed, Expired, Fate, Lent, Named, NotTaken, Peeked, Refusal, Standing, State, Taken, Turn, Verdict, MESSAGE_MOST,
-    OUTPUT,
+    Answer, Arrived, Cause, Expired, Fate, Named, NotTaken, Peeked, Refusal, Standing, State, Taken, Turn, Verdict, MESSAGE_MOST, OUTPUT,
 };
-use crate::cookie::{agreed, CookieJar, Judgement};
 use crate::counts::Counts;
-use crate::heartbeat::{self, Heartbeat};
-use crate::last_word::{chunk_at, LastWord};
+use crate::door::{Door, Prepared};
+use crate::heartbeat::Heartbeat;
+use crate::last_word::LastWord;
 use crate::library::Library;
+use crate::packet::{chunk_at, destination_port, first_chunk, source_port, tag, DATA, HEARTBEAT_ACK, INIT};
+use crate::path::Path;
 use crate::random::Random;
 use crate::round_trip::RoundTrip;
+use crate::silence::Silence;
+use crate::stray::Strays;
 use crate::timers::{Alarm, Timers};
 use std::collections::VecDeque;
-use std::fmt;
 use std::net::SocketAddr;
 use std::time::{Duration, Instant};
 
-const DATA: u8 = 0;
-const HEARTBEAT_ACK: u8 = 5;
+pub use crate::config::Config;
+pub use crate::event::{Event, Why};
+
+/// Of DATA's flags: the I bit (RFC 9260 section 3.3.1).
+const IMMEDIATELY: u8 = 8;
 /// Where the value stands in a HEARTBEAT ACK of ours: behind the headers of the chunk and of its parameter.
 const HEARTBEAT_VALUE: usize = 8;
-
-#[derive(Clone, Copy, Debug)]
-pub struct Config {
-    /// Our SCTP port, inside UDP.
-    pub port: u16,
-    /// The streams wanted for sending.
-    pub streams: u16,
-    /// Our first TSN, where it is not to be random.
-    pub first_tsn: Option<u32>,
-    pub heartbeat: Duration,
-}
-
-impl Config {
-    pub fn at_port(port: u16) -> Config {
-        Config { port, streams: 8, first_tsn: None, heartbeat: heartbeat::INTERVAL }
-    }
-}
-
-#[derive(Clone, Copy, Debug, PartialEq, Eq)]
-pub enum Event {
-    Up,
-    Down(Why),
-}
-
-#[derive(Clone, Copy, Debug, PartialEq, Eq)]
-pub enum Why {
-    ShutDown,
-    PeerAborted,
-    WeAborted(Cause),
-    StaleCookie,
-    HostName,
-    NoAnswer,
-}
-
-impl fmt::Display for Why {
-    fn fmt(&self, f: &mut fmt::Formatter) -> fmt::Result {
-        match self {
-            Why::ShutDown => write!(f, "shut down by both ends"),
-            Why::PeerAborted => write!(f, "aborted by the peer"),
-            Why::WeAborted(Cause::User) => write!(f, "aborted by this end"),
-            Why::WeAborted(Cause::NoData(tsn)) => write!(f, "aborted: DATA {} had no payload", tsn),
-            Why::WeAborted(Cause::Violation) => write!(f, "aborted: the peer broke the protocol"),
-            Why::StaleCookie => write!(f, "the cookie came back too late"),
-            Why::HostName => write!(f, "the peer wants a host name resolved"),
-            Why::NoAnswer => write!(f, "the peer does not answer"),
-        }
-    }
-}
+/// RFC 9260 section 16: Max.Burst, the packets of DATA that go out at once (section 6.1 D).
+const BURST: usize = 4;
 
 #[derive(Clone, Debug, PartialEq, Eq)]
 pub struct Datagram {
@@ -81,13 +40,17 @@ pub struct Datagram {
 
 pub struct Endpoint<L> {
     core: Association<L>,
+    /// The association before, while it has messages that were acknowledged and not taken.
+    finished: Option<Association<L>>,
     config: Config,
-    peer: Option<SocketAddr>,
+    door: Door,
+    path: Path,
     random: Random,
-    jar: CookieJar,
     timers: Timers,
     sack: DelayedSack,
     heartbeat: Heartbeat,
+    silence: Silence,
+    strays: Strays,
     round_trip: RoundTrip,
     last_word: LastWord,
     counts: Counts,
@@ -100,32 +63,22 @@ pub struct Endpoint<L> {
     message: Box<[u8]>,
 }
 
-/// What was lent to the core with a packet, and what a verdict on it may need.
-struct Prepared {
-    lent: Lent,
-    echoed: Echoed,
-    /// Of a stale cookie: the port and tag to tell it to, and by how much it is late.
-    stale: Option<(u16, u32, Duration)>,
-}
-
-impl Prepared {
-    fn nothing() -> Prepared {
-        Prepared { lent: Lent::default(), echoed: Echoed::Bad, stale: None }
-    }
-}
-
 impl<L: Library> Endpoint<L> {
     pub fn new(config: Config, mut random: Random, now: Instant) -> Endpoint<L> {
-        let jar = CookieJar::new(random.key(), now);
+        let door = Door::new(&config, &mut random, now);
+        let heartbeat = Heartbeat::every(config.heartbeat, config.unanswered, u64::from(random.word()));
         Endpoint {
             core: Association::closed(config.port),
+            finished: None,
+            silence: Silence::after(config.quiet),
+            strays: Strays::default(),
             config,
-            peer: None,
+            door,
+            path: Path::default(),
             random,
-            jar,
             timers: Timers::default(),
             sack: DelayedSack::default(),
-            heartbeat: Heartbeat::every(config.heartbeat),
+            heartbeat,
             round_trip: RoundTrip::default(),
             last_word: LastWord::default(),
             counts: Counts::default(),
@@ -150,8 +103,13 @@ impl<L: Library> Endpoint<L> {
         &self.counts
     }
 
+    /// How long nothing was heard of the peer.
+    pub fn silence(&self, now: Instant) -> Duration {
+        self.silence.lasted(now)
+    }
+
     pub fn peer(&self) -> Option<SocketAddr> {
-        self.peer
+        self.path.peer()
     }
 
     /// The next packet to send.
@@ -164,12 +122,22 @@ impl<L: Library> Endpoint<L> {
         self.events.pop_front()
     }
 
-    /// Asks a peer for an association.
+    /// Whether INITs are answered from now on.
+    pub fn listen(&mut self, listens: bool) {
+        self.door.listen(listens);
+    }
+
+    /// Asks a peer for an association, and listens to no other from now on. Refused with `Refusal::STATE` also while there are messages to take of two
+    /// associations before.
     pub fn associate(&mut self, peer: SocketAddr, port: u16, now: Instant) -> Answer<()> {
+        if self.core.standing().state == State::Closed && !self.make_room() {
+            return self.counted(Err(Refusal::STATE));
+        }
         let (tag, tsn) = (self.random.tag(), self.first_tsn());
         let answer = self.core.associate(tag, tsn, port, self.config.streams, &mut self.out);
         let length = self.counted(answer)?;
-        self.started(peer);
+        self.started(peer, now);
+        self.listen(false);
         self.send(peer, length);
         self.timers.follow(&self.core.standing(), now);
         Ok(())
@@ -184,16 +152,35 @@ impl<L: Library> Endpoint<L> {
         Ok(())
     }
 
-    /// The next message that came, if there is one.
+    /// The next message that came, if there is one; those of the association before come first.
     pub fn take(&mut self) -> Option<(Taken, &[u8])> {
+        let taken = match self.take_of_finished() {
+            Some(taken) => taken,
+            None => self.take_of_present()?,
+        };
+        self.counts.messages_out += 1;
+        Some((taken, self.message.get(..taken.length).unwrap_or_default()))
+    }
+
+    /// Whether what `take` gives next is of the association before this one, whose streams and SSNs are others.
+    pub fn has_finished_messages(&mut self) -> bool {
+        self.finished.as_mut().map_or(false, Association::has_message)
+    }
+
+    fn take_of_finished(&mut self) -> Option<Taken> {
+        let taken = self.finished.as_mut()?.take(&mut self.message).ok();
+        if taken.is_none() {
+            self.finished = None;
+        }
+        taken
+    }
+
+    fn take_of_present(&mut self) -> Option<Taken> {
         if !self.may_take {
             return None;
         }
         match self.core.take(&mut self.message) {
-            Ok(taken) => {
-                self.counts.messages_out += 1;
-                Some((taken, self.message.get(..taken.length).unwrap_or_default()))
-            }
+            Ok(taken) => Some(taken),
             Err(NotTaken::Refused(Refusal::NOTHING)) => {
                 self.may_take = false;
                 None
@@ -205,6 +192,18 @@ impl<L: Library> Endpoint<L> {
             // The buffer has the length of the longest message.
             Err(NotTaken::Short(_)) => None,
         }
+    }
+
+    /// Makes a record free for a new association: one with messages to take is set aside. False where the place for it is taken; nothing new begins then.
+    fn make_room(&mut self) -> bool {
+        if !self.core.has_message() {
+            return true;
+        }
+        if self.has_finished_messages() {
+            return false;
+        }
+        self.finished = Some(std::mem::replace(&mut self.core, Association::closed(self.config.port)));
+        true
     }
 
     /// No more messages: closes when all that was handed in has come.
@@ -229,11 +228,21 @@ impl<L: Library> Endpoint<L> {
     pub fn arrive(&mut self, packet: &[u8], from: SocketAddr, now: Instant) {
         self.counts.packets_received += 1;
         let before = self.core.standing();
-        let prepared = self.prepare(packet, from, before.state, now);
+        let prepared = match before.state {
+            State::Closed => self.prepare(packet, from, now),
+            _ => Some(Prepared::nothing()),
+        };
+        let prepared = match prepared {
+            Some(prepared) => prepared,
+            None => {
+                self.counts.turned_away += 1;
+                return;
+            }
+        };
         let answer = self.core.arrive(packet, &prepared.lent, prepared.echoed, &mut self.out);
         match self.counted(answer) {
             Ok(arrived) => self.heed(packet, from, &before, prepared, arrived, now),
-            Err(refusal) => self.answer_late(packet, from, before.state, refusal),
+            Err(refusal) => self.answer_refused(packet, from, before.state, refusal, now),
         }
         self.timers.follow(&self.core.standing(), now);
     }
@@ -256,6 +265,9 @@ impl<L: Library> Endpoint<L> {
         let standing = self.core.standing();
         self.timers.follow(&standing, now);
         self.heartbeat.follow(&standing, now);
+        let waits = standing.state.is_opening() || standing.state.is_closing();
+        let waits_for_ack = standing.state.is_carrying() && standing.has_outstanding();
+        self.silence.follow(waits || waits_for_ack || self.heartbeat.is_awaited(), standing.rto, now);
     }
 
     /// Does what timers ask for at this moment; `flush` then sends.
@@ -270,7 +282,13 @@ impl<L: Library> Endpoint<L> {
             self.round_trip.spoil();
             self.may_send = true;
             match self.counted(answer) {
-                Ok(Expired::TriedAgain(length)) => self.send_to_peer(length),
+                Ok(Expired::TriedAgain(length)) => {
+                    self.send_to_peer(length);
+                    if alarm == Alarm::T3 {
+                        // Its round trip ends the doubled RTO, which what is sent again cannot (RFC 9260 section 6.3.3).
+                        self.ask(now);
+                    }
+                }
                 Ok(Expired::Over) => self.events.push_back(Event::Down(Why::NoAnswer)),
                 Err(_) => {}
             }
@@ -278,11 +296,15 @@ impl<L: Library> Endpoint<L> {
         if self.heartbeat.is_due(now) {
             self.beat(now);
         }
+        let is_over = self.core.standing().state == State::Closed;
+        if let Some(silence) = self.silence.ring(now).filter(|_| !is_over) {
+            self.events.push_back(Event::Quiet(silence));
+        }
     }
 
     /// When `expire` and `flush` are to be called next.
     pub fn next_moment(&self) -> Option<Instant> {
-        [self.timers.next(), self.sack.next(), self.heartbeat.next()].iter().flatten().min().copied()
+        [self.timers.next(), self.sack.next(), self.heartbeat.next(), self.silence.next()].iter().flatten().min().copied()
     }
 
     fn first_tsn(&mut self) -> u32 {
@@ -300,10 +322,11 @@ impl<L: Library> Endpoint<L> {
     }
 
     /// An association with this peer begins: nothing of an earlier one is left.
-    fn started(&mut self, peer: SocketAddr) {
-        self.peer = Some(peer);
+    fn started(&mut self, peer: SocketAddr, now: Instant) {
+        self.path.start(peer);
+        self.silence.start(now);
         self.sack = DelayedSack::default();
-        self.heartbeat = Heartbeat::every(self.config.heartbeat);
+        self.heartbeat = Heartbeat::every(self.config.heartbeat, self.config.unanswered, u64::from(self.random.word()));
         self.round_trip = RoundTrip::default();
         self.last_word.forget();
     }
@@ -324,59 +347,66 @@ impl<L: Library> Endpoint<L> {
     }
 
     fn send_to_peer(&mut self, length: usize) {
-        if let Some(peer) = self.peer {
+        if let Some(peer) = self.path.peer() {
             self.send(peer, length);
         }
     }
 
-    /// Makes a cookie for an INIT, or judges the one that is echoed. Only a closed record reads either.
-    fn prepare(&mut self, packet: &[u8], from: SocketAddr, state: State, now: Instant) -> Prepared {
-        if state != State::Closed {
-            return Prepared::nothing();
-        }
-        match peek::<L>(packet) {
+    /// What is lent with a packet to a closed record, which alone reads an INIT or an echoed cookie. None where no association is to be taken up: an INIT is
+    /// promised only what its cookie will get.
+    fn prepare(&mut self, packet: &[u8], from: SocketAddr, now: Instant) -> Option<Prepared> {
+        let prepared = match peek::<L>(packet) {
+            Peeked::Nothing | Peeked::Refused(_) => return Some(Prepared::nothing()),
+            _ if !self.door.admits(from.ip()) => return None,
+            Peeked::Init(_) if self.core.has_message() && self.has_finished_messages() => return None,
             Peeked::Init(init) => {
                 let (tag, tsn) = (self.random.tag(), self.first_tsn());
-                let streams = self.config.streams;
-                let made = agreed(&init, tag, tsn, streams);
-                let cookie = self.jar.bake(made, from, init.source, now);
-                let lent = Lent { tag, tsn, streams, cookie };
-                Prepared { lent, ..Prepared::nothing() }
+                self.door.invite(&init, from, tag, tsn, now)
             }
-            Peeked::Echo { at, len } => self.judge_echo(packet, at, len, from, now),
-            Peeked::Nothing | Peeked::Refused(_) => Prepared::nothing(),
-        }
-    }
-
-    fn judge_echo(&self, packet: &[u8], at: usize, len: usize, from: SocketAddr, now: Instant) -> Prepared {
-        let port = source_port(packet);
-        let cookie = packet.get(at..at + len).unwrap_or_default();
-        match self.jar.judge(cookie, from, port, now) {
-            Judgement::Bad => Prepared::nothing(),
-            Judgement::Good(made) => Prepared { echoed: Echoed::Good(made), ..Prepared::nothing() },
-            Judgement::Stale(made, late) => Prepared { echoed: Echoed::Stale(made), stale: Some((port, made.peer_tag, late)), ..Prepared::nothing() },
-        }
+            Peeked::Echo { at, len } => self.door.judge(packet, at, len, from, now),
+        };
+        (!prepared.opens() || self.make_room()).then_some(prepared)
     }
 
     /// The core took the packet as the peer's: sends its reply and does what the verdicts ask for.
     fn heed(&mut self, packet: &[u8], from: SocketAddr, before: &Standing, prepared: Prepared, arrived: Arrived, now: Instant) {
         let reply = self.out.get(..arrived.reply).unwrap_or_default().to_vec();
-        if before.state != State::Closed {
-            // RFC 6951 section 5.4: the peer is where its last packet came from.
-            self.peer = Some(from);
+        let shows_our_tag = before.state != State::Closed && tag(packet) == Some(before.my_tag);
+        if shows_our_tag && arrived.verdicts.iter().any(|verdict| verdict.fate == Fate::Accepted) {
+            self.note_sender(from, now);
         }
         for verdict in &arrived.verdicts {
             self.note_turn(packet, from, verdict, &reply, before, now);
         }
-        self.send_bytes(from, reply);
+        // What answers an INIT goes to its sender and belongs to no association yet; everything else goes where the peer is known to be.
+        match self.path.peer() {
+            Some(peer) if first_chunk(packet) != Some(INIT) && before.state != State::Closed => self.send_bytes(peer, reply),
+            _ => self.send_bytes(from, reply),
+        }
         self.note_data(packet, &arrived.verdicts, now);
         self.note_acknowledged(before, now);
         for verdict in &arrived.verdicts {
-            self.note_refusal(packet, from, verdict);
-            self.note_heartbeat(packet, verdict, now);
+            self.note_refusal(packet, verdict);
+            self.note_heartbeat(packet, from, verdict, now);
             self.make_named_call(verdict.named, prepared.stale, from, now);
         }
         self.may_send = true;
+    }
+
+    /// The peer was heard from this address, which may be new.
+    fn note_sender(&mut self, from: SocketAddr, now: Instant) {
+        if self.silence.heard(now) {
+            self.events.push_back(Event::Heard);
+        }
+        if self.path.showed(from, now) && self.core.standing().state.is_carrying() {
+            let nonce = self.random.bytes();
+            // The reply to the packet was taken from the output before.
+            let answer = self.core.heartbeat(nonce, &mut self.out);
+            if let Ok(length) = self.counted(answer) {
+                self.path.asks(from, nonce, now);
+                self.send(from, length);
+            }
+        }
     }
 
     fn note_turn(&mut self, packet: &[u8], from: SocketAddr, verdict: &Verdict, reply: &[u8], before: &Standing, now: Instant) {
@@ -384,8 +414,8 @@ impl<L: Library> Endpoint<L> {
             Turn::None => return,
             Turn::Up => {
                 if before.state == State::Closed {
-                    self.started(from);
-                    self.jar.spend(self.core.standing().my_tag, now);
+                    self.started(from, now);
+                    self.door.opened(self.core.standing().my_tag, now);
                     self.last_word.opened(chunk_at(packet, verdict.at), reply);
                 }
                 self.events.push_back(Event::Up);
@@ -407,15 +437,17 @@ impl<L: Library> Endpoint<L> {
     /// What the packet's DATA asks of the next SACK, of the taker and of T2. An opposite chunk is neither new nor a duplicate, and asks for nothing.
     fn note_data(&mut self, packet: &[u8], verdicts: &[Verdict], now: Instant) {
         let of_data = |verdict: &&Verdict| packet.get(verdict.at) == Some(&DATA);
+        let asks_for_it = |verdict: &Verdict| packet.get(verdict.at + 1).map_or(false, |flags| flags & IMMEDIATELY != 0);
         let has_come = |fate: Fate| fate == Fate::Accepted || fate == Fate::Refused(Refusal::STRAY);
         let asks_at_once = |fate: Fate| [Refusal::DUPLICATE, Refusal::WEDGED, Refusal::FAR].iter().any(|refusal| fate == Fate::Refused(*refusal));
         let new = verdicts.iter().filter(of_data).any(|verdict| has_come(verdict.fate));
+        let asked = verdicts.iter().filter(of_data).any(|verdict| has_come(verdict.fate) && asks_for_it(verdict));
         let again = verdicts.iter().filter(of_data).any(|verdict| asks_at_once(verdict.fate));
         if !new && !again {
             return;
         }
         let standing = self.core.standing();
-        self.sack.data_came(again || standing.has_gap, now);
+        self.sack.data_came(again || asked || standing.has_gap, now);
         if new {
             self.may_take = true;
             self.timers.restart_t2(&standing, now);
@@ -435,23 +467,26 @@ impl<L: Library> Endpoint<L> {
         }
     }
 
-    fn note_refusal(&mut self, packet: &[u8], from: SocketAddr, verdict: &Verdict) {
+    fn note_refusal(&mut self, packet: &[u8], verdict: &Verdict) {
         if let Fate::Refused(refusal) = verdict.fate {
             self.counts.refuse(refusal);
             if refusal == Refusal::STATE {
                 let again = self.last_word.to_echo(chunk_at(packet, verdict.at)).map(<[u8]>::to_vec);
-                self.repeat(from, again);
+                self.repeat(again);
             }
         }
     }
 
-    fn note_heartbeat(&mut self, packet: &[u8], verdict: &Verdict, now: Instant) {
+    fn note_heartbeat(&mut self, packet: &[u8], from: SocketAddr, verdict: &Verdict, now: Instant) {
         let chunk = chunk_at(packet, verdict.at);
         if verdict.fate != Fate::Accepted || chunk.first() != Some(&HEARTBEAT_ACK) {
             return;
         }
         let value = chunk.get(HEARTBEAT_VALUE..).unwrap_or_default();
-        if let Some(sample) = self.heartbeat.answered(value, now) {
+        self.path.answered(value, from);
+        // Behind a shut window the RTO stays doubled, so that probes go further and further apart (RFC 9260 section 6.1 A).
+        let is_probing = self.core.standing().is_probing();
+        if let Some(sample) = self.heartbeat.answered(value, now).filter(|_| !is_probing) {
             let answer = self.core.rtt(sample);
             let _ = self.counted(answer);
         }
@@ -467,7 +502,7 @@ impl<L: Library> Endpoint<L> {
             Named::ErrorStream(stream) => {
                 let answer = self.core.error_stream(stream, &mut self.out);
                 if let Ok(length) = self.counted(answer) {
-                    self.send(from, length);
+                    self.send_to_peer(length);
                 }
             }
             Named::ErrorStale => {
@@ -482,24 +517,39 @@ impl<L: Library> Endpoint<L> {
         }
     }
 
-    /// A packet that the core refused whole: after the end it may ask for the last word.
-    fn answer_late(&mut self, packet: &[u8], from: SocketAddr, state: State, refusal: Refusal) {
-        if state == State::Closed && refusal == Refusal::TAG && peek::<L>(packet) == Peeked::Nothing {
+    /// A packet that the core refused whole. After the end it may ask for the last word; one that is not the peer's is out of the blue.
+    fn answer_refused(&mut self, packet: &[u8], from: SocketAddr, state: State, refusal: Refusal, now: Instant) {
+        if refusal != Refusal::TAG || peek::<L>(packet) != Peeked::Nothing {
+            return;
+        }
+        let is_of_peer = self.path.is_of_peer(from) && source_port(packet) == Some(self.core.record().ends.peer_port);
+        if state == State::Closed && is_of_peer && self.last_word.is_late(packet) {
+            // An ABORT would make a failure of an end that was clean.
             let again = self.last_word.to_late(packet).map(<[u8]>::to_vec);
-            self.repeat(from, again);
+            self.path.showed(from, now);
+            return self.repeat(again);
+        }
+        // RFC 9260 section 8.5: a packet of the peer's with a wrong tag is dropped.
+        let is_known = state != State::Closed && is_of_peer;
+        if is_known || destination_port(packet) != Some(self.config.port) {
+            return;
+        }
+        if let Some(answer) = self.strays.answer(packet, from, now) {
+            self.counts.strays += 1;
+            self.send_bytes(from, answer.to_vec());
         }
     }
 
-    fn repeat(&mut self, to: SocketAddr, word: Option<Vec<u8>>) {
-        if let Some(packet) = word {
+    fn repeat(&mut self, word: Option<Vec<u8>>) {
+        if let (Some(packet), Some(peer)) = (word, self.path.peer()) {
             self.counts.last_words += 1;
-            self.send_bytes(to, packet);
+            self.send_bytes(peer, packet);
         }
     }
 
     fn acknowledge(&mut self) {
         let answer = self.core.sack(&mut self.out);
-        self.sack = DelayedSack::default();
+        self.sack.drop_due();
         if let Ok(told) = self.counted(answer) {
             self.counts.acknowledgements += 1;
             self.sack.sent(told.window);
@@ -507,20 +557,24 @@ impl<L: Library> Endpoint<L> {
         }
     }
 
+    /// Sends DATA, in a burst that is no longer than it may be. With all of it outstanding, something will happen that lets the next one go.
     fn transmit(&mut self, now: Instant) {
-        loop {
+        self.may_send = false;
+        for _ in 0..BURST {
             let answer = self.core.transmit(&mut self.out);
-            match self.counted(answer) {
-                Ok(packet) if packet.length > 0 => {
-                    self.counts.resent += u64::from(packet.resent);
-                    self.round_trip.sent(&packet, now);
-                    self.send_to_peer(packet.length);
-                    self.heartbeat.postpone(&self.core.standing(), now);
-                }
-                _ => {
-                    self.may_send = false;
-                    return;
-                }
+            let packet = match self.counted(answer) {
+                Ok(packet) if packet.length > 0 => packet,
+                _ => return,
+            };
+            let standing = self.core.standing();
+            self.counts.resent += u64::from(packet.resent);
+            self.round_trip.sent(&packet, now);
+            if packet.resent && packet.first == standing.acked.wrapping_add(1) {
+                self.timers.restart_t3(&standing, now);
+            }
+            self.send_to_peer(packet.length);
+            if !packet.resent {
+                self.heartbeat.postpone(&standing, now);
             }
         }
     }
@@ -534,18 +588,24 @@ impl<L: Library> Endpoint<L> {
             }
             return;
         }
+        if let Some(value) = self.send_heartbeat() {
+            self.heartbeat.sent(value, &self.core.standing(), now);
+        }
+    }
+
+    /// Asks whether the peer is there, beside what a timer sends again.
+    fn ask(&mut self, now: Instant) {
+        if let Some(value) = self.send_heartbeat() {
+            self.heartbeat.asked(value, &self.core.standing(), now);
+        }
+    }
+
+    /// The value that will come back.
+    fn send_heartbeat(&mut self) -> Option<[u8; 8]> {
         let value = self.random.bytes();
         let answer = self.core.heartbeat(value, &mut self.out);
-        if let Ok(length) = self.counted(answer) {
-            self.send_to_peer(length);
-        }
-        self.heartbeat.sent(value, &self.core.standing(), now);
-    }
-}
-
-fn source_port(packet: &[u8]) -> u16 {
-    match packet {
-        [high, low, ..] => u16::from_be_bytes([*high, *low]),
-        _ => 0,
+        let length = self.counted(answer).ok()?;
+        self.send_to_peer(length);
+        Some(value)
     }
 }

@@ -1,8 +1,7 @@
 //! The reply that ended a handshake, kept while the peer may not have it. The core reads a COOKIE ECHO only in CLOSED and a SHUTDOWN ACK never there, so a lost
 //! COOKIE ACK or SHUTDOWN COMPLETE is the host's to repair: asked the same again, it sends the same bytes again (RFC 9260 sections 5.2.4 D and 8.4, rule 5).
 
-const SHUTDOWN_ACK: u8 = 8;
-const HEADER: usize = 12;
+use crate::packet::{first_chunk, tag, SHUTDOWN_ACK};
 
 #[derive(Debug, Default)]
 pub struct LastWord {
@@ -35,30 +34,23 @@ impl LastWord {
         }
     }
 
-    /// What answers a whole packet that came after the end.
-    pub fn to_late(&self, packet: &[u8]) -> Option<&[u8]> {
-        let (tag, reply) = self.closing.as_ref()?;
-        let is_shutdown_ack = packet.get(HEADER) == Some(&SHUTDOWN_ACK);
-        let is_to_us = packet.get(4..8) == Some(&tag.to_be_bytes());
-        (is_shutdown_ack && is_to_us).then_some(reply.as_slice())
+    /// Whether a whole packet that came after the end is of the association that was shut down: held up on its way, or the peer's who waits for the last word.
+    pub fn is_late(&self, packet: &[u8]) -> bool {
+        self.closing.as_ref().map_or(false, |(ours, _)| tag(packet) == Some(*ours))
     }
-}
 
-/// The chunk that begins at this byte of a packet, without its padding.
-pub fn chunk_at(packet: &[u8], at: usize) -> &[u8] {
-    let rest = packet.get(at..).unwrap_or_default();
-    match rest {
-        [_, _, high, low, ..] => {
-            let length = usize::from(u16::from_be_bytes([*high, *low]));
-            rest.get(..length).unwrap_or(rest)
-        }
-        _ => rest,
+    /// What answers a late packet.
+    pub fn to_late(&self, packet: &[u8]) -> Option<&[u8]> {
+        let (_, reply) = self.closing.as_ref()?;
+        let is_shutdown_ack = first_chunk(packet) == Some(SHUTDOWN_ACK);
+        (is_shutdown_ack && self.is_late(packet)).then_some(reply.as_slice())
     }
 }
 
 #[cfg(test)]
 mod tests {
     use super::*;
+    use crate::packet::HEADER;
 
     const ECHO: [u8; 8] = [10, 0, 0, 7, 1, 2, 3, 0];
 
@@ -88,14 +80,10 @@ mod tests {
         assert_eq!(word.to_late(&shutdown_ack(5)), Some(&b"complete"[..]));
         assert_eq!(word.to_late(&shutdown_ack(6)), None);
         assert_eq!(word.to_late(&[0; 4]), None);
-    }
-
-    #[test]
-    fn a_chunk_is_cut_by_its_own_length() {
-        let mut packet = vec![0; HEADER];
-        packet.extend_from_slice(&ECHO);
-        assert_eq!(chunk_at(&packet, HEADER), &ECHO[..7]);
-        assert_eq!(chunk_at(&packet, 500), &[] as &[u8]);
-        assert_eq!(chunk_at(&[1, 2, 255, 255], 0), &[1, 2, 255, 255]);
+        let mut data = shutdown_ack(5);
+        data[HEADER] = 0;
+        assert!(word.is_late(&data));
+        assert_eq!(word.to_late(&data), None);
+        assert!(!word.is_late(&shutdown_ack(6)));
     }
 }

@@ -1,13 +1,14 @@
-//! A capture that Wireshark reads: raw IP packets (LINKTYPE_RAW), each with one UDP datagram on the port that is SCTP's inside UDP.
+//! A capture that Wireshark reads: raw IP packets (LINKTYPE_RAW), each with one UDP datagram from or to the port that is SCTP's inside UDP.
 
+use std::collections::HashMap;
 use std::fs::File;
 use std::io::{self, Write};
-use std::net::{IpAddr, Ipv6Addr, SocketAddr};
+use std::net::{IpAddr, Ipv4Addr, Ipv6Addr, SocketAddr, UdpSocket};
 use std::path::Path;
 use std::sync::{Arc, Mutex};
 use std::time::{Duration, SystemTime, UNIX_EPOCH};
 
-/// RFC 6951 section 4. Both ends show it, whatever ports they use, so that the capture is read as SCTP unasked.
+/// RFC 6951 section 4.
 pub const ENCAPSULATION: u16 = 9899;
 const LINKTYPE_RAW: u32 = 101;
 const UDP: u8 = 17;
@@ -37,7 +38,7 @@ impl<W: Write> Pcap<W> {
     }
 
     /// Writes a packet down. The first failure is kept for `close`, so that a full disk does not stop an association.
-    pub fn packet(&mut self, since_1970: Duration, from: IpAddr, to: IpAddr, sctp: &[u8]) {
+    pub fn packet(&mut self, since_1970: Duration, from: SocketAddr, to: SocketAddr, sctp: &[u8]) {
         if self.failed.is_none() {
             self.failed = self.write_packet(since_1970, &framed(from, to, sctp)).err();
         }
@@ -60,15 +61,16 @@ impl<W: Write> Pcap<W> {
 }
 
 /// An SCTP packet in UDP in IP; IPv4 where both addresses are.
-fn framed(from: IpAddr, to: IpAddr, sctp: &[u8]) -> Vec<u8> {
+fn framed(from: SocketAddr, to: SocketAddr, sctp: &[u8]) -> Vec<u8> {
     let length = (UDP_HEADER + sctp.len()) as u16;
     let mut datagram = Vec::with_capacity(UDP_HEADER + sctp.len());
-    datagram.extend_from_slice(&ENCAPSULATION.to_be_bytes());
-    datagram.extend_from_slice(&ENCAPSULATION.to_be_bytes());
+    let (source, destination) = ports(from.port(), to.port());
+    datagram.extend_from_slice(&source.to_be_bytes());
+    datagram.extend_from_slice(&destination.to_be_bytes());
     datagram.extend_from_slice(&length.to_be_bytes());
     datagram.extend_from_slice(&[0, 0]);
     datagram.extend_from_slice(sctp);
-    let (mut frame, addresses) = match (from, to) {
+    let (mut frame, addresses) = match (as_four(from.ip()), as_four(to.ip())) {
         (IpAddr::V4(from), IpAddr::V4(to)) => (ipv4_header(from.octets(), to.octets(), length), [from.octets(), to.octets()].concat()),
         (from, to) => {
             let (from, to) = (as_six(from), as_six(to));
@@ -84,6 +86,25 @@ fn framed(from: IpAddr, to: IpAddr, sctp: &[u8]) -> Vec<u8> {
     datagram[6..8].copy_from_slice(&sum.to_be_bytes());
     frame.extend_from_slice(&datagram);
     frame
+}
+
+/// The ports as they are shown. Where neither is SCTP's inside UDP, the lower, which is mostly the listener's, is shown as it, so that the capture is read as SCTP
+/// unasked, and heads behind one address are told apart.
+fn ports(source: u16, destination: u16) -> (u16, u16) {
+    let lower = source.min(destination);
+    let show = |port: u16| if port == lower { ENCAPSULATION } else { port };
+    match source == ENCAPSULATION || destination == ENCAPSULATION {
+        true => (source, destination),
+        false => (show(source), show(destination)),
+    }
+}
+
+/// An address of IPv4 that a socket for both kinds shows as one of IPv6.
+fn as_four(address: IpAddr) -> IpAddr {
+    match address {
+        IpAddr::V6(six) => six.to_ipv4_mapped().map_or(address, IpAddr::V4),
+        IpAddr::V4(_) => address,
+    }
 }
 
 fn as_six(address: IpAddr) -> Ipv6Addr {
@@ -131,6 +152,8 @@ pub type Capture = Arc<Mutex<Pcap<File>>>;
 pub struct Tap {
     capture: Capture,
     here: SocketAddr,
+    /// Which address of this machine each peer sees, where the socket stands at all of them.
+    seen: Arc<Mutex<HashMap<IpAddr, IpAddr>>>,
     shown_peer: Option<SocketAddr>,
     writes_received: bool,
 }
@@ -138,7 +161,7 @@ pub struct Tap {
 impl Tap {
     /// Writes down what this end sends.
     pub fn new(capture: Capture, here: SocketAddr) -> Tap {
-        Tap { capture, here, shown_peer: None, writes_received: false }
+        Tap { capture, here, seen: Arc::default(), shown_peer: None, writes_received: false }
     }
 
     /// Shows this address as the peer's, where a relay stands between.
@@ -152,30 +175,58 @@ impl Tap {
     }
 
     pub fn sent(&self, to: SocketAddr, packet: &[u8]) {
-        self.write(self.here, self.shown_peer.unwrap_or(to), packet);
+        self.write(self.here_for(to), self.shown_peer.unwrap_or(to), packet);
     }
 
     pub fn received(&self, from: SocketAddr, packet: &[u8]) {
         if self.writes_received {
-            self.write(from, self.here, packet);
+            self.write(from, self.here_for(from), packet);
+        }
+    }
+
+    fn here_for(&self, peer: SocketAddr) -> SocketAddr {
+        if !self.here.ip().is_unspecified() {
+            return self.here;
+        }
+        match self.seen.lock() {
+            Ok(mut seen) => {
+                let ip = *seen.entry(peer.ip()).or_insert_with(|| address_towards(peer).unwrap_or_else(|_| self.here.ip()));
+                SocketAddr::new(ip, self.here.port())
+            }
+            Err(_) => self.here,
         }
     }
 
     fn write(&self, from: SocketAddr, to: SocketAddr, packet: &[u8]) {
         let since_1970 = SystemTime::now().duration_since(UNIX_EPOCH).unwrap_or_default();
         if let Ok(mut pcap) = self.capture.lock() {
-            pcap.packet(since_1970, from.ip(), to.ip(), packet);
+            pcap.packet(since_1970, from, to, packet);
         }
     }
+}
+
+/// The address of this machine that its route to the peer begins at. Nothing is sent.
+fn address_towards(peer: SocketAddr) -> io::Result<IpAddr> {
+    let anywhere: IpAddr = match peer {
+        SocketAddr::V4(_) => Ipv4Addr::UNSPECIFIED.into(),
+        SocketAddr::V6(_) => Ipv6Addr::UNSPECIFIED.into(),
+    };
+    let socket = UdpSocket::bind((anywhere, 0))?;
+    socket.connect(peer)?;
+    socket.local_addr().map(|address| address.ip())
 }
 
 #[cfg(test)]
 mod tests {
     use super::*;
 
+    fn at(address: &str, port: u16) -> SocketAddr {
+        SocketAddr::new(address.parse().unwrap(), port)
+    }
+
     fn written(from: &str, to: &str, sctp: &[u8]) -> Vec<u8> {
         let mut pcap = Pcap::new(Vec::new()).unwrap();
-        pcap.packet(Duration::new(1_600_000_000, 123_456_789), from.parse().unwrap(), to.parse().unwrap(), sctp);
+        pcap.packet(Duration::new(1_600_000_000, 123_456_789), at(from, 9899), at(to, 40_000), sctp);
         pcap.close().unwrap();
         pcap.file
     }
@@ -201,14 +252,14 @@ mod tests {
         assert_eq!(frame[..4], [0x45, 0, 0, 32]);
         assert_eq!(frame[9], UDP);
         assert_eq!(frame[12..20], [127, 0, 0, 1, 127, 0, 0, 2]);
-        assert_eq!(frame[20..26], [0x26, 0xab, 0x26, 0xab, 0, 12]);
+        assert_eq!(frame[20..26], [0x26, 0xab, 0x9c, 0x40, 0, 12]);
         assert_eq!(&frame[28..], b"sctp");
     }
 
     #[test]
     fn the_sums_of_a_right_packet_come_out_as_zero() {
         for (from, to) in [("10.0.0.1", "10.9.8.7"), ("2001:db8::1", "2001:db8::2"), ("::1", "127.0.0.1")] {
-            let frame = framed(from.parse().unwrap(), to.parse().unwrap(), b"twelve bytes");
+            let frame = framed(at(from, 1), at(to, 2), b"twelve bytes");
             let header = if frame[0] >> 4 == 4 { 20 } else { 40 };
             let (addresses, datagram) = match header {
                 20 => (&frame[12..20], &frame[20..]),
@@ -220,6 +271,26 @@ mod tests {
             let pseudo = [addresses, &[0, UDP], &(datagram.len() as u16).to_be_bytes()].concat();
             assert_eq!(internet_checksum(&[&pseudo, datagram]), 0, "{} {}", from, to);
         }
+    }
+
+    #[test]
+    fn one_port_is_sctp_s_and_the_other_tells_who_it_is() {
+        assert_eq!(ports(9899, 40_000), (9899, 40_000));
+        assert_eq!(ports(40_000, 9899), (40_000, 9899));
+        assert_eq!(ports(40_000, 7000), (40_000, 9899));
+        assert_eq!(ports(7000, 40_000), (9899, 40_000));
+        assert_eq!(ports(7000, 7000), (9899, 9899));
+    }
+
+    #[test]
+    fn an_address_of_four_is_shown_as_such() {
+        let frame = framed(at("::ffff:10.0.0.1", 1), at("10.0.0.2", 2), b"");
+        assert_eq!(frame[12..20], [10, 0, 0, 1, 10, 0, 0, 2]);
+    }
+
+    #[test]
+    fn a_socket_at_all_addresses_is_shown_at_the_one_that_the_peer_sees() {
+        assert_eq!(address_towards(at("127.0.0.9", 1)).unwrap(), IpAddr::from([127, 0, 0, 1]));
     }
 
     #[test]
@@ -245,7 +316,7 @@ mod tests {
     #[test]
     fn a_failure_is_told_at_the_end() {
         let mut pcap = Pcap::new(Full).unwrap();
-        pcap.packet(Duration::ZERO, IpAddr::from([1, 2, 3, 4]), IpAddr::from([1, 2, 3, 5]), b"sctp");
+        pcap.packet(Duration::ZERO, at("1.2.3.4", 1), at("1.2.3.5", 2), b"sctp");
         assert!(pcap.close().is_err());
     }
 }

@@ -1,29 +1,29 @@
 //! Numbers nobody can guess, for tags, first TSNs and keys; and numbers that a seed repeats, for tests and the relay.
 
-use crate::hmac::{hmac_sha256, DIGEST};
-use std::fs::File;
-use std::io::{self, Read};
+use crate::signature::{sign, Key, SIGNATURE};
+use std::io;
 
-/// A stream of HMAC codes over a counter, under a key that the system gave.
+/// A stream of signatures of a counter, under a key that the system gave.
 pub struct Random {
-    key: [u8; DIGEST],
+    key: Key,
     counter: u64,
 }
 
 impl Random {
+    /// Waits, on a machine that has just started, until its generator is ready.
     pub fn from_system() -> io::Result<Random> {
-        let mut key = [0; DIGEST];
-        File::open("/dev/urandom")?.read_exact(&mut key)?;
+        let mut key = [0; SIGNATURE];
+        getrandom::getrandom(&mut key)?;
         Ok(Random::from_key(key))
     }
 
-    pub fn from_key(key: [u8; DIGEST]) -> Random {
+    pub fn from_key(key: Key) -> Random {
         Random { key, counter: 0 }
     }
 
-    pub fn key(&mut self) -> [u8; DIGEST] {
+    pub fn key(&mut self) -> Key {
         self.counter += 1;
-        hmac_sha256(&self.key, &self.counter.to_be_bytes())
+        sign(&self.key, &self.counter.to_be_bytes())
     }
 
     pub fn bytes(&mut self) -> [u8; 8] {
@@ -81,9 +81,9 @@ mod tests {
 
     #[test]
     fn a_key_gives_one_stream_and_another_key_another() {
-        let mut a = Random::from_key([1; DIGEST]);
-        let mut same = Random::from_key([1; DIGEST]);
-        let mut other = Random::from_key([2; DIGEST]);
+        let mut a = Random::from_key([1; SIGNATURE]);
+        let mut same = Random::from_key([1; SIGNATURE]);
+        let mut other = Random::from_key([2; SIGNATURE]);
         let first = a.word();
         assert_eq!(first, same.word());
         assert_ne!(first, other.word());

@@ -96,7 +96,7 @@ pub struct Album {
     seed: Option<u64>,
     next: [u32; BANDS as usize],
     bytes: u64,
-    sequence_wraps: u32,
+    wrapped: Vec<u16>,
 }
 
 impl Album {
@@ -114,7 +114,7 @@ impl Album {
             return Err(Difference::Sequence { band, index, ssn });
         }
         if index > 0 && ssn == 0 {
-            self.sequence_wraps += 1;
+            self.wrapped.push(band);
         }
         *next += 1;
         self.bytes += message.len() as u64;
@@ -133,9 +133,9 @@ impl Album {
         self.bytes
     }
 
-    /// How often a stream sequence number went round from 65,535 to 0.
-    pub fn sequence_wraps(&self) -> u32 {
-        self.sequence_wraps
+    /// The band of each stream sequence number that went round from 65,535 to 0, in that order.
+    pub fn wrapped(&self) -> &[u16] {
+        &self.wrapped
     }
 }
 
@@ -168,7 +168,7 @@ mod tests {
             assert_eq!(album.add(0, index as u16, &tile(42, 0, index)), Ok(()));
         }
         assert_eq!(album.tiles(), 65_540);
-        assert_eq!(album.sequence_wraps(), 1);
+        assert_eq!(album.wrapped(), [0]);
     }
 
     #[test]

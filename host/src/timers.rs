@@ -38,6 +38,11 @@ impl Timers {
         }
     }
 
+    /// The first outstanding chunk was sent again: it has a whole RTO once more (RFC 9260 section 7.2.4, step 4).
+    pub fn restart_t3(&mut self, standing: &Standing, now: Instant) {
+        self.t3 = Some(now + standing.rto);
+    }
+
     /// An alarm that is due; it rings once.
     pub fn ring(&mut self, now: Instant) -> Option<Alarm> {
         let alarms = [(&mut self.t1, Alarm::T1), (&mut self.t2, Alarm::T2), (&mut self.t3, Alarm::T3)];
@@ -72,7 +77,7 @@ mod tests {
     const RTO: Duration = Duration::from_millis(1000);
 
     fn standing(state: State, acked: u32, next_tsn: u32) -> Standing {
-        Standing { state, rto: RTO, my_tag: 1, streams_out: 8, acked, next_tsn, has_gap: false, window: 65_536 }
+        Standing { state, rto: RTO, my_tag: 1, streams_out: 8, acked, next_tsn, has_gap: false, window: 65_536, peer_window: 65_536 }
     }
 
     fn millis(n: u64) -> Duration {
@@ -119,6 +124,17 @@ mod tests {
         assert_eq!(timers.next(), Some(start + millis(200) + RTO));
         timers.follow(&standing(State::ShutdownPending, 2, 3), start + millis(300));
         assert_eq!(timers.next(), None);
+    }
+
+    #[test]
+    fn t3_restarts_when_it_is_told_to() {
+        let start = Instant::now();
+        let mut timers = Timers::default();
+        let waiting = standing(State::Established, 0, 3);
+        timers.follow(&waiting, start);
+        timers.restart_t3(&waiting, start + millis(600));
+        timers.follow(&waiting, start + millis(600));
+        assert_eq!(timers.next(), Some(start + millis(600) + RTO));
     }
 
     #[test]

@@ -30,7 +30,8 @@ impl<L: Library> Line<L> {
         self.socket.local_addr()
     }
 
-    /// Why the last packet that could not be sent was not. It counts as lost, so that no peer can stop this end by an address that nothing can be sent to.
+    /// Why the last packet that could not be sent was not, or did not arrive, if none has come since. It counts as lost, so that no peer can stop this end by
+    /// an address that nothing can be sent to.
     pub fn trouble(&self) -> Option<&io::Error> {
         self.trouble.as_ref()
     }
@@ -74,8 +75,15 @@ impl<L: Library> Line<L> {
             self.patience = patience;
         }
         match self.socket.recv_from(&mut self.buffer) {
-            Ok(received) => Ok(Some(received)),
+            Ok(received) => {
+                self.trouble = None;
+                Ok(Some(received))
+            }
             Err(e) if is_like_silence(&e) => Ok(None),
+            Err(e) if is_trouble(&e) => {
+                self.trouble = Some(e);
+                Ok(None)
+            }
             Err(e) => Err(e),
         }
     }
@@ -89,7 +97,15 @@ fn rounded_up(wait: Duration) -> Duration {
 
 /// What the protocol treats as no packet that came.
 fn is_like_silence(e: &io::Error) -> bool {
-    matches!(e.kind(), ErrorKind::WouldBlock | ErrorKind::TimedOut | ErrorKind::Interrupted | ErrorKind::ConnectionRefused)
+    matches!(e.kind(), ErrorKind::WouldBlock | ErrorKind::TimedOut | ErrorKind::Interrupted)
+}
+
+/// Linux's numbers for a network that is down or unreachable, and for a host that is.
+const UNREACHABLE: [i32; 4] = [100, 101, 112, 113];
+
+/// What a network may get over: a packet of ours found nobody (a connected socket hears of it), or no network was there.
+fn is_trouble(e: &io::Error) -> bool {
+    e.kind() == ErrorKind::ConnectionRefused || e.raw_os_error().map_or(false, |number| UNREACHABLE.contains(&number))
 }
 
 #[cfg(test)]

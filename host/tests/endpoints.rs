@@ -1,6 +1,7 @@
 //! What an endpoint does around the core, held on a clock that the test moves: on the model, and on the proved library where it is linked.
 
 mod modelled;
+#[macro_use]
 mod pair;
 
 use model::checksum;
@@ -10,31 +11,10 @@ use oilwhisper::endpoint::{Config, Event, Why};
 use oilwhisper::library::Library;
 use oilwhisper::relay::Weather;
 use oilwhisper::tiles::{tile, Album, Plan};
-use pair::{config, first_chunk, loses_first, Pair};
+use pair::*;
 use std::time::Duration;
 
-const DATA: u8 = 0;
-const INIT: u8 = 1;
-const INIT_ACK: u8 = 2;
-const SACK: u8 = 3;
-const HEARTBEAT: u8 = 4;
-const HEARTBEAT_ACK: u8 = 5;
-const SHUTDOWN_ACK: u8 = 8;
-const COOKIE_ECHO: u8 = 10;
-const COOKIE_ACK: u8 = 11;
-const SHUTDOWN_COMPLETE: u8 = 14;
-
-const MINUTE: Duration = Duration::from_secs(60);
-
 const ROUGH: Weather = Weather { delay: Duration::from_millis(10), loss: 0.05, repeat: 0.03, reorder: 0.1, damage: 0.01 };
-
-fn slow(milliseconds: u64) -> Weather {
-    Weather { delay: Duration::from_millis(milliseconds), ..Weather::FAIR }
-}
-
-fn sent<L>(pair: &Pair<L>, end: usize, chunk: u8) -> usize {
-    pair.ends[end].sent.iter().filter(|packet| first_chunk(packet) == chunk).count()
-}
 
 fn opens_and_shuts_down<L: Library>() {
     let mut pair = Pair::<L>::up(slow(20), 1);
@@ -78,6 +58,31 @@ fn carries_both_ways_in_any_weather<L: Library>() {
     }
 }
 
+/// Every doubled RTO is ended by the heartbeat beside it, so that a bad path is slow and does not stand still.
+fn carries_at_twenty_percent_loss<L: Library>() {
+    let lossy = Weather { loss: 0.2, ..slow(5) };
+    for seed in 0..3 {
+        let mut pair = Pair::<L>::up(lossy, seed);
+        let mut plan = Plan::of(1000).peekable();
+        let mut album = Album::default();
+        let start = pair.now;
+        let done = pair.run_until(MINUTE * 60, |pair| {
+            while let Some((band, index)) = plan.peek() {
+                match pair.ends[0].endpoint.hand_in(&tile(seed, *band, *index), *band, false, 7) {
+                    Ok(()) => plan.next(),
+                    Err(Refusal::FULL) => break,
+                    Err(refusal) => panic!("{}", refusal),
+                };
+            }
+            for (stream, ssn, message) in pair.ends[1].taken.drain(..) {
+                assert_eq!(album.add(stream, ssn, &message), Ok(()));
+            }
+            album.tiles() == Plan::total(1000)
+        });
+        assert!(done && pair.now - start < MINUTE * 2, "seed {}: {:?}", seed, pair.now - start);
+    }
+}
+
 fn opens_though_every_handshake_packet_is_lost_twice<L: Library>() {
     for (end, chunk) in [(0, INIT), (1, INIT_ACK), (0, COOKIE_ECHO), (1, COOKIE_ACK)] {
         let mut pair = Pair::<L>::new(slow(5), 2);
@@ -90,7 +95,6 @@ fn opens_though_every_handshake_packet_is_lost_twice<L: Library>() {
 }
 
 fn closes_though_every_farewell_is_lost_twice<L: Library>() {
-    const SHUTDOWN: u8 = 7;
     for (end, chunk) in [(0, SHUTDOWN), (1, SHUTDOWN_ACK), (0, SHUTDOWN_COMPLETE)] {
         let mut pair = Pair::<L>::up(slow(5), 3);
         pair.ends[end].loses = loses_first(chunk, 2);
@@ -106,7 +110,7 @@ fn gives_up_on_a_peer_that_never_answers<L: Library>() {
     pair.ends[0].loses = Box::new(|_| true);
     pair.associate();
     assert!(pair.run_until(MINUTE * 10, |pair| pair.state(0) == State::Closed));
-    assert_eq!(pair.ends[0].events, [Event::Down(Why::NoAnswer)]);
+    assert_eq!(pair.ends[0].events, [Event::Quiet(Duration::from_secs(5)), Event::Down(Why::NoAnswer)]);
     assert_eq!(sent(&pair, 0, INIT), 9);
 }
 
@@ -126,29 +130,127 @@ fn beats_while_idle_and_notices_silence<L: Library>() {
     pair.run_for(MINUTE);
     assert!(pair.are(State::Established));
     let beats = sent(&pair, 0, HEARTBEAT);
-    assert!((15..=20).contains(&beats), "{}", beats);
+    // Every 2 s and an RTO of 1 s, which is spread by half of it each way.
+    assert!((15..=24).contains(&beats), "{}", beats);
     // Each end measured a round trip of 80 ms by its heartbeats, so its RTO stays the least.
     assert_eq!(pair.ends[0].endpoint.standing().rto, Duration::from_secs(1));
     pair.ends[1].loses = Box::new(|packet| first_chunk(packet) == HEARTBEAT_ACK);
-    assert!(pair.run_until(MINUTE * 5, |pair| pair.state(0) == State::Closed));
+    // 11 of them, with an RTO that doubles up to 60 s.
+    assert!(pair.run_until(MINUTE * 10, |pair| pair.state(0) == State::Closed));
     assert_eq!(pair.ends[0].events.last(), Some(&Event::Down(Why::NoAnswer)));
     // Its ABORT reached the other end.
     pair.run_for(Duration::from_secs(1));
     assert_eq!(pair.ends[1].events.last(), Some(&Event::Down(Why::PeerAborted)));
 }
 
-fn acknowledges_every_second_packet_or_after_200_ms<L: Library>() {
+/// Two ends, the second of which has acknowledged the first DATA of the association.
+fn acknowledged_first<L: Library>(milliseconds: u64, seed: u64) -> Pair<L> {
+    let mut pair = Pair::<L>::up(slow(milliseconds), seed);
+    pair.ends[0].endpoint.hand_in(&[1; 512], 0, false, 0).expect("there is room");
+    assert!(pair.run_until(MINUTE, |pair| sent(pair, 1, SACK) == 1));
+    pair
+}
+
+fn acknowledges_the_first_data_at_once<L: Library>() {
     let mut pair = Pair::<L>::up(slow(1), 7);
     let start = pair.now;
     pair.ends[0].endpoint.hand_in(&[1; 512], 0, false, 0).expect("there is room");
     assert!(pair.run_until(MINUTE, |pair| sent(pair, 1, SACK) == 1));
+    assert_eq!(pair.now - start, Duration::from_millis(1));
+    // And of the next association.
+    let now = pair.now;
+    pair.ends[0].endpoint.shutdown(now).expect("an established association shuts down");
+    assert!(pair.run_until(MINUTE, |pair| pair.are(State::Closed)));
+    pair.associate();
+    assert!(pair.run_until(MINUTE, |pair| pair.are(State::Established)));
+    let start = pair.now;
+    pair.ends[0].endpoint.hand_in(&[1; 512], 0, false, 0).expect("there is room");
+    assert!(pair.run_until(MINUTE, |pair| sent(pair, 1, SACK) == 2));
+    assert_eq!(pair.now - start, Duration::from_millis(1));
+}
+
+/// RFC 9260 section 5.1: DATA may come with the COOKIE ECHO.
+fn acknowledges_data_that_came_with_the_cookie_at_once<L: Library>() {
+    let mut pair = Pair::<L>::new(slow(1), 17);
+    pair.ends[0].loses = Box::new(|packet| first_chunk(packet) == COOKIE_ECHO);
+    pair.associate();
+    pair.run_for(Duration::from_millis(100));
+    let mut packet = pair.ends[0].sent.last().expect("the cookie was echoed").clone();
+    assert_eq!(first_chunk(&packet), COOKIE_ECHO);
+    packet.extend_from_slice(&[DATA, 3, 0, 20]);
+    packet.extend_from_slice(&(u32::MAX - 99).to_be_bytes());
+    packet.extend_from_slice(&[0, 0, 0, 0, 0, 0, 0, 0, 1, 2, 3, 4]);
+    checksum::seal(&mut packet);
+    let (from, start) = (pair.ends[0].address, pair.now);
+    pair.arrive(1, &packet, from);
+    assert!(pair.run_until(MINUTE, |pair| sent(pair, 1, SACK) == 1));
+    assert_eq!(pair.now, start);
+    assert_eq!(pair.ends[1].taken, [(0, 0, vec![1, 2, 3, 4])]);
+}
+
+fn acknowledges_every_second_packet_or_after_200_ms<L: Library>() {
+    let mut pair = acknowledged_first::<L>(1, 7);
+    let start = pair.now;
+    pair.ends[0].endpoint.hand_in(&[1; 512], 0, false, 0).expect("there is room");
+    assert!(pair.run_until(MINUTE, |pair| sent(pair, 1, SACK) == 2));
     assert_eq!(pair.now - start, Duration::from_millis(201));
     let start = pair.now;
     for _ in 0..2 {
         pair.ends[0].endpoint.hand_in(&[2; 512], 0, false, 0).expect("there is room");
     }
-    assert!(pair.run_until(MINUTE, |pair| sent(pair, 1, SACK) == 2));
+    assert!(pair.run_until(MINUTE, |pair| sent(pair, 1, SACK) == 3));
     assert_eq!(pair.now - start, Duration::from_millis(1));
+}
+
+fn acknowledges_at_once_where_the_sender_asks_for_it<L: Library>() {
+    const I: u8 = 8;
+    let mut pair = acknowledged_first::<L>(1, 18);
+    let mut packet = pair.ends[0].sent.last().expect("the chunk was sent").clone();
+    let tsn = u32::from_be_bytes([packet[16], packet[17], packet[18], packet[19]]);
+    let (from, start) = (pair.ends[0].address, pair.now);
+    for (next, flags, acknowledgements) in [(1, 3, 1), (2, 3 | I, 2), (3, 3 | I, 3)] {
+        packet[13] = flags;
+        packet[16..20].copy_from_slice(&tsn.wrapping_add(next).to_be_bytes());
+        packet[22..24].copy_from_slice(&(next as u16).to_be_bytes());
+        checksum::seal(&mut packet);
+        pair.arrive(1, &packet, from);
+        pair.run_for(Duration::ZERO);
+        assert_eq!((sent(&pair, 1, SACK), pair.now), (acknowledgements, start));
+    }
+}
+
+fn restarts_t3_when_the_first_chunk_is_resent_fast<L: Library>() {
+    let mut pair = Pair::<L>::up(slow(300), 19);
+    pair.ends[0].loses = loses_first(DATA, 1);
+    for _ in 0..4 {
+        pair.ends[0].endpoint.hand_in(&[3; 512], 0, false, 0).expect("there is room");
+    }
+    pair.run_for(Duration::from_secs(5));
+    assert_eq!(pair.ends[1].taken.len(), 4);
+    // Sent at 0, resent at 600 ms and acknowledged at 1,200 ms, with an RTO of 1,000 ms.
+    assert_eq!((pair.ends[0].endpoint.counts().resent, pair.ends[0].endpoint.counts().expiries), (1, 0));
+}
+
+fn sends_four_packets_at_a_time<L: Library>() {
+    let mut pair = Pair::<L>::up(slow(20), 20);
+    let all = 400;
+    let mut handed_in = 0;
+    let mut hand_in = |pair: &mut Pair<L>, all| {
+        while handed_in < all && pair.ends[0].endpoint.hand_in(&[4; 512], 0, false, 0).is_ok() {
+            handed_in += 1;
+        }
+        handed_in == all
+    };
+    assert!(pair.run_until(MINUTE, |pair| hand_in(pair, all) && !pair.ends[0].endpoint.standing().has_outstanding()));
+    pair.run_for(Duration::from_secs(1));
+    // The congestion window is wide, and there is plenty to send.
+    assert!(pair.ends[0].endpoint.core().record().sending.path.control.cwnd > 20_000);
+    let before = sent(&pair, 0, DATA);
+    hand_in(&mut pair, all + 100);
+    pair.run_for(Duration::from_millis(1));
+    assert_eq!(sent(&pair, 0, DATA) - before, 4);
+    assert!(pair.run_until(MINUTE, |pair| pair.ends[1].taken.len() == all + 100));
+    assert_eq!(pair.ends[0].endpoint.counts().expiries, 0);
 }
 
 fn acknowledges_a_gap_at_once_and_resends_without_waiting_for_t3<L: Library>() {
@@ -215,10 +317,26 @@ fn measures_round_trips_but_not_of_what_was_resent<L: Library>() {
     assert_eq!(pair.ends[0].endpoint.standing().rto, Duration::from_millis(2400));
     pair.ends[0].loses = loses_first(DATA, 1);
     pair.ends[0].endpoint.hand_in(&[5; 512], 0, false, 0).expect("there is room");
+    pair.ends[1].loses = Box::new(|packet| first_chunk(packet) == HEARTBEAT_ACK);
     pair.run_for(Duration::from_secs(10));
     assert_eq!(pair.ends[1].taken.len(), 3);
     // T3 doubled it, and the chunk that was sent twice is no sample.
     assert_eq!(pair.ends[0].endpoint.standing().rto, Duration::from_millis(4800));
+}
+
+fn a_heartbeat_beside_what_t3_resends_ends_the_doubled_rto<L: Library>() {
+    let mut pair = acknowledged_first::<L>(400, 27);
+    pair.run_for(Duration::from_secs(2));
+    assert_eq!(pair.ends[0].endpoint.standing().rto, Duration::from_millis(2400));
+    pair.ends[0].loses = loses_first(DATA, 3);
+    pair.ends[0].endpoint.hand_in(&[5; 512], 0, false, 0).expect("there is room");
+    let start = pair.now;
+    assert!(pair.run_until(MINUTE, |pair| pair.ends[1].taken.len() == 2));
+    // T3 rings after 2,400 ms, after 4,800 more, since it runs already when the heartbeat's answer comes, and then not after 9,600 but after 4,000.
+    assert_eq!(pair.now - start, Duration::from_millis(11_600));
+    pair.run_for(Duration::from_secs(2));
+    assert_eq!((sent(&pair, 0, HEARTBEAT), pair.ends[0].endpoint.counts().expiries), (3, 3));
+    assert!(pair.ends[0].endpoint.standing().rto < Duration::from_millis(2400));
 }
 
 fn a_slow_taker_shuts_the_window_and_opens_it_again<L: Library>() {
@@ -255,7 +373,7 @@ fn a_stale_cookie_is_told_to_the_peer<L: Library>() {
     let (from, now) = (pair.ends[1].address, pair.now);
     pair.ends[0].endpoint.arrive(&init_ack, from, now);
     assert!(pair.run_until(MINUTE, |pair| pair.state(0) == State::Closed));
-    assert_eq!(pair.ends[0].events, [Event::Down(Why::StaleCookie)]);
+    assert_eq!(pair.ends[0].events, [Event::Quiet(Duration::from_secs(5)), Event::Heard, Event::Down(Why::StaleCookie)]);
     assert_eq!(pair.state(1), State::Closed);
 }
 
@@ -298,38 +416,26 @@ fn noise_changes_nothing<L: Library>() {
     assert_eq!(pair.ends[1].endpoint.outgoing(), None);
 }
 
-macro_rules! on_both {
-    ($($scenario:ident)*) => {
-        mod on_the_model {
-            $(#[test]
-            fn $scenario() {
-                super::$scenario::<super::Modelled>();
-            })*
-        }
-
-        #[cfg(feature = "proved")]
-        mod on_the_proved_library {
-            $(#[test]
-            fn $scenario() {
-                super::$scenario::<oilwhisper::library::Proved>();
-            })*
-        }
-    };
-}
-
 on_both! {
     opens_and_shuts_down
     carries_both_ways_in_any_weather
+    carries_at_twenty_percent_loss
     opens_though_every_handshake_packet_is_lost_twice
     closes_though_every_farewell_is_lost_twice
     gives_up_on_a_peer_that_never_answers
     gives_up_on_a_peer_that_vanished_with_data_outstanding
     beats_while_idle_and_notices_silence
+    acknowledges_the_first_data_at_once
+    acknowledges_data_that_came_with_the_cookie_at_once
     acknowledges_every_second_packet_or_after_200_ms
+    acknowledges_at_once_where_the_sender_asks_for_it
+    restarts_t3_when_the_first_chunk_is_resent_fast
+    sends_four_packets_at_a_time
     acknowledges_a_gap_at_once_and_resends_without_waiting_for_t3
     an_opposite_chunk_asks_for_no_sack
     a_contradiction_aborts
     measures_round_trips_but_not_of_what_was_resent
+    a_heartbeat_beside_what_t3_resends_ends_the_doubled_rto
     a_slow_taker_shuts_the_window_and_opens_it_again
     a_stale_cookie_is_told_to_the_peer
     an_old_cookie_starts_no_second_association

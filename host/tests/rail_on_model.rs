@@ -5,6 +5,8 @@ mod modelled;
 use modelled::Modelled;
 use oilwhisper::endpoint::{Config, Endpoint};
 use oilwhisper::rail::arguments::{parse, Command};
+use oilwhisper::rail::report::Ended;
+use oilwhisper::rail::stop::Stop;
 use oilwhisper::rail::{demo, lone, Failure};
 use oilwhisper::random::Random;
 use oilwhisper::udp::Line;
@@ -13,28 +15,30 @@ use std::path::PathBuf;
 use std::time::{Duration, Instant};
 use std::{env, fs, io, thread};
 
-/// Runs a command line; the table, and what went wrong.
-fn run(line: &str) -> Result<lone::Ended, Failure> {
+/// Runs a command line; how it ended, and what it said before.
+fn run_until(line: &str, stop: &Stop) -> Result<(Ended, String), Failure> {
     let words: Vec<String> = line.split_whitespace().map(str::to_string).collect();
-    let out = &mut io::sink();
-    match parse(&words)? {
-        Command::Help => panic!("'{}' asks for help", line),
-        Command::Demo(asked) => demo::run::<Modelled>(&asked, out).map(|outcome| (outcome.table, outcome.faults)),
-        Command::Head(asked) => lone::head::<Modelled>(&asked, out),
-        Command::Field(asked) => lone::field::<Modelled>(&asked, out),
-    }
+    let mut out = Vec::new();
+    let ended = match parse(&words)? {
+        Command::Help | Command::Version => panic!("'{}' asks for a text", line),
+        Command::Demo(asked) => demo::run::<Modelled>(&asked, stop, &mut out),
+        Command::Head(asked) => lone::head::<Modelled>(&asked, stop, &mut out),
+        Command::Field(asked) => lone::field::<Modelled>(&asked, stop, &mut out),
+    };
+    ended.map(|ended| (ended, String::from_utf8_lossy(&out).into_owned()))
 }
 
-fn well(line: &str) -> String {
-    let (table, faults) = run(line).unwrap_or_else(|failure| panic!("{}", failure));
-    assert_eq!(faults, [] as [String; 0], "{}", table);
-    table
+fn well(line: &str) -> (Ended, String) {
+    let (ended, said) = run_until(line, &Stop::default()).unwrap_or_else(|failure| panic!("{}", failure));
+    assert_eq!(ended.faults, [] as [String; 0], "{}", ended.table);
+    assert!(!ended.was_stopped);
+    (ended, said)
 }
 
 fn complaint(line: &str) -> String {
-    match run(line) {
+    match run_until(line, &Stop::default()) {
         Err(failure) => failure.0,
-        Ok((table, _)) => panic!("{}", table),
+        Ok((ended, _)) => panic!("{}", ended.table),
     }
 }
 
@@ -44,28 +48,30 @@ fn scratch(name: &str) -> PathBuf {
 
 #[test]
 fn every_tile_comes_through_a_bad_stretch() {
-    let table = well("demo --messages 3000 --seed 4");
-    assert!(table.contains("TSN circle of 2^32 closed                        yes"), "{}", table);
-    assert!(table.contains("tiles compared byte by byte, equal and in order  3,375"), "{}", table);
+    let (ended, said) = well("demo --messages 3000 --seed 4");
+    assert!(ended.table.contains("TSN circle of 2^32 closed                        yes"), "{}", ended.table);
+    assert!(ended.table.contains("tiles compared byte by byte, equal and in order  3,375"), "{}", ended.table);
+    assert_eq!(ended.verdict, "all 3,375 tiles came once, in order, byte for byte");
+    assert_eq!(said.matches("  TSN 4,294,967,295 to 0\n").count(), 1, "{}", said);
 }
 
 #[test]
 fn both_circles_close_in_fair_weather() {
-    let table = well("demo --loss 0 --repeat 0 --reorder 0 --damage 0 --messages 65600");
-    assert!(table.contains("SSN circle of 2^16 closed                        yes"), "{}", table);
+    let (ended, said) = well("demo --loss 0 --repeat 0 --reorder 0 --damage 0 --messages 65600");
+    assert!(ended.table.contains("SSN circle of 2^16 closed                        yes"), "{}", ended.table);
+    assert_eq!(said.matches("  SSN 65,535 to 0 on band 0\n").count(), 1, "{}", said);
 }
 
 #[test]
-fn the_two_ends_meet_on_real_addresses_and_both_write_captures() {
-    let (sent, received) = (scratch("field.pcap"), scratch("head.pcap"));
+fn a_head_sends_to_a_field_computer_on_real_addresses_and_both_write_captures() {
+    let (sent, received) = (scratch("head.pcap"), scratch("field.pcap"));
     let port = free_port();
-    let head_line = format!("head 127.0.0.1:{} --pcap {}", port, received.display());
-    let head = thread::spawn(move || well(&head_line));
-    let field = well(&format!("field 127.0.0.1:{} --messages 400 --pcap {}", port, sent.display()));
-    let head = head.join().expect("the head ends");
-    for table in [field, head] {
-        assert!(table.lines().next().map_or(false, |line| line.ends_with(" 450")), "{}", table);
-    }
+    let field_line = format!("field 127.0.0.1:{} --count 1 --pcap {}", port, received.display());
+    let field = thread::spawn(move || well(&field_line));
+    let (head, _) = well(&format!("head 127.0.0.1:{} --messages 400 --pcap {}", port, sent.display()));
+    let (field, _) = field.join().expect("the field computer ends");
+    assert_eq!(head.verdict, "the field computer has all 450 tiles");
+    assert_eq!(field.verdict, "all 450 tiles of 1 head came once, in order, byte for byte");
     for capture in [sent, received] {
         let bytes = fs::read(&capture).expect("the capture was written");
         assert_eq!(bytes[..4], [0xd4, 0xc3, 0xb2, 0xa1]);
@@ -75,26 +81,157 @@ fn the_two_ends_meet_on_real_addresses_and_both_write_captures() {
 }
 
 #[test]
+fn a_field_computer_at_all_addresses_serves_one_head_after_another() {
+    let port = free_port();
+    let field_line = format!("field {} --count 2", port);
+    let field = thread::spawn(move || well(&field_line));
+    // Of both kinds, where the machine has both.
+    let other = if UdpSocket::bind("[::1]:0").is_ok() { "[::1]" } else { "127.0.0.1" };
+    for (address, messages) in [("127.0.0.1", 100), (other, 50)] {
+        let (head, _) = well(&format!("head {}:{} --messages {}", address, port, messages));
+        assert!(head.verdict.starts_with("the field computer has all"), "{}", head.verdict);
+    }
+    let (field, said) = field.join().expect("the field computer ends");
+    assert_eq!(field.verdict, "all 168 tiles of 2 heads came once, in order, byte for byte");
+    assert!(said.contains("112 tiles from 127.0.0.1:"), "{}", said);
+    assert!(said.contains(&format!("56 tiles from {}:", other)), "{}", said);
+}
+
+/// A field computer and a head that have begun, each with what stops it.
+fn begun(messages: u32) -> [(Stop, thread::JoinHandle<(Ended, String)>); 2] {
+    let port = free_port();
+    let lines = [format!("field 127.0.0.1:{}", port), format!("head 127.0.0.1:{} --messages {}", port, messages)];
+    let ends = lines.map(|line| {
+        let stop = Stop::default();
+        let asked = stop.clone();
+        let run = thread::spawn(move || run_until(&line, &asked).unwrap_or_else(|failure| panic!("{}", failure)));
+        thread::sleep(Duration::from_millis(500));
+        (stop, run)
+    });
+    thread::sleep(Duration::from_millis(500));
+    ends
+}
+
+#[test]
+fn a_head_that_is_stopped_shuts_down_and_its_tiles_are_there() {
+    let [(stop_field, field), (stop_head, head)] = begun(60_000_000);
+    stop_head.ask();
+    let (head, _) = head.join().expect("the head ends");
+    assert!(head.verdict.starts_with("stopped: ") && head.verdict.ends_with("the field computer has them"), "{}", head.verdict);
+    assert!(head.was_stopped && head.faults.is_empty(), "{:?}", head);
+    stop_field.ask();
+    let (field, _) = field.join().expect("the field computer ends");
+    assert!(field.verdict.starts_with("all "), "{:?}", field);
+    assert!(!field.was_stopped && field.faults.is_empty(), "{:?}", field);
+    let tiles = |verdict: &str, at: usize| verdict.split(' ').nth(at).map(str::to_string);
+    assert_eq!(tiles(&head.verdict, 1), tiles(&field.verdict, 1));
+}
+
+#[test]
+fn a_field_computer_that_is_stopped_tells_its_head() {
+    let [(stop_field, field), (_, head)] = begun(60_000_000);
+    stop_field.ask();
+    let (field, _) = field.join().expect("the field computer ends");
+    assert!(field.verdict.starts_with("stopped, and the head told: the "), "{:?}", field);
+    assert!(field.was_stopped && field.faults.is_empty(), "{:?}", field);
+    let (head, _) = head.join().expect("the head ends");
+    assert_eq!(head.faults, ["the field computer shut down before all tiles were handed in"]);
+}
+
+#[test]
+fn who_is_stopped_twice_aborts_and_tells_the_other() {
+    let [(stop_field, field), (stop_head, head)] = begun(60_000_000);
+    stop_head.ask();
+    stop_head.ask();
+    let (head, _) = head.join().expect("the head ends");
+    assert!(head.verdict.starts_with("stopped and aborted, and the field computer told: "), "{:?}", head);
+    assert!(head.was_stopped && head.faults.is_empty(), "{:?}", head);
+    thread::sleep(Duration::from_millis(500));
+    stop_field.ask();
+    let (field, _) = field.join().expect("the field computer ends");
+    assert_eq!(field.faults.len(), 1, "{:?}", field);
+    assert!(field.faults[0].ends_with("the association is closed: aborted by the peer"), "{:?}", field.faults);
+}
+
+#[test]
+fn a_head_says_where_nobody_listens_and_can_be_stopped() {
+    let stop = Stop::default();
+    let asked = stop.clone();
+    let line = format!("head 127.0.0.1:{}", free_port());
+    let address = line.split(' ').nth(1).map(str::to_string).unwrap_or_default();
+    let head = thread::spawn(move || run_until(&line, &asked).unwrap_or_else(|failure| panic!("{}", failure)));
+    thread::sleep(Duration::from_millis(2500));
+    stop.ask();
+    let (head, said) = head.join().expect("the head ends");
+    assert!(said.contains(&format!("  nobody listens at {} (port unreachable)\n", address)), "{}", said);
+    assert!(head.was_stopped, "{:?}", head);
+}
+
+#[test]
+fn a_head_says_why_the_answer_is_refused() {
+    let peer = UdpSocket::bind("127.0.0.1:0").expect("there is a free port");
+    let address = peer.local_addr().expect("it has an address");
+    peer.set_read_timeout(Some(Duration::from_secs(20))).expect("it can wait");
+    let stop = Stop::default();
+    let asked = stop.clone();
+    let head = thread::spawn(move || run_until(&format!("head {}", address), &asked).unwrap_or_else(|failure| panic!("{}", failure)));
+    let (_, from) = peer.recv_from(&mut [0; 2048]).expect("it is asked");
+    peer.send_to(b"not today", from).expect("loopback carries it");
+    thread::sleep(Duration::from_millis(2500));
+    stop.ask();
+    let (_, said) = head.join().expect("the head ends");
+    assert!(said.contains(&format!("  {} answers, and its answer is refused: 2 (packet size)\n", address)), "{}", said);
+}
+
+#[test]
+fn a_head_from_a_network_that_is_not_admitted_gets_no_answer() {
+    let port = free_port();
+    let stops = [Stop::default(), Stop::default()];
+    let lines = [format!("field 127.0.0.1:{} --admit 192.0.2.0/24", port), format!("head 127.0.0.1:{}", port)];
+    let mut runs = Vec::new();
+    for (line, stop) in lines.into_iter().zip(stops.clone()) {
+        runs.push(thread::spawn(move || run_until(&line, &stop).unwrap_or_else(|failure| panic!("{}", failure))));
+    }
+    thread::sleep(Duration::from_millis(2500));
+    stops.iter().for_each(Stop::ask);
+    let ended: Vec<_> = runs.into_iter().map(|run| run.join().expect("it ends")).collect();
+    assert_eq!(ended[0].0.verdict, "no head came");
+    assert!(ended[1].1.contains(&format!("  no answer from 127.0.0.1:{} yet\n", port)), "{}", ended[1].1);
+}
+
+#[test]
+fn a_demonstration_that_is_stopped_loses_nothing_that_was_handed_in() {
+    let stop = Stop::default();
+    let asked = stop.clone();
+    let demo = thread::spawn(move || run_until("demo --messages 60000000", &asked).unwrap_or_else(|failure| panic!("{}", failure)));
+    thread::sleep(Duration::from_millis(1500));
+    stop.ask();
+    let (demo, _) = demo.join().expect("the demonstration ends");
+    assert!(demo.verdict.ends_with("all of those came once, in order, byte for byte"), "{:?}", demo);
+    assert!(demo.was_stopped && demo.faults.is_empty(), "{:?}", demo);
+}
+
+#[test]
 fn a_port_in_use_is_named() {
     let taken = UdpSocket::bind("127.0.0.1:0").expect("there is a free port");
     let address = taken.local_addr().expect("it has an address");
-    let head = complaint(&format!("head {}", address));
-    assert_eq!(head, format!("cannot use {}: the port is in use; stop the program that has it, or choose another port", address));
-    let field = complaint(&format!("field 127.0.0.1:9 --bind {}", address));
-    assert_eq!(field, head);
+    let field = complaint(&format!("field {}", address));
+    assert_eq!(field, format!("cannot use {}: the port is in use; stop the program that has it, or choose another port", address));
+    let head = complaint(&format!("head 127.0.0.1:9 --bind {}", address));
+    assert_eq!(head, field);
 }
 
 #[test]
 fn an_address_of_another_machine_is_named() {
-    let said = complaint("head 192.0.2.1:9899");
+    let said = complaint("field 192.0.2.1:9899");
     assert_eq!(said, "cannot use 192.0.2.1:9899: it is no address of this machine");
 }
 
 #[test]
 fn a_file_that_cannot_be_written_is_named_before_anything_is_sent() {
     let path = scratch("no-such-folder").join("x.pcap");
-    for line in ["demo", "head 127.0.0.1:0", "field 127.0.0.1:9"] {
-        let said = complaint(&format!("{} --pcap {}", line.replace(":0", &format!(":{}", free_port())), path.display()));
+    for line in ["demo", "field 127.0.0.1:0", "head 127.0.0.1:9"] {
+        let said = complaint(&format!("{} --pcap {}", line, path.display()));
         assert!(said.starts_with(&format!("cannot write {}: ", path.display())), "{}", said);
     }
 }

@@ -1,14 +1,14 @@
 //! "Two circles": the signed distance on a circle of size n, and its two instances.
 
+use std::cmp::Ordering;
+
 /// "the one whole number between -(N/2 - 1) and N/2 - 1 that is congruent to b - a"; none where it is opposite.
 fn distance(n: i64, a: i64, b: i64) -> Option<i64> {
     let d = (b - a).rem_euclid(n);
-    if d == n / 2 {
-        None
-    } else if d < n / 2 {
-        Some(d)
-    } else {
-        Some(d - n)
+    match d.cmp(&(n / 2)) {
+        Ordering::Equal => None,
+        Ordering::Less => Some(d),
+        Ordering::Greater => Some(d - n),
     }
 }
 

@@ -207,7 +207,7 @@ pub fn init(c: Seen<'_>) -> Init {
 }
 
 /// The parameters of an INIT or INIT ACK: type, and the whole parameter without its padding.
-pub fn parameters<'a>(c: Seen<'a>) -> impl Iterator<Item = (u16, &'a [u8])> {
+pub fn parameters(c: Seen<'_>) -> impl Iterator<Item = (u16, &[u8])> {
     let b = c.bytes;
     let mut at = 20;
     std::iter::from_fn(move || {
@@ -227,7 +227,7 @@ pub fn parameter(c: Seen<'_>, kind: u16) -> Option<&[u8]> {
 }
 
 /// The unknown parameters that are to be reported; one that stops ends the reports.
-pub fn reported_parameters<'a>(c: Seen<'a>) -> Vec<&'a [u8]> {
+pub fn reported_parameters(c: Seen<'_>) -> Vec<&[u8]> {
     let mut found = Vec::new();
     for (kind, bytes) in parameters(c) {
         if matches!(kind, 1 | 5 | 6 | 7 | 8 | 9 | 11 | 12 | 0x8000) {

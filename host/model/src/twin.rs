@@ -133,11 +133,11 @@ fn unlike<T: fmt::Debug>(what: &str, left: &T, right: &T) -> String {
         names.truncate(depth);
         names.push(l.trim());
         if l != r && said.len() < 4000 {
-            said.push_str(&format!("\n  line {i}: {} and {}", names.join(" "), r.trim()));
+            said.extend(["\n  line ", &i.to_string(), ": ", &names.join(" "), " and ", r.trim()]);
         }
     }
     if left.lines().count() != right.lines().count() {
-        said.push_str(&format!("\n  {left}\n  and\n  {right}"));
+        said.extend(["\n  ", &left, "\n  and\n  ", &right]);
     }
     said
 }

@@ -174,7 +174,7 @@ fn a_contradiction_is_refused_at_once() {
     assert_eq!(e.arrive(&[piece(4_294_967_295, true, false)])[0].number, 0);
     let v = &e.arrive(&[piece(0, true, false)])[0];
     assert_eq!((v.number, v.cause, v.value), (21, 13, 0));
-    let before = e.a.clone();
+    let before = e.a;
     assert_eq!(e.arrive(&[piece(0, true, true)])[0].number, 21);
     assert_eq!(e.a, before);
     assert_eq!(e.arrive(&[piece(2, true, true)])[0].number, 0);

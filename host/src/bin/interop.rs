@@ -1,6 +1,6 @@
 //! Our side of the interoperation tests (tests/interop/run): one association over loopback with a foreign stack, by a plan that both sides know.
 //!
-//!     interop connect|listen here=UDP there=UDP port=PORT to=PORT send=N take=N plan=one|spread|small first=both|us|peer tsn=N
+//!     interop connect|listen here=UDP there=UDP port=PORT to=PORT send=N take=N plan=one|spread|small|tsctp first=both|us|peer tsn=N
 //!             end=shutdown|abort|peer-shutdown|peer-abort|refused:N heartbeat=MS idle=MS linger=MS weather=fair|bad seconds=S pcap=FILE
 
 use oilwhisper::calls::{Cause, Refusal, Taken};
@@ -30,13 +30,7 @@ const TURN: Duration = Duration::from_millis(20);
 /// The relay stops when the process does.
 static NEVER: AtomicBool = AtomicBool::new(false);
 
-const BAD: Weather = Weather {
-    delay: Duration::from_millis(1),
-    loss: 0.03,
-    repeat: 0.03,
-    reorder: 0.05,
-    damage: 0.02,
-};
+const BAD: Weather = Weather { delay: Duration::from_millis(1), loss: 0.03, repeat: 0.03, reorder: 0.05, damage: 0.02 };
 
 type Outcome<T> = Result<T, String>;
 
@@ -77,12 +71,15 @@ enum Plan {
     Spread,
     /// On one stream, in order, of one chunk each.
     Small,
+    /// What libusrsctp's own tsctp sends: on stream 0, in order, 400 times the same byte.
+    Tsctp,
 }
 
 impl Plan {
     fn stream(self, i: u32) -> u16 {
         match self {
             Plan::One | Plan::Small => 3,
+            Plan::Tsctp => 0,
             Plan::Spread => (i % u32::from(STREAMS)) as u16,
         }
     }
@@ -98,11 +95,15 @@ impl Plan {
             Plan::Spread if i % 100 == 50 => 65_536,
             Plan::Spread => 1 + i.wrapping_mul(7919) % 2000,
             Plan::Small => 1 + i.wrapping_mul(31) % 512,
+            Plan::Tsctp => 400,
         };
         length as usize
     }
 
     fn message(self, direction: u32, i: u32) -> Vec<u8> {
+        if self == Plan::Tsctp {
+            return vec![b'b'; self.length(i)];
+        }
         let word = i.wrapping_mul(2_654_435_761).wrapping_add(direction.wrapping_mul(2_654_435_769));
         let byte = |at: usize| (word >> (8 * (at & 3))) as u8 ^ (at * 31) as u8;
         (0..self.length(i)).map(byte).collect()
@@ -138,7 +139,11 @@ impl Ledger {
     }
 
     fn enter(&mut self, taken: Taken, message: &[u8]) -> Outcome<()> {
-        let i = taken.ppid.wrapping_sub(NUMBERED);
+        let i = match self.plan {
+            // It numbers nothing, so the order alone tells.
+            Plan::Tsctp => self.count,
+            _ => taken.ppid.wrapping_sub(NUMBERED),
+        };
         match self.came.get_mut(i as usize) {
             Some(came) if !*came => *came = true,
             _ => return Err(format!("message {} came, which was never sent or came before", i)),
@@ -200,6 +205,7 @@ impl Side {
             match event {
                 Event::Up => self.is_up = true,
                 Event::Down(why) => self.down = Some(why),
+                Event::Quiet(_) | Event::Heard => {}
             }
         }
         if self.is_up && self.down.is_none() {
@@ -306,16 +312,14 @@ fn plan_of(word: &str) -> Outcome<Plan> {
         "one" => Ok(Plan::One),
         "spread" => Ok(Plan::Spread),
         "small" => Ok(Plan::Small),
+        "tsctp" => Ok(Plan::Tsctp),
         _ => Err(format!("plan={} is no plan", word)),
     }
 }
 
 fn end_of(word: &str) -> Outcome<End> {
     match word.split_once(':') {
-        Some(("refused", number)) => number
-            .parse()
-            .map(|number| End::Refused(Refusal(number)))
-            .map_err(|_| format!("{} is no number", number)),
+        Some(("refused", number)) => number.parse().map(|number| End::Refused(Refusal(number))).map_err(|_| format!("{} is no number", number)),
         _ => match word {
             "shutdown" => Ok(End::WeShutDown),
             "abort" => Ok(End::WeAbort),

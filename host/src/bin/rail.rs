@@ -1,18 +1,23 @@
 //! The rail's command.
 
 use oilwhisper::library::Proved;
-use oilwhisper::rail::arguments::{parse, Command, USAGE};
+use oilwhisper::rail::arguments::{parse, Command, USAGE, VERSION};
+use oilwhisper::rail::report::Ended;
+use oilwhisper::rail::stop::Stop;
 use oilwhisper::rail::{demo, lone, Failure};
 use std::io::{self, Write};
 use std::process::ExitCode;
 
 const UNEQUAL: u8 = 1;
 const MISUSED: u8 = 2;
+const STOPPED: u8 = 3;
 
 fn main() -> ExitCode {
     let words: Vec<String> = std::env::args().skip(1).collect();
     match parse(&words) {
-        Ok(command) => run(command),
+        Ok(Command::Help) => say(USAGE),
+        Ok(Command::Version) => say(VERSION),
+        Ok(command) => conclude(run(command)),
         Err(failure) => {
             eprintln!("rail: {}\n'rail help' tells what there is.", failure);
             ExitCode::from(MISUSED)
@@ -20,33 +25,38 @@ fn main() -> ExitCode {
     }
 }
 
-fn run(command: Command) -> ExitCode {
-    let out = &mut io::stdout();
-    let ended = match command {
-        Command::Help => {
-            let _ = write!(out, "{}", USAGE);
-            return ExitCode::SUCCESS;
-        }
-        Command::Demo(asked) => demo::run::<Proved>(&asked, out).map(|outcome| (outcome.table, outcome.faults)),
-        Command::Head(asked) => lone::head::<Proved>(&asked, out),
-        Command::Field(asked) => lone::field::<Proved>(&asked, out),
-    };
-    conclude(ended)
+fn say(text: &str) -> ExitCode {
+    let _ = io::stdout().write_all(text.as_bytes());
+    ExitCode::SUCCESS
 }
 
-fn conclude(ended: Result<lone::Ended, Failure>) -> ExitCode {
+fn run(command: Command) -> Result<Ended, Failure> {
+    let out = &mut io::stdout();
+    let stop = Stop::on_signals();
+    match command {
+        Command::Help | Command::Version => Ok(Ended::default()),
+        Command::Demo(asked) => demo::run::<Proved>(&asked, &stop, out),
+        Command::Head(asked) => lone::head::<Proved>(&asked, &stop, out),
+        Command::Field(asked) => lone::field::<Proved>(&asked, &stop, out),
+    }
+}
+
+fn conclude(ended: Result<Ended, Failure>) -> ExitCode {
     match ended {
-        Ok((table, faults)) => {
+        Ok(ended) => {
             // A closed standard output changes nothing: the exit status still tells.
-            let _ = write!(io::stdout(), "\n{}", table);
+            let _ = write!(io::stdout(), "\n{}\n", ended.table);
             let _ = io::stdout().flush();
-            for fault in faults.iter().take(20) {
+            for fault in ended.faults.iter().take(20) {
                 eprintln!("rail: {}", fault);
             }
-            if faults.is_empty() {
-                ExitCode::SUCCESS
-            } else {
+            let _ = writeln!(io::stdout(), "{}", ended.verdict);
+            if !ended.faults.is_empty() {
                 ExitCode::from(UNEQUAL)
+            } else if ended.was_stopped {
+                ExitCode::from(STOPPED)
+            } else {
+                ExitCode::SUCCESS
             }
         }
         Err(failure) => {

@@ -1,42 +1,26 @@
 //! What the command line asks for.
 
 use super::Failure;
+use crate::admission::Network;
+use crate::endpoint::Config;
 use crate::pcap::ENCAPSULATION;
 use crate::relay::Weather;
-use std::net::{Ipv4Addr, SocketAddr, ToSocketAddrs};
+use std::net::{Ipv4Addr, Ipv6Addr, SocketAddr, ToSocketAddrs};
 use std::path::PathBuf;
 use std::str::FromStr;
 use std::time::Duration;
 
-pub const USAGE: &str = "\
-rail: tiles of eight colour bands over SCTP in UDP, on the proved core
+/// ./rail shows it too, without a build.
+pub const USAGE: &str = include_str!("usage.txt");
+pub const VERSION: &str = concat!("rail ", env!("CARGO_PKG_VERSION"), "\n");
 
-  rail demo [OPTION...]           a field computer and a head on this machine, with a bad stretch between them
-  rail head ADDRESS [OPTION...]   the head: waits at ADDRESS (HOST:PORT, or PORT alone for all of this machine) for a field computer
-  rail field ADDRESS [OPTION...]  the field computer: sends its tiles to the head at ADDRESS
-  rail help                       this text
-
-  --messages N   tiles of the first band, one of another band to every eight (demo, field; 66000: its numbers go round the circle of 65,536)
-  --seed N       what is in the tiles, and in the demo which packets suffer (demo, field; 1)
-  --loss P       percent of packets dropped (demo; 1)
-  --repeat P     percent repeated (demo; 1)
-  --reorder P    percent held back so that later ones overtake them (demo; 2)
-  --damage P     percent with a bit changed (demo; 0.2)
-  --delay MS     how long every packet takes (demo; 0)
-  --pcap FILE    writes what was sent for Wireshark; every datagram shows port 9899, that of SCTP inside UDP
-  --bind ADDRESS where the field computer's own socket stands (field; any free port)
-  --port N       the SCTP port inside UDP at this end (head: 5001, field: 5000)
-  --to-port N    the SCTP port inside UDP at the head (field; 5001)
-
-The exit status is 0 where every tile came once, in order, byte for byte, and 1 where not; 2 for a command line that is none of these.
-";
-
-pub const HEAD_PORT: u16 = 5001;
-pub const FIELD_PORT: u16 = 5000;
+pub const HEAD_PORT: u16 = 5000;
+pub const FIELD_PORT: u16 = 5001;
 
 #[derive(Clone, Debug, PartialEq)]
 pub enum Command {
     Help,
+    Version,
     Demo(Demo),
     Head(Head),
     Field(Field),
@@ -50,21 +34,35 @@ pub struct Demo {
     pub pcap: Option<PathBuf>,
 }
 
+/// How a silent peer is found out.
+#[derive(Clone, Copy, Debug, PartialEq, Eq)]
+pub struct Beats {
+    pub heartbeat: Duration,
+    pub unanswered: u32,
+}
+
 #[derive(Clone, Debug, PartialEq, Eq)]
 pub struct Head {
+    /// The field computer's.
     pub address: SocketAddr,
+    pub bind: SocketAddr,
     pub port: u16,
+    pub to_port: u16,
+    pub messages: u64,
+    pub seed: u64,
+    pub beats: Beats,
     pub pcap: Option<PathBuf>,
 }
 
 #[derive(Clone, Debug, PartialEq, Eq)]
 pub struct Field {
     pub address: SocketAddr,
-    pub bind: Option<SocketAddr>,
     pub port: u16,
-    pub to_port: u16,
-    pub messages: u64,
-    pub seed: u64,
+    /// After so many heads it ends.
+    pub count: Option<u64>,
+    /// From where heads may come; from everywhere, if nothing is said.
+    pub admits: Option<Vec<Network>>,
+    pub beats: Beats,
     pub pcap: Option<PathBuf>,
 }
 
@@ -77,12 +75,15 @@ pub fn parse(words: &[String]) -> Result<Command, Failure> {
         Some((name, rest)) => (name.as_str(), rest),
         None => return Ok(Command::Help),
     };
+    if words.iter().any(|word| word == "--help" || word == "-h") || name == "help" {
+        return Ok(Command::Help);
+    }
     match name {
         "demo" => demo(Options::of(rest, 0)?).map(Command::Demo),
         "head" => head(Options::of(rest, 1)?).map(Command::Head),
         "field" => field(Options::of(rest, 1)?).map(Command::Field),
-        "help" | "--help" | "-h" => Ok(Command::Help),
-        other => Err(Failure(format!("'{}' is no command: there are demo, head, field and help", other))),
+        "--version" => Ok(Command::Version),
+        other => Err(Failure(format!("'{}' is no command: there are demo, head, field, help and --version", other))),
     }
 }
 
@@ -103,38 +104,74 @@ fn demo(mut options: Options) -> Result<Demo, Failure> {
 }
 
 fn head(mut options: Options) -> Result<Head, Failure> {
-    let head = Head { address: listening_address(&options.address()?)?, port: options.port("--port", HEAD_PORT)?, pcap: options.path("--pcap") };
+    let to = options.plain.pop().ok_or_else(|| Failure(format!("the field computer's ADDRESS is missing, as in 192.0.2.7:{}", ENCAPSULATION)))?;
+    let address = address(&to)?;
+    let head = Head {
+        address,
+        bind: match options.text("--bind") {
+            Some(text) => u16::from_str(&text).map(|port| anywhere(address, port)).or_else(|_| resolved(&text))?,
+            None => anywhere(address, 0),
+        },
+        port: options.port("--port", HEAD_PORT)?,
+        to_port: options.port("--to-port", FIELD_PORT)?,
+        messages: options.number("--messages", MESSAGES, 1, MESSAGES_MOST)?,
+        seed: options.number("--seed", 1, 0, u64::MAX)?,
+        beats: options.beats()?,
+        pcap: options.path("--pcap"),
+    };
     options.end().map(|()| head)
 }
 
 fn field(mut options: Options) -> Result<Field, Failure> {
+    let at = options.plain.pop().unwrap_or_else(|| ENCAPSULATION.to_string());
     let field = Field {
-        address: address(&options.address()?)?,
-        bind: options.text("--bind").map(|text| listening_address(&text)).transpose()?,
+        address: listening_address(&at)?,
         port: options.port("--port", FIELD_PORT)?,
-        to_port: options.port("--to-port", HEAD_PORT)?,
-        messages: options.number("--messages", MESSAGES, 1, MESSAGES_MOST)?,
-        seed: options.number("--seed", 1, 0, u64::MAX)?,
+        count: options.optional("--count", 1, u64::MAX)?,
+        admits: options.networks("--admit")?,
+        beats: options.beats()?,
         pcap: options.path("--pcap"),
     };
     options.end().map(|()| field)
 }
 
+/// An address to send to.
 fn address(text: &str) -> Result<SocketAddr, Failure> {
-    let wrong = |why: String| Failure(format!("'{}' is no address ({}): write HOST:PORT, as in 192.0.2.7:{}", text, why, ENCAPSULATION));
-    let mut found = text.to_socket_addrs().map_err(|e| wrong(e.to_string()))?;
-    match found.next() {
-        Some(address) if address.port() == 0 => Err(wrong("port 0 is none to send to".to_string())),
-        Some(address) => Ok(address),
-        None => Err(wrong("nothing has that name".to_string())),
+    match resolved(text)? {
+        address if address.port() == 0 => Err(no_address(text, "port 0 is none to send to")),
+        address => Ok(address),
     }
 }
 
+/// All addresses of this machine from which the other can be reached.
+fn anywhere(other: SocketAddr, port: u16) -> SocketAddr {
+    match other {
+        SocketAddr::V4(_) => SocketAddr::from((Ipv4Addr::UNSPECIFIED, port)),
+        SocketAddr::V6(_) => SocketAddr::from((Ipv6Addr::UNSPECIFIED, port)),
+    }
+}
+
+/// An address to listen at: a port alone is that of all addresses of this machine, and port 0 is any that is free.
 fn listening_address(text: &str) -> Result<SocketAddr, Failure> {
     match u16::from_str(text) {
-        Ok(port) => Ok(SocketAddr::from((Ipv4Addr::UNSPECIFIED, port))),
-        Err(_) => address(text),
+        Ok(port) => Ok(SocketAddr::from((Ipv6Addr::UNSPECIFIED, port))),
+        Err(_) => resolved(text),
     }
+}
+
+fn resolved(text: &str) -> Result<SocketAddr, Failure> {
+    // An IPv6 address with the name of a link, as in [fe80::1%eth0]:9899, is read only without its brackets.
+    let linked = text.strip_prefix('[').and_then(|rest| rest.rsplit_once("]:")).filter(|(host, _)| host.contains('%'));
+    let found = match linked.and_then(|(host, port)| u16::from_str(port).ok().map(|port| (host, port))) {
+        Some(pair) => pair.to_socket_addrs(),
+        None => text.to_socket_addrs(),
+    };
+    let first = found.map_err(|e| no_address(text, &e.to_string()))?.next();
+    first.ok_or_else(|| no_address(text, "nothing has that name"))
+}
+
+fn no_address(text: &str, why: &str) -> Failure {
+    Failure(format!("'{}' is no address ({}): write HOST:PORT, as in 192.0.2.7:{}", text, why, ENCAPSULATION))
 }
 
 /// The words behind a command: plain ones, and pairs of an option and its value, each of which is asked for once.
@@ -164,10 +201,6 @@ impl Options {
         }
     }
 
-    fn address(&mut self) -> Result<String, Failure> {
-        self.plain.pop().ok_or_else(|| Failure(format!("an ADDRESS is missing, as in 192.0.2.7:{}", ENCAPSULATION)))
-    }
-
     fn text(&mut self, name: &str) -> Option<String> {
         let at = self.pairs.iter().position(|(other, _)| other == name)?;
         Some(self.pairs.remove(at).1)
@@ -178,13 +211,33 @@ impl Options {
     }
 
     fn number(&mut self, name: &str, default: u64, least: u64, most: u64) -> Result<u64, Failure> {
+        Ok(self.optional(name, least, most)?.unwrap_or(default))
+    }
+
+    fn optional(&mut self, name: &str, least: u64, most: u64) -> Result<Option<u64>, Failure> {
         match self.text(name) {
-            None => Ok(default),
+            None => Ok(None),
             Some(text) => match u64::from_str(&text) {
-                Ok(number) if (least..=most).contains(&number) => Ok(number),
+                Ok(number) if (least..=most).contains(&number) => Ok(Some(number)),
                 _ => Err(Failure(format!("{} takes a number from {} to {}, not '{}'", name, least, most, text))),
             },
         }
+    }
+
+    fn beats(&mut self) -> Result<Beats, Failure> {
+        let usual = Config::on_a_rail(0);
+        let heartbeat = Duration::from_secs(self.number("--heartbeat", usual.heartbeat.as_secs(), 1, 3600)?);
+        let unanswered = self.number("--unanswered", u64::from(usual.unanswered), 0, 100)? as u32;
+        Ok(Beats { heartbeat, unanswered })
+    }
+
+    /// Networks with commas between them.
+    fn networks(&mut self, name: &str) -> Result<Option<Vec<Network>>, Failure> {
+        let network = |word: &str| {
+            let wrong = |e| Failure(format!("{} takes addresses and networks, as in 192.0.2.7,2001:db8::/32: '{}' is {}", name, word, e));
+            word.parse::<Network>().map_err(wrong)
+        };
+        self.text(name).map(|text| text.split(',').map(network).collect()).transpose()
     }
 
     fn port(&mut self, name: &str, default: u16) -> Result<u16, Failure> {
@@ -242,16 +295,42 @@ mod tests {
 
     #[test]
     fn the_two_ends_take_addresses() {
-        match parsed("head 9899") {
-            Ok(Command::Head(head)) => assert_eq!(head.address, SocketAddr::from(([0, 0, 0, 0], 9899))),
+        let field_at = |line: &str| match parsed(line) {
+            Ok(Command::Field(field)) => field.address.to_string(),
+            other => panic!("{:?}", other),
+        };
+        assert_eq!(field_at("field"), "[::]:9899");
+        assert_eq!(field_at("field 7000"), "[::]:7000");
+        assert_eq!(field_at("field 127.0.0.1:0"), "127.0.0.1:0");
+        let head = |line: &str| match parsed(line) {
+            Ok(Command::Head(head)) => head,
+            other => panic!("{:?}", other),
+        };
+        let asked = head("head [::1]:9899 --bind [::1]:7000 --to-port 7");
+        assert_eq!((asked.address.to_string(), asked.bind.to_string()), ("[::1]:9899".to_string(), "[::1]:7000".to_string()));
+        assert_eq!((asked.port, asked.to_port), (5000, 7));
+        assert_eq!(head("head [::1]:9899").bind.to_string(), "[::]:0");
+        assert_eq!(head("head 127.0.0.1:9899").bind.to_string(), "0.0.0.0:0");
+        assert_eq!(head("head 127.0.0.1:9899 --bind 7000").bind.to_string(), "0.0.0.0:7000");
+    }
+
+    #[test]
+    fn a_field_computer_is_told_who_may_come_and_how_often_to_ask() {
+        match parsed("field --admit 10.0.0.0/8,2001:db8::7 --heartbeat 2 --unanswered 3") {
+            Ok(Command::Field(field)) => {
+                let admits = field.admits.expect("some are named");
+                let is_in = |text: &str| admits.iter().any(|network| network.contains(text.parse().unwrap()));
+                assert!(is_in("10.1.2.3") && is_in("2001:db8::7") && !is_in("11.0.0.1"));
+                assert_eq!(field.beats, Beats { heartbeat: Duration::from_secs(2), unanswered: 3 });
+            }
             other => panic!("{:?}", other),
         }
-        match parsed("field [::1]:9899 --bind 127.0.0.1:7000 --to-port 7") {
-            Ok(Command::Field(field)) => {
-                assert_eq!(field.address.to_string(), "[::1]:9899");
-                assert_eq!(field.bind.map(|address| address.to_string()), Some("127.0.0.1:7000".to_string()));
-                assert_eq!(field.to_port, 7);
-            }
+    }
+
+    #[test]
+    fn a_link_can_be_named() {
+        match parsed("head [fe80::1%lo]:9899") {
+            Ok(Command::Head(Head { address: SocketAddr::V6(six), .. })) => assert_eq!((six.port(), six.scope_id() > 0), (9899, true)),
             other => panic!("{:?}", other),
         }
     }
@@ -264,16 +343,22 @@ mod tests {
         assert!(complaint("demo --messages 0").contains("--messages takes a number from 1"));
         assert!(complaint("demo --seed 1 --seed 2").contains("twice"));
         assert!(complaint("demo 127.0.0.1:1").contains("one word too many"));
-        assert!(complaint("head").contains("ADDRESS is missing"));
-        assert!(complaint("head 127.0.0.1:5 --messages 3").contains("--messages is no option"));
-        assert!(complaint("field 127.0.0.1").contains("'127.0.0.1' is no address"));
-        assert!(complaint("field 127.0.0.1:99999").contains("is no address"));
-        assert!(complaint("field 127.0.0.1:0").contains("port 0"));
+        assert!(complaint("head").contains("the field computer's ADDRESS is missing"));
+        assert!(complaint("field 127.0.0.1:5 --messages 3").contains("--messages is no option"));
+        assert!(complaint("field --admit 10.0.0.0/33").contains("--admit takes addresses and networks"));
+        assert!(complaint("field --heartbeat 0").contains("--heartbeat takes a number from 1"));
+        assert!(complaint("field --count 0").contains("--count takes a number from 1"));
+        assert!(complaint("head 127.0.0.1").contains("'127.0.0.1' is no address"));
+        assert!(complaint("head 127.0.0.1:99999").contains("is no address"));
+        assert!(complaint("head 127.0.0.1:0").contains("port 0 is none to send to"));
     }
 
     #[test]
     fn no_command_asks_for_help() {
         assert_eq!(parsed(""), Ok(Command::Help));
-        assert_eq!(parsed("--help"), Ok(Command::Help));
+        for line in ["help", "--help", "-h", "demo --help", "head --help", "field 127.0.0.1:1 -h"] {
+            assert_eq!(parsed(line), Ok(Command::Help), "{}", line);
+        }
+        assert_eq!(parsed("--version"), Ok(Command::Version));
     }
 }

@@ -1,23 +1,24 @@
 //! One end of the rail by itself, on a real address.
 
 use super::arguments;
-use super::ends::{Field, Head, Stage};
-use super::report::{grouped, per_second, Table};
+use super::ends::{Field, Head, Stage, Turned};
+use super::report::{grouped, per_second, plural, shown, silence, Ended, Table};
+use super::stop::{Stop, Wish};
 use super::{bind, end_capture, start_capture, Failure};
-use crate::endpoint::{Config, Endpoint};
+use crate::endpoint::{Config, Endpoint, Why};
 use crate::library::Library;
 use crate::pcap::{Capture, Tap};
 use crate::random::Random;
 use crate::tiles::{Plan, BANDS};
 use crate::udp::Line;
 use std::io::Write;
-use std::net::{Ipv4Addr, Ipv6Addr, SocketAddr, UdpSocket};
+use std::net::{SocketAddr, UdpSocket};
 use std::path::PathBuf;
 use std::time::{Duration, Instant};
 
 const TURN: Duration = Duration::from_millis(200);
 const PROGRESS: Duration = Duration::from_secs(2);
-/// How long the field computer stays after the end, in case the head did not get its last word. The head's T2 first asks after one RTO.
+/// How long an end stays that had the last word, in case the other did not get it. The other's T2 first asks after one RTO.
 const LINGER: Duration = Duration::from_secs(3);
 
 /// A capture of what one end sends and receives.
@@ -62,85 +63,198 @@ impl Pace {
     }
 }
 
-fn line<L: Library>(socket: UdpSocket, port: u16, recording: &Recording) -> Result<Line<L>, Failure> {
+fn config(port: u16, beats: arguments::Beats) -> Config {
+    Config { streams: BANDS, heartbeat: beats.heartbeat, unanswered: beats.unanswered, ..Config::at_port(port) }
+}
+
+/// Tells once when the other end falls silent, and once when it is heard again.
+#[derive(Default)]
+struct Watch {
+    is_quiet: bool,
+}
+
+impl Watch {
+    fn look(&mut self, is_quiet: bool, lasted: Duration, who: &str, out: &mut dyn Write) {
+        if is_quiet != self.is_quiet {
+            self.is_quiet = is_quiet;
+            let _ = match is_quiet {
+                true => writeln!(out, "  the {} is silent{}", who, silence(lasted)),
+                false => writeln!(out, "  the {} is heard again", who),
+            };
+        }
+    }
+}
+
+fn line<L: Library>(socket: UdpSocket, config: Config, recording: &Recording) -> Result<Line<L>, Failure> {
     let here = socket.local_addr().map_err(Failure::of_network)?;
     let random = Random::from_system().map_err(|e| Failure(format!("the system gives no random numbers: {}", e)))?;
-    let config = Config { streams: BANDS, ..Config::at_port(port) };
     let endpoint = Endpoint::new(config, random, Instant::now());
     Ok(Line::new(endpoint, socket, recording.tap(here)))
 }
 
-/// The table, and what was wrong.
-pub type Ended = (String, Vec<String>);
-
-pub fn head<L: Library>(arguments: &arguments::Head, out: &mut dyn Write) -> Result<Ended, Failure> {
-    let socket = bind(arguments.address)?;
+pub fn head<L: Library>(arguments: &arguments::Head, stop: &Stop, out: &mut dyn Write) -> Result<Ended, Failure> {
+    let socket = bind(arguments.bind)?;
     let recording = Recording::start(&arguments.pcap)?;
-    let mut head = Head::new(line::<L>(socket, arguments.port, &recording)?);
-    let address = head.line.address().map_err(Failure::of_network)?;
-    let _ = writeln!(out, "head: waiting at {} for a field computer (SCTP port {})", address, arguments.port);
-    let mut pace = Pace::new();
-    let mut began = None;
-    let mut ended = Ok(());
-    while ended.is_ok() && head.stage() != Stage::Closed {
-        ended = head.turn(TURN);
-        if head.stage() != Stage::Opening && began.is_none() {
-            began = Some(Instant::now());
-        }
-        if head.stage() != Stage::Opening && pace.is_due() {
-            let _ = writeln!(out, "  {} tiles compared", grouped(head.album().tiles()));
-        }
-    }
-    recording.end()?;
-    let took = began.map(|began| began.elapsed()).unwrap_or_default();
-    let mut table = Table::default();
-    table.count("tiles taken", head.line.endpoint.counts().messages_out);
-    table.count("tiles compared byte by byte, equal and in order", head.album().tiles());
-    table.count("bytes compared", head.album().bytes());
-    table.count("SSN circles closed", u64::from(head.album().sequence_wraps()));
-    table.end("head", head.line.endpoint.counts());
-    table.count("tiles per second", per_second(head.album().tiles(), took));
-    let mut faults: Vec<String> = head.differences().iter().map(ToString::to_string).collect();
-    faults.extend(ended.err().map(|failure| failure.0));
-    Ok((table.text(), faults))
-}
-
-pub fn field<L: Library>(arguments: &arguments::Field, out: &mut dyn Write) -> Result<Ended, Failure> {
-    let anywhere = match arguments.address {
-        SocketAddr::V4(_) => SocketAddr::from((Ipv4Addr::UNSPECIFIED, 0)),
-        SocketAddr::V6(_) => SocketAddr::from((Ipv6Addr::UNSPECIFIED, 0)),
-    };
-    let socket = bind(arguments.bind.unwrap_or(anywhere))?;
-    let recording = Recording::start(&arguments.pcap)?;
-    let line = line::<L>(socket, arguments.port, &recording)?;
+    // So that the system tells where nobody listens. Where it cannot, the line tells why nothing can be sent.
+    let _ = socket.connect(arguments.address);
+    let config = Config { listens: false, ..config(arguments.port, arguments.beats) };
     let plan = Plan::of(arguments.messages);
-    let mut field = Field::start(line, arguments.address, arguments.to_port, plan, arguments.seed)?;
-    let _ = writeln!(out, "field: asking the head at {} (SCTP port {})", arguments.address, arguments.to_port);
+    let mut head = Head::start(line::<L>(socket, config, &recording)?, arguments.address, arguments.to_port, plan, arguments.seed, stop)?;
+    let total = Plan::total(arguments.messages);
+    let _ = writeln!(out, "head: asking the field computer at {} (SCTP port {})", shown(arguments.address), arguments.to_port);
     let mut pace = Pace::new();
     let began = Instant::now();
     let mut ended = Ok(());
-    while ended.is_ok() && field.stage() != Stage::Closed {
-        ended = field.turn(TURN);
+    let mut has_told_circle = false;
+    let mut watch = Watch::default();
+    while ended.is_ok() && head.stage() != Stage::Closed {
+        ended = head.turn(TURN);
+        if matches!(head.stage(), Stage::Open | Stage::Closing) {
+            watch.look(head.is_quiet(), head.silence(), "field computer", out);
+        }
+        if head.has_closed_tsn_circle() && !has_told_circle {
+            has_told_circle = true;
+            let _ = writeln!(out, "  TSN 4,294,967,295 to 0");
+        }
         if pace.is_due() {
-            let counts = field.line.endpoint.counts();
-            let _ = match (field.stage(), field.line.trouble()) {
-                (Stage::Opening, Some(trouble)) => writeln!(out, "  no answer yet: {}", trouble),
-                (Stage::Opening, None) => writeln!(out, "  no answer yet"),
-                _ => writeln!(out, "  {} tiles handed in, {} packets resent", grouped(counts.messages_in), grouped(counts.resent)),
+            let counts = head.line.endpoint.counts();
+            let (handed_in, resent) = (grouped(counts.messages_in), grouped(counts.resent));
+            let _ = match head.stage() {
+                Stage::Opening => writeln!(out, "  {}", head.hindrance()),
+                _ => writeln!(out, "  {} of {} tiles handed in, {} packets resent{}", handed_in, grouped(total), resent, silence(head.silence())),
             };
         }
     }
     let took = began.elapsed();
     let until = Instant::now() + LINGER;
-    while ended.is_ok() && Instant::now() < until {
-        ended = field.turn(TURN);
+    while ended.is_ok() && !head.has_aborted() && stop.wish() != Wish::Abort && Instant::now() < until {
+        ended = head.turn(TURN);
     }
     recording.end()?;
-    let counts = field.line.endpoint.counts();
+    let counts = head.line.endpoint.counts();
     let mut table = Table::default();
     table.count("tiles handed in", counts.messages_in);
-    table.row("TSN circle of 2^32 closed", if field.has_closed_tsn_circle() { "yes" } else { "no" });
-    table.end("field", counts);
+    table.row("TSN circle of 2^32 closed", if head.has_closed_tsn_circle() { "yes" } else { "no" });
+    table.end("head", counts);
     table.count("tiles per second", per_second(counts.messages_in, took));
-    Ok((table.text(), ended.err().map(|failure| failure.0).into_iter().collect()))
+    let faults: Vec<String> = ended.err().map(|failure| failure.0).into_iter().collect();
+    let verdict = if !faults.is_empty() {
+        format!("NOT all tiles arrived for certain: {} of {} were handed in", grouped(counts.messages_in), grouped(total))
+    } else if head.has_aborted() {
+        format!("stopped and aborted, and the field computer told: {} of {} tiles were handed in", grouped(counts.messages_in), grouped(total))
+    } else if head.was_stopped() {
+        format!("stopped: {} of {} tiles were handed in, and the field computer has them", grouped(counts.messages_in), grouped(total))
+    } else {
+        format!("the field computer has all {} tiles", grouped(total))
+    };
+    Ok(Ended { table: table.text(), faults, verdict, was_stopped: head.was_stopped() })
+}
+
+/// What came of the heads that were here.
+#[derive(Default)]
+struct Visits {
+    heads: u64,
+    tiles: u64,
+    bytes: u64,
+    circles: u64,
+    time: Duration,
+    faults: Vec<String>,
+    was_stopped: bool,
+}
+
+impl Visits {
+    /// A head's association ended: the line that tells how.
+    fn end<L: Library>(&mut self, field: &Field<L>, why: Why, took: Duration) -> String {
+        let album = field.album();
+        let from = field.head().map_or_else(|| "a head".to_string(), |head| shown(head).to_string());
+        self.heads += 1;
+        self.tiles += album.tiles();
+        self.bytes += album.bytes();
+        self.circles += album.wrapped().len() as u64;
+        self.time += took;
+        self.was_stopped |= field.is_asked_to_stop();
+        let before = self.faults.len();
+        self.faults.extend(field.differences().iter().map(|difference| format!("from {}: {}", from, difference)));
+        if why != Why::ShutDown && !field.is_asked_to_stop() {
+            self.faults.push(format!("from {}: the association is closed: {}", from, why));
+        }
+        let tiles = plural(album.tiles(), "tile", "tiles");
+        match self.faults.get(before) {
+            None if why == Why::ShutDown => format!("field: {} from {} came once, in order, byte for byte; shut down", tiles, from),
+            None => format!("field: {} from {} came once, in order, byte for byte; {}", tiles, from, why),
+            Some(fault) => format!("field: {} came well {}", tiles, fault),
+        }
+    }
+
+    fn verdict(&self) -> String {
+        let (tiles, heads) = (plural(self.tiles, "tile", "tiles"), plural(self.heads, "head", "heads"));
+        if !self.faults.is_empty() {
+            format!(
+                "NOT all came well: {} of {} came once, in order, byte for byte; {}",
+                tiles,
+                heads,
+                plural(self.faults.len() as u64, "fault", "faults")
+            )
+        } else if self.heads == 0 {
+            "no head came".to_string()
+        } else if self.was_stopped {
+            format!("stopped, and the head told: the {} of {} that came did so once, in order, byte for byte", tiles, heads)
+        } else {
+            format!("all {} of {} came once, in order, byte for byte", tiles, heads)
+        }
+    }
+}
+
+pub fn field<L: Library>(arguments: &arguments::Field, stop: &Stop, out: &mut dyn Write) -> Result<Ended, Failure> {
+    let socket = bind(arguments.address)?;
+    let recording = Recording::start(&arguments.pcap)?;
+    let config = Config { admits: arguments.admits.clone(), most: arguments.count, ..config(arguments.port, arguments.beats) };
+    let mut field = Field::new(line::<L>(socket, config, &recording)?, stop);
+    let address = field.line.address().map_err(Failure::of_network)?;
+    let _ = writeln!(out, "field: waiting at {} for heads (SCTP port {}), until Ctrl-C", address, arguments.port);
+    let mut pace = Pace::new();
+    let mut visits = Visits::default();
+    let mut began = Instant::now();
+    let mut wraps = 0;
+    let mut watch = Watch::default();
+    while arguments.count.map_or(true, |count| visits.heads < count) && (field.has_association() || stop.wish() == Wish::GoOn) {
+        match field.turn(TURN)? {
+            Turned::Nothing => {}
+            Turned::Up => {
+                (began, wraps, watch) = (Instant::now(), 0, Watch::default());
+                if let Some(head) = field.head() {
+                    let _ = writeln!(out, "field: {} is there", shown(head));
+                }
+            }
+            Turned::Ended(why) => {
+                let told = visits.end(&field, why, began.elapsed());
+                let _ = writeln!(out, "{}", told);
+            }
+        }
+        for band in field.album().wrapped().iter().skip(wraps) {
+            let _ = writeln!(out, "  SSN 65,535 to 0 on band {}", band);
+        }
+        wraps = field.album().wrapped().len();
+        if field.has_association() {
+            watch.look(field.is_quiet(), field.silence(), "head", out);
+        }
+        if field.has_association() && pace.is_due() {
+            let _ = writeln!(out, "  {} tiles compared{}", grouped(field.album().tiles()), silence(field.silence()));
+        }
+    }
+    // A head that was shut down from here may not have got the last word.
+    let until = Instant::now() + LINGER;
+    while visits.was_stopped && stop.wish() != Wish::Abort && Instant::now() < until {
+        field.turn(TURN)?;
+    }
+    recording.end()?;
+    let mut table = Table::default();
+    table.count("heads that came", visits.heads);
+    table.count("tiles taken", field.line.endpoint.counts().messages_out);
+    table.count("tiles compared byte by byte, equal and in order", visits.tiles);
+    table.count("bytes compared", visits.bytes);
+    table.count("SSN circles closed", visits.circles);
+    table.end("field", field.line.endpoint.counts());
+    table.count("tiles per second", per_second(visits.tiles, visits.time));
+    Ok(Ended { table: table.text(), verdict: visits.verdict(), faults: visits.faults, was_stopped: visits.was_stopped })
 }

@@ -1,15 +1,16 @@
-//! The rail: a field computer hands in tiles of eight colour bands, a head takes and compares them.
+//! The rail: heads hand in tiles of eight colour bands, a field computer takes and compares them.
 
 pub mod arguments;
 pub mod demo;
 pub mod ends;
 pub mod lone;
 pub mod report;
+pub mod stop;
 
 use crate::pcap::{Capture, Pcap};
 use std::fmt;
 use std::io::{self, ErrorKind};
-use std::net::{SocketAddr, UdpSocket};
+use std::net::{Ipv4Addr, Ipv6Addr, SocketAddr, UdpSocket};
 use std::path::Path;
 use std::sync::{Arc, Mutex};
 
@@ -31,8 +32,15 @@ impl Failure {
     }
 }
 
+/// Where this is for all addresses of a machine that has none of IPv6, it is for all of IPv4.
 pub fn bind(address: SocketAddr) -> Result<UdpSocket, Failure> {
-    UdpSocket::bind(address).map_err(|e| {
+    let bound = match UdpSocket::bind(address) {
+        Err(e) if e.kind() != ErrorKind::AddrInUse && address.ip() == Ipv6Addr::UNSPECIFIED => {
+            UdpSocket::bind((Ipv4Addr::UNSPECIFIED, address.port())).map_err(|_| e)
+        }
+        bound => bound,
+    };
+    bound.map_err(|e| {
         Failure(match e.kind() {
             ErrorKind::AddrInUse => format!("cannot use {}: the port is in use; stop the program that has it, or choose another port", address),
             ErrorKind::AddrNotAvailable => format!("cannot use {}: it is no address of this machine", address),

@@ -1,8 +1,58 @@
-//! What is printed: progress, and the table at the end.
+//! What is printed: progress, the table at the end, and the verdict.
 
+use crate::calls::Refusal;
 use crate::counts::Counts;
 use std::fmt::Write;
+use std::net::{IpAddr, SocketAddr};
 use std::time::Duration;
+
+/// How a run ended.
+#[derive(Clone, Debug, Default, PartialEq, Eq)]
+pub struct Ended {
+    pub table: String,
+    /// What went wrong; nothing, where every tile came once, in order, byte for byte.
+    pub faults: Vec<String>,
+    /// The last line.
+    pub verdict: String,
+    /// It was asked to stop before its end.
+    pub was_stopped: bool,
+}
+
+/// With nothing heard for so long a progress line says so.
+const QUIET: Duration = Duration::from_secs(4);
+
+/// The end of a progress line, where the other end is silent.
+pub fn silence(lasted: Duration) -> String {
+    if lasted < QUIET {
+        String::new()
+    } else {
+        format!(", last heard {} s ago", lasted.as_secs())
+    }
+}
+
+/// One or several.
+pub fn plural(number: u64, one: &str, many: &str) -> String {
+    format!("{} {}", grouped(number), if number == 1 { one } else { many })
+}
+
+/// What is met every day and is no fault: a repeated INIT or echo (7), a duplicate (11), a chunk too far ahead (13), an acknowledgement that was overtaken (15), a
+/// message that is handed in again when there is room (20).
+const USUAL: [u8; 5] = [7, 11, 13, 15, 20];
+
+fn is_usual(refusal: Refusal) -> bool {
+    USUAL.contains(&refusal.0)
+}
+
+/// An address as people write it: one of IPv4 that a socket for both kinds shows as one of IPv6 is shown as one of IPv4.
+pub fn shown(address: SocketAddr) -> SocketAddr {
+    match address.ip() {
+        IpAddr::V6(six) => match six.to_ipv4_mapped() {
+            Some(four) => SocketAddr::from((four, address.port())),
+            None => address,
+        },
+        IpAddr::V4(_) => address,
+    }
+}
 
 /// A number with its thousands set apart.
 pub fn grouped(number: u64) -> String {
@@ -54,8 +104,11 @@ impl Table {
         if counts.last_words > 0 {
             self.count(&format!("{}: handshake replies repeated", name), counts.last_words);
         }
-        for (refusal, count) in counts.refusals() {
+        for (refusal, count) in counts.refusals().filter(|(refusal, _)| !is_usual(*refusal)) {
             self.count(&format!("{}: refused {}", name, refusal), count);
+        }
+        for (refusal, count) in counts.refusals().filter(|(refusal, _)| is_usual(*refusal)) {
+            self.count(&format!("{}: as usual {}", name, refusal), count);
         }
     }
 
@@ -73,7 +126,6 @@ impl Table {
 #[cfg(test)]
 mod tests {
     use super::*;
-    use crate::calls::Refusal;
 
     #[test]
     fn thousands_are_set_apart() {
@@ -87,13 +139,28 @@ mod tests {
     fn a_table_has_even_columns_and_the_refusals_by_number() {
         let mut counts = Counts::default();
         counts.refuse(Refusal(11));
+        counts.refuse(Refusal(3));
         let mut table = Table::default();
         table.end("head", &counts);
         table.row("a", "b");
         let text = table.text();
-        assert!(text.contains("head: refused 11 (duplicate)"), "{}", text);
+        assert!(text.contains("head: refused 3 (checksum)"), "{}", text);
+        assert!(text.contains("head: as usual 11 (duplicate)"), "{}", text);
         let columns: Vec<usize> = text.lines().map(|line| line.trim_end().rfind("  ").unwrap_or(0)).collect();
         assert!(columns.windows(2).all(|pair| pair[0] == pair[1]), "{}", text);
+    }
+
+    #[test]
+    fn silence_is_told_when_it_lasts() {
+        assert_eq!(silence(Duration::from_millis(3900)), "");
+        assert_eq!(silence(Duration::from_millis(8200)), ", last heard 8 s ago");
+    }
+
+    #[test]
+    fn an_address_is_shown_as_people_write_it() {
+        for (address, text) in [("[::ffff:192.0.2.7]:9", "192.0.2.7:9"), ("[2001:db8::7]:9", "[2001:db8::7]:9"), ("192.0.2.7:9", "192.0.2.7:9")] {
+            assert_eq!(shown(address.parse().unwrap()).to_string(), text);
+        }
     }
 
     #[test]

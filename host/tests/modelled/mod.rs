@@ -1,6 +1,6 @@
 //! The model as a library, so that whatever runs on the proved one runs on it too.
 
-use model::record::Association;
+use model::record::{self, Association};
 use model::{Core, Model};
 use oilwhisper::ffi::{Acknowledged, Answer, Arrived, Delivered, Echoed, HandedIn, Lent, Peeked, Record, Transmitted};
 use oilwhisper::library::Library;
@@ -25,7 +25,17 @@ impl Library for Modelled {
     }
 
     fn arrive(record: &mut Record, area: &mut [u8], packet: &[u8], values: Lent, cookie: &[u8], echoed: Echoed, out: &mut [u8]) -> Arrived {
-        unsafe { transmute(Model.arrive(lent(record), area, packet, transmute(values), cookie, transmute(echoed), out)) }
+        unsafe {
+            transmute(Model.arrive(
+                lent(record),
+                area,
+                packet,
+                transmute::<Lent, record::Lent>(values),
+                cookie,
+                transmute::<Echoed, record::Echoed>(echoed),
+                out,
+            ))
+        }
     }
 
     fn associate(record: &mut Record, tag: u32, tsn: u32, port: u16, streams: u16, out: &mut [u8]) -> Answer {

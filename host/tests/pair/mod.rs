@@ -1,7 +1,11 @@
-//! Two endpoints on a clock that the test moves, with a channel each way.
+//! Two endpoints on a clock that the test moves, with a channel each way, and what a stranger may send to either.
 
+// Each test file uses a part of this.
+#![allow(dead_code)]
+
+use model::checksum;
 use oilwhisper::calls::State;
-use oilwhisper::endpoint::{Config, Endpoint, Event};
+use oilwhisper::endpoint::{Config, Datagram, Endpoint, Event};
 use oilwhisper::library::Library;
 use oilwhisper::random::Random;
 use oilwhisper::relay::{Channel, Weather};
@@ -9,6 +13,41 @@ use std::net::SocketAddr;
 use std::time::{Duration, Instant};
 
 pub const PORTS: [u16; 2] = [5000, 5001];
+
+pub const DATA: u8 = 0;
+pub const INIT: u8 = 1;
+pub const INIT_ACK: u8 = 2;
+pub const SACK: u8 = 3;
+pub const HEARTBEAT: u8 = 4;
+pub const HEARTBEAT_ACK: u8 = 5;
+pub const ABORT: u8 = 6;
+pub const SHUTDOWN: u8 = 7;
+pub const SHUTDOWN_ACK: u8 = 8;
+pub const COOKIE_ECHO: u8 = 10;
+pub const COOKIE_ACK: u8 = 11;
+pub const SHUTDOWN_COMPLETE: u8 = 14;
+
+pub const MINUTE: Duration = Duration::from_secs(60);
+
+/// Runs each scenario on the model, and on the proved library where it is linked.
+macro_rules! on_both {
+    ($($scenario:ident)*) => {
+        mod on_the_model {
+            $(#[test]
+            fn $scenario() {
+                super::$scenario::<super::Modelled>();
+            })*
+        }
+
+        #[cfg(feature = "proved")]
+        mod on_the_proved_library {
+            $(#[test]
+            fn $scenario() {
+                super::$scenario::<oilwhisper::library::Proved>();
+            })*
+        }
+    };
+}
 
 /// Whether a packet is lost.
 pub type Loses = Box<dyn FnMut(&[u8]) -> bool>;
@@ -21,6 +60,8 @@ pub struct End<L> {
     /// Decides which packets of this end are lost before they reach its channel.
     pub loses: Loses,
     pub sent: Vec<Vec<u8>>,
+    /// What it sent where the other end is not.
+    pub astray: Vec<Datagram>,
     pub taken: Vec<(u16, u16, Vec<u8>)>,
     pub takes: bool,
     pub events: Vec<Event>,
@@ -28,6 +69,8 @@ pub struct End<L> {
 
 pub struct Pair<L> {
     pub now: Instant,
+    /// There are other addresses than the two; else it is wrong to send anywhere but to the other end.
+    pub has_strangers: bool,
     pub ends: [End<L>; 2],
 }
 
@@ -43,16 +86,17 @@ impl<L: Library> Pair<L> {
     pub fn with(weather: Weather, seed: u64, configs: [Config; 2]) -> Pair<L> {
         let now = Instant::now();
         let end = |n: usize| End {
-            endpoint: Endpoint::new(configs[n], Random::from_key([seed as u8 ^ n as u8; 32]), now),
+            endpoint: Endpoint::new(configs[n].clone(), Random::from_key([seed as u8 ^ n as u8; 32]), now),
             address: SocketAddr::from(([10, 0, 0, n as u8], 9899)),
             channel: Channel::new(weather, seed.wrapping_mul(2) + n as u64),
             loses: Box::new(|_| false),
             sent: Vec::new(),
+            astray: Vec::new(),
             taken: Vec::new(),
             takes: true,
             events: Vec::new(),
         };
-        Pair { now, ends: [end(0), end(1)] }
+        Pair { now, has_strangers: false, ends: [end(0), end(1)] }
     }
 
     /// The first end asks the second for an association.
@@ -74,6 +118,12 @@ impl<L: Library> Pair<L> {
 
     pub fn are(&self, state: State) -> bool {
         self.state(0) == state && self.state(1) == state
+    }
+
+    /// A packet comes to one end from this address, which need not be the other's.
+    pub fn arrive(&mut self, end: usize, packet: &[u8], from: SocketAddr) {
+        let now = self.now;
+        self.ends[end].endpoint.arrive(packet, from, now);
     }
 
     /// Moves the clock from moment to moment until the end is reached; false where so much time passes before.
@@ -130,12 +180,16 @@ impl<L: Library> Pair<L> {
         here.take_all();
         here.endpoint.flush(now);
         while let Some(datagram) = here.endpoint.outgoing() {
-            assert_eq!(datagram.to, there.address);
+            moved = true;
+            if datagram.to != there.address {
+                assert!(self.has_strangers, "to {}", datagram.to);
+                here.astray.push(datagram);
+                continue;
+            }
             if !(here.loses)(&datagram.packet) {
                 here.channel.enter(&datagram.packet, now);
             }
             here.sent.push(datagram.packet);
-            moved = true;
         }
         here.events.extend(std::iter::from_fn(|| here.endpoint.event()));
         moved
@@ -151,6 +205,40 @@ impl<L: Library> End<L> {
             }
         }
     }
+}
+
+/// A packet with a good checksum to this end, from the port of the other, of one chunk.
+pub fn sealed(end: usize, tag: u32, chunk: &[u8]) -> Vec<u8> {
+    let mut packet = Vec::new();
+    packet.extend_from_slice(&PORTS[1 - end].to_be_bytes());
+    packet.extend_from_slice(&PORTS[end].to_be_bytes());
+    packet.extend_from_slice(&tag.to_be_bytes());
+    packet.extend_from_slice(&[0; 4]);
+    packet.extend_from_slice(chunk);
+    checksum::seal(&mut packet);
+    packet
+}
+
+/// An INIT that anybody can write: it shows no tag of ours.
+pub fn init_to(end: usize) -> Vec<u8> {
+    let mut chunk = vec![INIT, 0, 0, 20];
+    for word in [77u32, 65_536, 8 << 16 | 8, 1000] {
+        chunk.extend_from_slice(&word.to_be_bytes());
+    }
+    sealed(end, 0, &chunk)
+}
+
+pub fn stranger(n: u8) -> SocketAddr {
+    SocketAddr::from(([203, 0, 113, n], 9899))
+}
+
+pub fn slow(milliseconds: u64) -> Weather {
+    Weather { delay: Duration::from_millis(milliseconds), ..Weather::FAIR }
+}
+
+/// How many packets of an end, among those to the other, begin with a chunk of this type.
+pub fn sent<L>(pair: &Pair<L>, end: usize, chunk: u8) -> usize {
+    pair.ends[end].sent.iter().filter(|packet| first_chunk(packet) == chunk).count()
 }
 
 /// The type of a packet's first chunk.

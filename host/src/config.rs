@@ -1,0 +1,51 @@
+//! What an endpoint is set to.
+
+use crate::admission::Network;
+use crate::heartbeat;
+use crate::silence;
+use std::time::Duration;
+
+#[derive(Clone, Debug)]
+pub struct Config {
+    /// Our SCTP port, inside UDP.
+    pub port: u16,
+    /// The streams wanted for sending.
+    pub streams: u16,
+    /// Our first TSN, where it is not to be random.
+    pub first_tsn: Option<u32>,
+    /// How long an idle path waits for its next heartbeat, to which an RTO is added.
+    pub heartbeat: Duration,
+    /// So many heartbeats may go unanswered; after one more the association is over.
+    pub unanswered: u32,
+    /// How long a peer that owes an answer may be silent before that is an event. Beyond it an answer always has an RTO.
+    pub quiet: Duration,
+    /// Whether INITs are answered. Whoever asks for an association listens no longer, whatever stands here, until told to: see `Endpoint::listen`.
+    pub listens: bool,
+    /// From where INITs are answered; from everywhere, if nothing is said. There is no other test of who comes: a network that strangers can send into needs one.
+    pub admits: Option<Vec<Network>>,
+    /// How many associations are taken up in the endpoint's life, asked for by others; any number, if nothing is said. At once it is one.
+    pub most: Option<u64>,
+}
+
+impl Config {
+    /// As RFC 9260 section 16 has it, and listening to everyone.
+    pub fn at_port(port: u16) -> Config {
+        Config {
+            port,
+            streams: 8,
+            first_tsn: None,
+            heartbeat: heartbeat::INTERVAL,
+            unanswered: heartbeat::UNANSWERED_MOST,
+            quiet: silence::QUIET,
+            listens: true,
+            admits: None,
+            most: None,
+        }
+    }
+
+    /// On a rail's own network, where a peer that is lost should show within seconds: a heartbeat every 2 s, so that silence is an event 5 s after the last
+    /// packet, and an association that only listens is over after about 80 s.
+    pub fn on_a_rail(port: u16) -> Config {
+        Config { heartbeat: Duration::from_secs(2), unanswered: 5, ..Config::at_port(port) }
+    }
+}

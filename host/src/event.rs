@@ -1,0 +1,40 @@
+//! What an endpoint tells of its association.
+
+use crate::calls::Cause;
+use std::fmt;
+use std::time::Duration;
+
+#[derive(Clone, Copy, Debug, PartialEq, Eq)]
+pub enum Event {
+    Up,
+    Down(Why),
+    /// The peer owes an answer and has not been heard for so long. The association is still up, or still asked for.
+    Quiet(Duration),
+    /// A peer that was quiet is heard again.
+    Heard,
+}
+
+#[derive(Clone, Copy, Debug, PartialEq, Eq)]
+pub enum Why {
+    ShutDown,
+    PeerAborted,
+    WeAborted(Cause),
+    StaleCookie,
+    HostName,
+    NoAnswer,
+}
+
+impl fmt::Display for Why {
+    fn fmt(&self, f: &mut fmt::Formatter) -> fmt::Result {
+        match self {
+            Why::ShutDown => write!(f, "shut down by both ends"),
+            Why::PeerAborted => write!(f, "aborted by the peer"),
+            Why::WeAborted(Cause::User) => write!(f, "aborted by this end"),
+            Why::WeAborted(Cause::NoData(tsn)) => write!(f, "aborted: DATA {} had no payload", tsn),
+            Why::WeAborted(Cause::Violation) => write!(f, "aborted: the peer broke the protocol"),
+            Why::StaleCookie => write!(f, "the cookie came back too late"),
+            Why::HostName => write!(f, "the peer wants a host name resolved"),
+            Why::NoAnswer => write!(f, "the peer does not answer"),
+        }
+    }
+}
