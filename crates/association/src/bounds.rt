@@ -6,7 +6,7 @@ use numbers::Rail;
 use states::State;
 ghost use mathlib.Core.Path.{_≡_};
 ghost use Rattle.chunks.specs.CookieChunk.{isCookie};
-ghost use Rattle.association.specs.Bounds.{areStreams, lacksTag, areEnds, isHead, isSound};
+ghost use Rattle.association.specs.Bounds.{areStreams, lacksTag, areEnds, areFew, isHead, isSound};
 
 // At least one stream, and no more than the profile has.
 pub fn are_streams(n: u16) -> bool
@@ -44,6 +44,16 @@ fn are_ends(e: Ends, known: bool) -> bool
     false
 }
 
+// No more streams than the profile has: in CLOSED none need be agreed.
+fn are_few(e: Ends) -> bool
+    ensures { λ r. ⌜ r ≡ areFew e ⌝ }
+{
+    if (e.streams_in as usize) <= Rail::STREAMS {
+        return (e.streams_out as usize) <= Rail::STREAMS;
+    }
+    false
+}
+
 fn is_echo(c: Cookie) -> bool
     ensures { λ r. ⌜ r ≡ isCookie (c .len) ⌝ }
 {
@@ -57,7 +67,7 @@ fn is_head(state: State, e: Ends, c: Cookie) -> bool
     ensures { λ r. ⌜ r ≡ isHead state e c ⌝ }
 {
     match state {
-        State::Closed => true,
+        State::Closed => are_few(e),
         State::CookieWait(_) => are_ends(e, false),
         State::CookieEchoed(_) => {
             if is_echo(c) {

@@ -31,7 +31,7 @@ use Rattle.states.specs.RowsLaws.{each-state, shutdown-knows}
 use Rattle.association.specs.declared.ends.Association.{Association}
 use Rattle.association.specs.Fresh.{withState}
 use Rattle.association.specs.Bounds.{isHead, earlier}
-use Rattle.association.specs.BoundsLaws.{sound-parts, fewer-streams, ended-ends, earlier-none}
+use Rattle.association.specs.BoundsLaws.{sound-parts, fewer-streams, ended-ends, closed-head, earlier-none}
 use Rattle.association.specs.KeptLaws.{Kept, kept-receiver, kept-sender, kept-with-receiving, kept-with-sending, kept-with-state, kept-closed, kept-moved, kept-started}
 use Rattle.calls.specs.declared.acknowledging.Acknowledged.{Acknowledged}
 use Rattle.calls.specs.declared.closing.Reason.{Reason}
@@ -101,7 +101,7 @@ module _ (a : Association) (k : Kept a) where
   expiry-keeps call out =
       let p = sound-parts a (k .sound) in
       unless-keeps (barred a (isShortOut out) call) _
-      (λ e. tried-keeps-bounds (triedAgain (a .state)) (tries-kept (a .state) (p .tries)) (tried-keeps (λ s. isHead s (a .ends) (a .cookie) ≡ true) refl (λ n h. h) (λ n h. h) (λ n h. h) (λ n h. h) (a .state) (p .head)))
+      (λ e. tried-keeps-bounds (triedAgain (a .state)) (tries-kept (a .state) (p .tries)) (tried-keeps (λ s. isHead s (a .ends) (a .cookie) ≡ true) (closed-head (a .ends) (a .cookie) (a .state) (p .head)) (λ n h. h) (λ n h. h) (λ n h. h) (λ n h. h) (a .state) (p .head)))
 
   pub third-keeps : Keeps (expiringThird a)
   unfolding expiringThird
