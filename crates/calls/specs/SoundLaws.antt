@@ -39,6 +39,7 @@ use Rattle.calls.specs.declared.messages.HandedIn.{HandedIn}
 use Rattle.calls.specs.declared.messages.Delivered.{Delivered}
 use Rattle.calls.specs.declared.transmitting.Transmitted.{Transmitted}
 use Rattle.calls.specs.Answer.{isShortArea, isShortOut, barred, Plan, refusing, unless, answerOf}
+use Rattle.calls.specs.Packet.{lacksPort}
 use Rattle.calls.specs.Opening.{wanting, associateRefusal, associating}
 use Rattle.calls.specs.AnswerLaws.{let-in}
 use Rattle.calls.specs.Messages.{handedIn, deliveredAs, taking, takeBar, delivered}
@@ -46,7 +47,7 @@ use Rattle.calls.specs.Transmit.{transmitBar, transmitted}
 use Rattle.calls.specs.Acknowledging.{acknowledged}
 use Rattle.calls.specs.Timers.{backedOff, triedTo, expiring, expiringThird, sampling}
 use Rattle.calls.specs.Closing.{shutting, aborting}
-use Rattle.calls.specs.Telling.{tellingStream, tellingStale, beating}
+use Rattle.calls.specs.Telling.{tellingStream, staleRefusal, tellingStale, beating}
 
 -- ---- calls that answer by a plan
 
@@ -57,9 +58,9 @@ pub answer-keeps : (p : Plan) (out : List ℕ) → Keeps p → Kept (answerOf p 
 unfolding answerOf
 answer-keeps p out k = k
 
-wanted : (tag port streams : ℕ) → associateRefusal tag port streams ≡ 0 → (eqb tag 0 ≡ false) × (1 ≤ streams)
+wanted : (local tag port streams : ℕ) → associateRefusal local tag port streams ≡ 0 → (eqb tag 0 ≡ false) × (1 ≤ streams)
 unfolding associateRefusal
-wanted tag port streams e = go (eqb port 0) (eqb tag 0) (eqb streams 0) refl e
+wanted local tag port streams e = go (lacksPort local port) (eqb tag 0) (eqb streams 0) refl e
   where
     go : (p t s : Bool) → eqb streams 0 ≡ s → _≡_ {A = ℕ} (pick p 4 (pick t 8 (pick s 8 0))) 0 → (t ≡ false) × (1 ≤ streams)
     go true t s q h = absurd (omega (arith, h))
@@ -85,7 +86,7 @@ module _ (a : Association) (k : Kept a) where
   pub associate-keeps : (tag : ℕ) (tsn : Tsn) (port streams : ℕ) (out : List ℕ) → tsn .0 < 2 ^ 32 → Keeps (associating a tag tsn port streams out)
   unfolding associating
   associate-keeps tag tsn port streams out h =
-      unless-keeps (earlier (barred a (isShortOut out) Associate) (associateRefusal tag port streams)) _ (λ e. let w = wanted tag port streams (earlier-none (barred a (isShortOut out) Associate) (associateRefusal tag port streams) e .1) in wanting-kept a tag tsn port streams h (w .0) (w .1))
+      unless-keeps (earlier (barred a (isShortOut out) Associate) (associateRefusal (a .ends .«local_port») tag port streams)) _ (λ e. let w = wanted (a .ends .«local_port») tag port streams (earlier-none (barred a (isShortOut out) Associate) (associateRefusal (a .ends .«local_port») tag port streams) e .1) in wanting-kept a tag tsn port streams h (w .0) (w .1))
 
   -- T1 and T2
   tried-keeps-bounds : (s : State) → withinTries s ≡ true → isHead s (a .ends) (a .cookie) ≡ true → Keeps (triedTo a s)
@@ -129,7 +130,7 @@ module _ (a : Association) (k : Kept a) where
 
   pub stale-keeps : (port tag late : ℕ) (out : List ℕ) → Keeps (tellingStale a port tag late out)
   unfolding tellingStale
-  stale-keeps port tag late out = unless-keeps (barred a (isShortOut out) TellStale) _ (λ e. k)
+  stale-keeps port tag late out = unless-keeps (earlier (barred a (isShortOut out) TellStale) (staleRefusal (a .ends .«local_port») port tag)) _ (λ e. k)
 
   pub heartbeat-keeps : (value out : List ℕ) → Keeps (beating a value out)
   unfolding beating
