@@ -12,8 +12,8 @@ use Rattle.states.specs.declared.state.State.the-variants.{CookieWait}
 use Rattle.states.specs.declared.call.Call.the-variants.{Associate}
 use Rattle.association.specs.declared.ends.Association.{Association}
 use Rattle.association.specs.Fresh.{started}
-use Rattle.association.specs.Bounds.{earlier}
-use Rattle.calls.specs.Packet.{headOf, lacksPort}
+use Rattle.association.specs.Bounds.{lacksPort, earlier}
+use Rattle.calls.specs.Packet.{headOf}
 use Rattle.calls.specs.Answer.{isShortOut, barred, Plan, carrying, unless}
 
 -- the INIT of a record: every place free, the streams wanted, the next TSN

@@ -1,11 +1,8 @@
 -- A packet with one chunk: the header, the chunk, and the checksum of both.
 use Prim.Native.Nat.{ℕ, _+_}
 use mathlib.Core.Path.{_≡_}
-use mathlib.Core.Bool.{Bool}
 use mathlib.Core.List.{List}
-use lib.Dec.{eqb}
 use lib.ListN.{drop}
-use Rattle.scans.specs.Scan.{either}
 use Rattle.octets.specs.Writing.{wroteCount, wroteAt}
 use Rattle.packets.specs.declared.header.Header.{Header}
 use Rattle.packets.specs.Header.{sealCount, sealBytes}
@@ -19,10 +16,6 @@ headOf e tag = headTo e (e .«peer_port») tag
 -- "Other packets carry" the tag that the peer chose
 abbrev pub toPeer : Ends → Header
 toPeer e = headOf e (e .«peer_tag»)
-
--- a port is 0, which is in no packet (RFC 9260 section 3.1)
-abbrev pub lacksPort : ℕ → ℕ → Bool
-lacksPort local peer = either (eqb local 0) (eqb peer 0)
 
 -- the bytes that a packet with the chunk bs takes, and what then stands in the lent output
 unfoldable pub sentLength : List ℕ → List ℕ → ℕ

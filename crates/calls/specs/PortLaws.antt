@@ -12,9 +12,8 @@ use Rattle.numbers.specs.declared.circle.Tsn.{Tsn}
 use Rattle.packets.specs.declared.header.Header.{Header}
 use Rattle.states.specs.declared.call.Call.the-variants.{Associate, TellStale}
 use Rattle.association.specs.declared.ends.Association.{Association}
-use Rattle.association.specs.Bounds.{earlier}
+use Rattle.association.specs.Bounds.{lacksPort, earlier}
 use Rattle.association.specs.BoundsLaws.{earlier-none}
-use Rattle.calls.specs.Packet.{lacksPort}
 use Rattle.calls.specs.Answer.{isShortOut, barred, Plan, refusing, unless}
 use Rattle.calls.specs.Opening.{wanting, associateRefusal, associating}
 use Rattle.calls.specs.Telling.{staleRefusal, tellingStale}

@@ -12,8 +12,8 @@ use Rattle.chunks.specs.HeartbeatChunk.{heartbeatBytes}
 use Rattle.states.specs.declared.call.Call.the-variants.{Acknowledge, TellStale, Heartbeat}
 use Rattle.association.specs.declared.ends.Association.{Association}
 use Rattle.association.specs.Heads.{headTo}
-use Rattle.association.specs.Bounds.{earlier}
-use Rattle.calls.specs.Packet.{toPeer, lacksPort}
+use Rattle.association.specs.Bounds.{lacksPort, earlier}
+use Rattle.calls.specs.Packet.{toPeer}
 use Rattle.calls.specs.Answer.{isShortOut, barred, Plan, carrying, unless}
 
 -- ERROR with one cause (section 3.3.10)

@@ -44,7 +44,7 @@ fn waiting(a: Association, tag: u32, tsn: Tsn, port: u16, streams: u16) -> Assoc
 fn check(local: u16, tag: u32, port: u16, streams: u16) -> u8
     ensures { λ r. ⌜ r ≡ associateRefusal local tag port streams ⌝ }
 {
-    if packet::lacks_port(local, port) {
+    if association::bounds::lacks_port(local, port) {
         return 4;
     }
     if tag == 0 {

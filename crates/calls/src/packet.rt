@@ -13,7 +13,7 @@ ghost use Rattle.chunks.specs.Cause.{caused, code, information};
 ghost use Rattle.chunks.specs.ShutdownChunk.{shutdownBytes, shutdownAckBytes};
 ghost use Rattle.chunks.specs.CookieChunk.{cookieEchoBytes};
 ghost use Rattle.chunks.specs.HeartbeatChunk.{heartbeatBytes};
-ghost use Rattle.calls.specs.Packet.{headOf, toPeer, lacksPort, Sent};
+ghost use Rattle.calls.specs.Packet.{headOf, toPeer, Sent};
 ghost use Rattle.calls.specs.Opening.{initOf, initBytes};
 ghost use Rattle.calls.specs.Timers.{cookieOf};
 ghost use Rattle.calls.specs.Telling.{errorBytes};
@@ -35,16 +35,6 @@ pub(crate) fn to_peer(e: Ends) -> Header
     ensures { λ r. ⌜ r ≡ toPeer e ⌝ }
 {
     head(e, e.peer_tag)
-}
-
-// Whether one of two ports is 0.
-pub(crate) fn lacks_port(local: u16, peer: u16) -> bool
-    ensures { λ r. ⌜ r ≡ lacksPort local peer ⌝ }
-{
-    if local == 0 {
-        return true;
-    }
-    peer == 0
 }
 
 fn init(a: Association) -> Init

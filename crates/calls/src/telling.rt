@@ -28,7 +28,7 @@ pub fn error_stream(a: Association, stream: StreamId, out: &mut [u8]) -> Answer
 fn check(local: u16, port: u16, tag: u32) -> u8
     ensures { λ r. ⌜ r ≡ staleRefusal local port tag ⌝ }
 {
-    if packet::lacks_port(local, port) {
+    if association::bounds::lacks_port(local, port) {
         return 4;
     }
     if tag == 0 {

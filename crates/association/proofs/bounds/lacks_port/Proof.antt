@@ -1,6 +1,6 @@
 use borrow.Author.Tests.{eq-eqb, ne-eqb}
-use Rattle.calls.proofs.packet.lacks_port.Statement.{statement}
-use Rattle.calls.proofs.packet.lacks_port.Tie as tie
+use Rattle.association.proofs.bounds.lacks_port.Statement.{statement}
+use Rattle.association.proofs.bounds.lacks_port.Tie as tie
 
 returns : tie.Need-returns
 returns c = rw (eq-eqb _ _ (c .if1 .taken))
