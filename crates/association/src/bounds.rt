@@ -6,7 +6,7 @@ use numbers::Rail;
 use states::State;
 ghost use mathlib.Core.Path.{_≡_};
 ghost use Rattle.chunks.specs.CookieChunk.{isCookie};
-ghost use Rattle.association.specs.Bounds.{areStreams, lacksTag, areEnds, isHead, isSound};
+ghost use Rattle.association.specs.Bounds.{areStreams, lacksPort, lacksTag, areEnds, areFew, isHead, isSound};
 
 // At least one stream, and no more than the profile has.
 pub fn are_streams(n: u16) -> bool
@@ -16,6 +16,16 @@ pub fn are_streams(n: u16) -> bool
         return false;
     }
     (n as usize) <= Rail::STREAMS
+}
+
+// Whether one of two ports is 0.
+pub fn lacks_port(local: u16, peer: u16) -> bool
+    ensures { λ r. ⌜ r ≡ lacksPort local peer ⌝ }
+{
+    if local == 0 {
+        return true;
+    }
+    peer == 0
 }
 
 // Whether a tag that is known is 0.
@@ -28,10 +38,13 @@ fn lacks_tag(known: bool, tag: u32) -> bool
     false
 }
 
-// Our tag, the peer's where it is `known`, and the streams.
+// Both ports, our tag, the peer's where it is `known`, and the streams.
 fn are_ends(e: Ends, known: bool) -> bool
     ensures { λ r. ⌜ r ≡ areEnds e known ⌝ }
 {
+    if lacks_port(e.local_port, e.peer_port) {
+        return false;
+    }
     if e.my_tag == 0 {
         return false;
     }
@@ -40,6 +53,16 @@ fn are_ends(e: Ends, known: bool) -> bool
     }
     if are_streams(e.streams_in) {
         return are_streams(e.streams_out);
+    }
+    false
+}
+
+// No more streams than the profile has: in CLOSED none need be agreed.
+fn are_few(e: Ends) -> bool
+    ensures { λ r. ⌜ r ≡ areFew e ⌝ }
+{
+    if (e.streams_in as usize) <= Rail::STREAMS {
+        return (e.streams_out as usize) <= Rail::STREAMS;
     }
     false
 }
@@ -57,7 +80,7 @@ fn is_head(state: State, e: Ends, c: Cookie) -> bool
     ensures { λ r. ⌜ r ≡ isHead state e c ⌝ }
 {
     match state {
-        State::Closed => true,
+        State::Closed => are_few(e),
         State::CookieWait(_) => are_ends(e, false),
         State::CookieEchoed(_) => {
             if is_echo(c) {

@@ -43,7 +43,7 @@ use Rattle.calls.specs.Transmit.{transmitBar, transmitted, transmittedOu
 use Rattle.calls.specs.Acknowledging.{acknowledged, acknowledgedOut}
 use Rattle.calls.specs.Timers.{triedTo, expiring, expiringThird, sampling}
 use Rattle.calls.specs.Closing.{shutting, aborting}
-use Rattle.calls.specs.Telling.{tellingStream, tellingStale, beating}
+use Rattle.calls.specs.Telling.{tellingStream, staleRefusal, tellingStale, beating}
 
 -- ---- calls that answer by a plan
 
@@ -66,7 +66,7 @@ module _ (a : Association) where
 
   pub associate-leaves : (tag : ℕ) (tsn : Tsn) (port streams : ℕ) (out : List ℕ) → Leaves a (associating a tag tsn port streams out)
   unfolding associating
-  associate-leaves tag tsn port streams out = unless-leaves (earlier (barred a (isShortOut out) Associate) (associateRefusal tag port streams)) _ (goes-on _ refl)
+  associate-leaves tag tsn port streams out = unless-leaves (earlier (barred a (isShortOut out) Associate) (associateRefusal (a .ends .«local_port») tag port streams)) _ (goes-on _ refl)
 
   tried-goes : (s : State) → triedTo a s .number ≡ 0
   unfolding triedTo
@@ -100,7 +100,7 @@ module _ (a : Association) where
 
   pub stale-leaves : (port tag late : ℕ) (out : List ℕ) → Leaves a (tellingStale a port tag late out)
   unfolding tellingStale
-  stale-leaves port tag late out = unless-leaves (barred a (isShortOut out) TellStale) _ (goes-on _ refl)
+  stale-leaves port tag late out = unless-leaves (earlier (barred a (isShortOut out) TellStale) (staleRefusal (a .ends .«local_port») port tag)) _ (goes-on _ refl)
 
   pub heartbeat-leaves : (value out : List ℕ) → Leaves a (beating a value out)
   unfolding beating

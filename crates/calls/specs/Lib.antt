@@ -16,4 +16,5 @@ pub mod TransmitLaws
 pub mod CallLaws
 pub mod SoundLaws
 pub mod LeftLaws
+pub mod PortLaws
 pub mod SizeLaws

@@ -12,7 +12,7 @@ use Rattle.states.specs.declared.state.State.the-variants.{CookieWait}
 use Rattle.states.specs.declared.call.Call.the-variants.{Associate}
 use Rattle.association.specs.declared.ends.Association.{Association}
 use Rattle.association.specs.Fresh.{started}
-use Rattle.association.specs.Bounds.{earlier}
+use Rattle.association.specs.Bounds.{lacksPort, earlier}
 use Rattle.calls.specs.Packet.{headOf}
 use Rattle.calls.specs.Answer.{isShortOut, barred, Plan, carrying, unless}
 
@@ -46,12 +46,12 @@ wanting a tag tsn port streams =
     0
     (record { 0 = 1 })
 
--- 4 "port", which section 3.1 wants not to be 0; 8 "INIT …: tag 0, no streams"
-unfoldable pub associateRefusal : ℕ → ℕ → ℕ → ℕ
-associateRefusal tag port streams = pick (eqb port 0) 4 (pick (eqb tag 0) 8 (pick (eqb streams 0) 8 0))
+-- 4 "port", our own too; 8 "INIT …: tag 0, no streams"
+unfoldable pub associateRefusal : ℕ → ℕ → ℕ → ℕ → ℕ
+associateRefusal local tag port streams = pick (lacksPort local port) 4 (pick (eqb tag 0) 8 (pick (eqb streams 0) 8 0))
 
 -- "INIT has tag 0"
 unfoldable pub associating : Association → ℕ → Tsn → ℕ → ℕ → List ℕ → Plan
 associating a tag tsn port streams out =
-    unless (earlier (barred a (isShortOut out) Associate) (associateRefusal tag port streams)) a
+    unless (earlier (barred a (isShortOut out) Associate) (associateRefusal (a .ends .«local_port») tag port streams)) a
     (carrying (wanting a tag tsn port streams) (headOf (wanting a tag tsn port streams .ends) 0) (initBytes (wanting a tag tsn port streams)))

@@ -30,8 +30,8 @@ use Rattle.states.specs.Calls.{knowsPeer}
 use Rattle.states.specs.RowsLaws.{each-state, shutdown-knows}
 use Rattle.association.specs.declared.ends.Association.{Association}
 use Rattle.association.specs.Fresh.{withState}
-use Rattle.association.specs.Bounds.{isHead, earlier}
-use Rattle.association.specs.BoundsLaws.{sound-parts, fewer-streams, ended-ends, earlier-none}
+use Rattle.association.specs.Bounds.{lacksPort, isHead, earlier}
+use Rattle.association.specs.BoundsLaws.{sound-parts, fewer-streams, ended-ends, closed-head, earlier-none}
 use Rattle.association.specs.KeptLaws.{Kept, kept-receiver, kept-sender, kept-with-receiving, kept-with-sending, kept-with-state, kept-closed, kept-moved, kept-started}
 use Rattle.calls.specs.declared.acknowledging.Acknowledged.{Acknowledged}
 use Rattle.calls.specs.declared.closing.Reason.{Reason}
@@ -46,7 +46,7 @@ use Rattle.calls.specs.Transmit.{transmitBar, transmitted}
 use Rattle.calls.specs.Acknowledging.{acknowledged}
 use Rattle.calls.specs.Timers.{backedOff, triedTo, expiring, expiringThird, sampling}
 use Rattle.calls.specs.Closing.{shutting, aborting}
-use Rattle.calls.specs.Telling.{tellingStream, tellingStale, beating}
+use Rattle.calls.specs.Telling.{tellingStream, staleRefusal, tellingStale, beating}
 
 -- ---- calls that answer by a plan
 
@@ -57,22 +57,22 @@ pub answer-keeps : (p : Plan) (out : List ℕ) → Keeps p → Kept (answerOf p 
 unfolding answerOf
 answer-keeps p out k = k
 
-wanted : (tag port streams : ℕ) → associateRefusal tag port streams ≡ 0 → (eqb tag 0 ≡ false) × (1 ≤ streams)
+wanted : (local tag port streams : ℕ) → associateRefusal local tag port streams ≡ 0 → (lacksPort local port ≡ false) × (eqb tag 0 ≡ false) × (1 ≤ streams)
 unfolding associateRefusal
-wanted tag port streams e = go (eqb port 0) (eqb tag 0) (eqb streams 0) refl e
+wanted local tag port streams e = go (lacksPort local port) (eqb tag 0) (eqb streams 0) refl e
   where
-    go : (p t s : Bool) → eqb streams 0 ≡ s → _≡_ {A = ℕ} (pick p 4 (pick t 8 (pick s 8 0))) 0 → (t ≡ false) × (1 ≤ streams)
+    go : (p t s : Bool) → eqb streams 0 ≡ s → _≡_ {A = ℕ} (pick p 4 (pick t 8 (pick s 8 0))) 0 → (p ≡ false) × (t ≡ false) × (1 ≤ streams)
     go true t s q h = absurd (omega (arith, h))
     go false true s q h = absurd (omega (arith, h))
     go false false true q h = absurd (omega (arith, h))
-    go false false false q h = (refl, omega (arith, eqb-false streams 0 q))
+    go false false false q h = (refl, refl, omega (arith, eqb-false streams 0 q))
 
 -- "our own INIT, starts from a fresh record"
-wanting-kept : (a : Association) (tag : ℕ) (tsn : Tsn) (port streams : ℕ) → tsn .0 < 2 ^ 32 → eqb tag 0 ≡ false → 1 ≤ streams → Kept (wanting a tag tsn port streams)
+wanting-kept : (a : Association) (tag : ℕ) (tsn : Tsn) (port streams : ℕ) → tsn .0 < 2 ^ 32 → lacksPort (a .ends .«local_port») port ≡ false → eqb tag 0 ≡ false → 1 ≤ streams → Kept (wanting a tag tsn port streams)
 unfolding wanting
-wanting-kept a tag tsn port streams h t n =
+wanting-kept a tag tsn port streams h p t n =
     kept-started (CookieWait 0) _ tsn 0 (record { 0 = 1 }) refl
-    (ended-ends _ false (record { mine = t; theirs = refl; ins = refl; outs = fewer-streams streams 128 n (omega arith) (smaller-right streams 128) })) h (omega arith)
+    (ended-ends _ false (record { ported = p; mine = t; theirs = refl; ins = refl; outs = fewer-streams streams 128 n (omega arith) (smaller-right streams 128) })) h (omega arith)
 
 module _ (a : Association) (k : Kept a) where
   unless-keeps : (n : ℕ) (p : Plan) → (n ≡ 0 → Keeps p) → Keeps (unless n a p)
@@ -85,7 +85,7 @@ module _ (a : Association) (k : Kept a) where
   pub associate-keeps : (tag : ℕ) (tsn : Tsn) (port streams : ℕ) (out : List ℕ) → tsn .0 < 2 ^ 32 → Keeps (associating a tag tsn port streams out)
   unfolding associating
   associate-keeps tag tsn port streams out h =
-      unless-keeps (earlier (barred a (isShortOut out) Associate) (associateRefusal tag port streams)) _ (λ e. let w = wanted tag port streams (earlier-none (barred a (isShortOut out) Associate) (associateRefusal tag port streams) e .1) in wanting-kept a tag tsn port streams h (w .0) (w .1))
+      unless-keeps (earlier (barred a (isShortOut out) Associate) (associateRefusal (a .ends .«local_port») tag port streams)) _ (λ e. let w = wanted (a .ends .«local_port») tag port streams (earlier-none (barred a (isShortOut out) Associate) (associateRefusal (a .ends .«local_port») tag port streams) e .1) in wanting-kept a tag tsn port streams h (w .0) (w .1) (w .2))
 
   -- T1 and T2
   tried-keeps-bounds : (s : State) → withinTries s ≡ true → isHead s (a .ends) (a .cookie) ≡ true → Keeps (triedTo a s)
@@ -101,7 +101,7 @@ module _ (a : Association) (k : Kept a) where
   expiry-keeps call out =
       let p = sound-parts a (k .sound) in
       unless-keeps (barred a (isShortOut out) call) _
-      (λ e. tried-keeps-bounds (triedAgain (a .state)) (tries-kept (a .state) (p .tries)) (tried-keeps (λ s. isHead s (a .ends) (a .cookie) ≡ true) refl (λ n h. h) (λ n h. h) (λ n h. h) (λ n h. h) (a .state) (p .head)))
+      (λ e. tried-keeps-bounds (triedAgain (a .state)) (tries-kept (a .state) (p .tries)) (tried-keeps (λ s. isHead s (a .ends) (a .cookie) ≡ true) (closed-head (a .ends) (a .cookie) (a .state) (p .head)) (λ n h. h) (λ n h. h) (λ n h. h) (λ n h. h) (a .state) (p .head)))
 
   pub third-keeps : Keeps (expiringThird a)
   unfolding expiringThird
@@ -129,7 +129,7 @@ module _ (a : Association) (k : Kept a) where
 
   pub stale-keeps : (port tag late : ℕ) (out : List ℕ) → Keeps (tellingStale a port tag late out)
   unfolding tellingStale
-  stale-keeps port tag late out = unless-keeps (barred a (isShortOut out) TellStale) _ (λ e. k)
+  stale-keeps port tag late out = unless-keeps (earlier (barred a (isShortOut out) TellStale) (staleRefusal (a .ends .«local_port») port tag)) _ (λ e. k)
 
   pub heartbeat-keeps : (value out : List ℕ) → Keeps (beating a value out)
   unfolding beating

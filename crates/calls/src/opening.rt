@@ -41,10 +41,10 @@ fn waiting(a: Association, tag: u32, tsn: Tsn, port: u16, streams: u16) -> Assoc
 }
 
 // 4 for no port, 8 for no tag or no streams, or 0.
-fn check(tag: u32, port: u16, streams: u16) -> u8
-    ensures { λ r. ⌜ r ≡ associateRefusal tag port streams ⌝ }
+fn check(local: u16, tag: u32, port: u16, streams: u16) -> u8
+    ensures { λ r. ⌜ r ≡ associateRefusal local tag port streams ⌝ }
 {
-    if port == 0 {
+    if association::bounds::lacks_port(local, port) {
         return 4;
     }
     if tag == 0 {
@@ -68,7 +68,8 @@ pub fn associate(
     ensures { λ r. ⌜ Done (associating a tag tsn port streams (now (out .entry))) (now (out .entry)) r (now (out .exit)) ⌝ }
 {
     let b = answer::bar(a, out.len() < answer::OUTPUT, Call::Associate);
-    let n = answer::earlier(b, check(tag, port, streams));
+    let ends = a.ends;
+    let n = answer::earlier(b, check(ends.local_port, tag, port, streams));
     if n == 0 {
         let fresh = waiting(a, tag, tsn, port, streams);
         let length = packet::send_init(fresh, out);

@@ -9,7 +9,7 @@ use packets::Header;
 use states::Call;
 ghost use mathlib.Core.Path.{_≡_};
 ghost use Rattle.calls.specs.Answer.{Done};
-ghost use Rattle.calls.specs.Telling.{tellingStream, tellingStale, beating};
+ghost use Rattle.calls.specs.Telling.{tellingStream, staleRefusal, tellingStale, beating};
 
 // A DATA chunk had a stream that is not agreed (14): ERROR with cause 1.
 pub fn error_stream(a: Association, stream: StreamId, out: &mut [u8]) -> Answer
@@ -24,13 +24,27 @@ pub fn error_stream(a: Association, stream: StreamId, out: &mut [u8]) -> Answer
     answer::refused(a, n)
 }
 
+// 4 for no port or no tag, or 0.
+fn check(local: u16, port: u16, tag: u32) -> u8
+    ensures { λ r. ⌜ r ≡ staleRefusal local port tag ⌝ }
+{
+    if association::bounds::lacks_port(local, port) {
+        return 4;
+    }
+    if tag == 0 {
+        return 4;
+    }
+    0
+}
+
 // A cookie was stale (27), so many microseconds: ERROR with cause 3 to the peer that the cookie names.
 pub fn error_stale(a: Association, port: u16, tag: u32, late: u32, out: &mut [u8]) -> Answer
     ensures { λ r. ⌜ Done (tellingStale a port tag late (now (out .entry))) (now (out .entry)) r (now (out .exit)) ⌝ }
 {
-    let n = answer::bar(a, out.len() < answer::OUTPUT, Call::TellStale);
+    let b = answer::bar(a, out.len() < answer::OUTPUT, Call::TellStale);
+    let ends = a.ends;
+    let n = answer::earlier(b, check(ends.local_port, port, tag));
     if n == 0 {
-        let ends = a.ends;
         let h = Header {
             source: ends.local_port,
             destination: port,

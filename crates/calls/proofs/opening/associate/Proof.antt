@@ -22,7 +22,7 @@ waiting-requires c κs = search needs
 
 send-init-requires : tie.Need-send-init-requires
 unfolding associating
-send-init-requires c κs = roomy (c .before .before .before .before .before .before .before .args .a) (c .before .before .before .before .before .before .before .args .out .now) Associate (c .before .before .before .before .before .bar .ensures) (earlier-none _ _ (sym (c .before .before .before .earlier .ensures) ∙ c .before .before .if1 .taken) .0)
+send-init-requires c κs = roomy (c .before .before .before .before .before .before .before .before .args .a) (c .before .before .before .before .before .before .before .before .args .out .now) Associate (c .before .before .before .before .before .before .bar .ensures) (earlier-none _ _ (sym (c .before .before .before .earlier .ensures) ∙ c .before .before .if1 .taken) .0)
 
 told-requires : tie.Need-told-requires
 told-requires c κs = search needs
@@ -32,14 +32,14 @@ same-length c = search needs
 
 returns : tie.Need-returns
 unfolding associating
-returns c = done-so _ _ (c .before .before .before .before .before .before .before .earlier .ensures ∙ (λ i. earlier (c .before .before .before .before .before .before .before .before .before .bar .ensures i) (c .before .before .before .before .before .before .before .before .check .ensures i))) (c .before .before .before .before .before .before .if1 .taken) (rw (← c .before .before .before .before .before .waiting .ensures) (done-sent _ (c .before .before .before .send-init .ensures) (c .told .ensures)))
+returns c = done-so _ _ (c .before .before .before .before .before .before .before .earlier .ensures ∙ (λ i. earlier (c .before .before .before .before .before .before .before .before .before .before .bar .ensures i) (c .before .before .before .before .before .before .before .before .check .ensures i))) (c .before .before .before .before .before .before .if1 .taken) (rw (← c .before .before .before .before .before .waiting .ensures) (done-sent _ (c .before .before .before .send-init .ensures) (c .told .ensures)))
 
 refused-requires : tie.Need-refused-requires
 refused-requires c κs = search needs
 
 returns-2 : tie.Need-returns-2
 unfolding associating
-returns-2 c = done-refused _ _ (c .before .before .earlier .ensures ∙ (λ i. earlier (c .before .before .before .before .bar .ensures i) (c .before .before .before .check .ensures i))) (c .before .if1 .left) (c .refused .ensures)
+returns-2 c = done-refused _ _ (c .before .before .earlier .ensures ∙ (λ i. earlier (c .before .before .before .before .before .bar .ensures i) (c .before .before .before .check .ensures i))) (c .before .if1 .left) (c .refused .ensures)
 
 pub associate-spec : {M : Type 1} → statement M
 associate-spec =
