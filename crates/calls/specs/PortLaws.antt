@@ -14,14 +14,16 @@ use Rattle.states.specs.declared.call.Call.the-variants.{Associate, TellStale}
 use Rattle.association.specs.declared.ends.Association.{Association}
 use Rattle.association.specs.Bounds.{lacksPort, earlier}
 use Rattle.association.specs.BoundsLaws.{earlier-none}
-use Rattle.calls.specs.Answer.{isShortOut, barred, Plan, refusing, unless}
+use Rattle.calls.specs.Answer.{isShortOut, barred, Plan, refusing, unless, answerOf}
 use Rattle.calls.specs.Opening.{wanting, associateRefusal, associating}
 use Rattle.calls.specs.Telling.{staleRefusal, tellingStale}
 
--- neither port of a header is 0
-pub record Ported (h : Header) : Type 0 where
-  pub from : h .source ≡ 0 → ⊥
-  pub to : h .destination ≡ 0 → ⊥
+-- a header goes from one port to another, and neither is 0
+pub record Ported (h : Header) (local port : ℕ) : Type 0 where
+  pub source : h .source ≡ local
+  pub destination : h .destination ≡ port
+  pub from : local ≡ 0 → ⊥
+  pub to : port ≡ 0 → ⊥
 
 -- a call that is not refused goes as planned
 planned : (n : ℕ) (a : Association) (p : Plan) → unless n a p .number ≡ 0 → (n ≡ 0) × (unless n a p ≡ p)
@@ -47,20 +49,21 @@ not-tag tag = go (eqb tag 0) refl
     go true e z = absurd (omega (arith, z))
     go false e z = eqb-false tag 0 e
 
-pub associate-ported : (a : Association) (tag : ℕ) (tsn : Tsn) (port streams : ℕ) (out : List ℕ) → associating a tag tsn port streams out .number ≡ 0
-    → Ported (associating a tag tsn port streams out .header)
-unfolding associating associateRefusal wanting
+-- what the host is told the number 0 of has gone out so
+pub associate-ported : (a : Association) (tag : ℕ) (tsn : Tsn) (port streams : ℕ) (out : List ℕ) → answerOf (associating a tag tsn port streams out) out .number ≡ 0
+    → Ported (associating a tag tsn port streams out .header) (a .ends .«local_port») port
+unfolding answerOf associating associateRefusal wanting
 associate-ported a tag tsn port streams out z =
     let n : ℕ = earlier (barred a (isShortOut out) Associate) (associateRefusal (a .ends .«local_port») tag port streams) in
     let p = planned n a _ z in
     let w = not-4 (a .ends .«local_port») port _ (earlier-none (barred a (isShortOut out) Associate) (associateRefusal (a .ends .«local_port») tag port streams) (p .0) .1) in
-    rw (p .1) (record { from = w .0; to = w .1 })
+    rw (p .1) (record { source = refl; destination = refl; from = w .0; to = w .1 })
 
-pub stale-ported : (a : Association) (port tag late : ℕ) (out : List ℕ) → tellingStale a port tag late out .number ≡ 0
-    → Ported (tellingStale a port tag late out .header) × (tellingStale a port tag late out .header .tag ≡ 0 → ⊥)
-unfolding tellingStale staleRefusal
+pub stale-ported : (a : Association) (port tag late : ℕ) (out : List ℕ) → answerOf (tellingStale a port tag late out) out .number ≡ 0
+    → Ported (tellingStale a port tag late out .header) (a .ends .«local_port») port × (tellingStale a port tag late out .header .tag ≡ 0 → ⊥)
+unfolding answerOf tellingStale staleRefusal
 stale-ported a port tag late out z =
     let n : ℕ = earlier (barred a (isShortOut out) TellStale) (staleRefusal (a .ends .«local_port») port tag) in
     let p = planned n a _ z in
     let w = not-4 (a .ends .«local_port») port _ (earlier-none (barred a (isShortOut out) TellStale) (staleRefusal (a .ends .«local_port») port tag) (p .0) .1) in
-    rw (p .1) (record { from = w .0; to = w .1 }, not-tag tag (w .2))
+    rw (p .1) (record { source = refl; destination = refl; from = w .0; to = w .1 }, not-tag tag (w .2))

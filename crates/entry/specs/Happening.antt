@@ -2,18 +2,19 @@
 use Prim.Native.Nat.{ℕ}
 use mathlib.Core.Bool.{Bool, false}
 use mathlib.Core.List.{List, [], _++_}
+use lib.Dec.{ltb}
 use lib.ListN.{length}
 use Rattle.scans.specs.Scan.{pick}
 use Rattle.octets.specs.Bytes.{be32}
 use Rattle.numbers.specs.declared.circle.StreamId.{StreamId}
-use Rattle.states.specs.declared.call.Call.the-variants.{FirstTimer, SecondTimer}
+use Rattle.states.specs.declared.call.Call.the-variants.{Acknowledge as toAcknowledge, FirstTimer, SecondTimer}
 use Rattle.association.specs.declared.ends.Association.{Association}
-use Rattle.association.specs.Bounds.{isSound}
+use Rattle.association.specs.Bounds.{isSound, earlier}
 use Rattle.steps.specs.declared.lent.Lent.{Lent}
 use Rattle.steps.specs.declared.lent.Echoed.{Echoed}
 use Rattle.arriving.specs.Arrival.{arrivedOf, areaOf}
 use Rattle.arriving.specs.Arrival as arrival
-use Rattle.calls.specs.Answer.{Plan, answerOf, outOf}
+use Rattle.calls.specs.Answer.{isShortOut, barred, Plan, refusing, answerOf, outOf}
 use Rattle.calls.specs.Opening.{associating}
 use Rattle.calls.specs.Messages.{handedIn, handedArea, delivered, deliveredOut}
 use Rattle.calls.specs.Transmit.{transmitted, transmittedOut}
@@ -77,6 +78,13 @@ handing a stream unordered ppid b = record {
 unfoldable pub unknownNumber : Association → ℕ
 unknownNumber a = pick (isSound a) 7 1
 
+-- 19 "stream not agreed" for a stream that no chunk can name, behind 1, 18 and 7 as for every other
+unfoldable pub strayNumber : Association → List ℕ → ℕ
+strayNumber a out = earlier (barred a (isShortOut out) toAcknowledge) 19
+
+unfoldable pub tellingAny : Association → ℕ → List ℕ → Plan
+tellingAny a stream out = pick (ltb stream 65536) (tellingStream a (record { 0 = stream }) out) (refusing a (strayNumber a out))
+
 -- the eight bytes of a HEARTBEAT's value
 unfoldable pub halves : ℕ → ℕ → List ℕ
 halves x y = be32 x ++ be32 y
@@ -94,7 +102,7 @@ happened a T2 b = planned (expiring a SecondTimer (b .out)) b
 happened a T3 b = kept (expiringThird a) b
 happened a Shutdown b = planned (shutting a (b .out)) b
 happened a (Abort why) b = planned (aborting a why (b .out)) b
-happened a (ErrorStream stream) b = planned (tellingStream a stream (b .out)) b
+happened a (ErrorStream stream) b = planned (tellingAny a stream (b .out)) b
 happened a (ErrorStale port tag late) b = planned (tellingStale a port tag late (b .out)) b
 happened a (Heartbeat x y) b = planned (beating a (halves x y) (b .out)) b
 happened a (Sample ms) b = kept (sampling a ms) b

@@ -1,11 +1,13 @@
 // The by-value step: any event, by the call that serves it.
 use association::Association;
 use calls::Reason;
+use calls::answer;
 use events::Event;
 use events::Ran;
 use events::told;
 use numbers::StreamId;
 use numbers::Tsn;
+use states::Call;
 use steps::Echoed;
 use steps::Lent;
 ghost use mathlib.Core.Path.{_≡_};
@@ -21,10 +23,10 @@ ghost use Rattle.calls.specs.Transmit.{transmitted, transmittedOut};
 ghost use Rattle.calls.specs.Acknowledging.{acknowledged, acknowledgedOut};
 ghost use Rattle.calls.specs.Timers.{expiring, expiringThird, sampling};
 ghost use Rattle.calls.specs.Closing.{shutting, aborting};
-ghost use Rattle.calls.specs.Telling.{tellingStream, tellingStale, beating};
+ghost use Rattle.calls.specs.Telling.{tellingStale, beating};
 ghost use Rattle.events.specs.Event.{eventOf};
 ghost use Rattle.events.specs.Told.{plainly, ofAnswer, ofHandedIn, ofTransmitted, ofAcknowledged, ofDelivered, ofArrived};
-ghost use Rattle.entry.specs.Happening.{lent, halves, unknownNumber, happened};
+ghost use Rattle.entry.specs.Happening.{lent, halves, unknownNumber, happened, tellingAny};
 ghost use Rattle.entry.specs.HappeningLaws.{Gave, Followed};
 
 fn packet(
@@ -121,10 +123,16 @@ fn abort(a: Association, why: Reason, out: &mut [u8]) -> Ran
     told::of_answer(r)
 }
 
-fn error_stream(a: Association, stream: StreamId, out: &mut [u8]) -> Ran
-    ensures { λ r. ⌜ Followed (tellingStream a stream (now (out .entry))) (now (out .entry)) r (now (out .exit)) ⌝ }
+// 19 for a stream that no chunk can name.
+fn error_stream(a: Association, stream: u32, out: &mut [u8]) -> Ran
+    ensures { λ r. ⌜ Followed (tellingAny a stream (now (out .entry))) (now (out .entry)) r (now (out .exit)) ⌝ }
 {
-    let r = calls::error_stream(a, stream, out);
+    if stream < 65536 {
+        let r = calls::error_stream(a, StreamId(stream as u16), out);
+        return told::of_answer(r);
+    }
+    let b = answer::bar(a, out.len() < answer::OUTPUT, Call::Acknowledge);
+    let r = answer::refused(a, answer::earlier(b, 19));
     told::of_answer(r)
 }
 

@@ -7,9 +7,11 @@ use steps::Lent;
 use steps::Made;
 ghost use mathlib.Core.Path.{_≡_};
 ghost use mathlib.Core.Bool.{false, true};
-ghost use Prim.Native.Nat.{_%_};
+ghost use lib.Dec.{ltb};
 ghost use lib.ListN.{getD};
-ghost use Rattle.events.specs.Event.{at, tsnAt, streamAt, shortAt, lentOf, madeOf, associateOf, handInOf, staleOf, eventOf};
+ghost use Rattle.scans.specs.Scan.{pick};
+ghost use Rattle.scans.specs.Upto.{smaller};
+ghost use Rattle.events.specs.Event.{at, tsnAt, streamAt, streamsAt, portAt, lentOf, madeOf, associateOf, handInOf, staleOf, eventOf};
 
 pub enum Event {
     // A packet arrives, with what is lent for an INIT and the word on an echoed cookie.
@@ -26,7 +28,8 @@ pub enum Event {
     T3,
     Shutdown,
     Abort(Reason),
-    ErrorStream(StreamId),
+    // The stream, which may be one that no chunk can name.
+    ErrorStream(u32),
     // The port and tag of the cookie's peer, and how late the cookie was.
     ErrorStale(u16, u32, u32),
     // The value, in two halves.
@@ -43,17 +46,38 @@ fn value(values: &[u32], i: usize) -> u32
     if i < values.len() { values[i] } else { 0 }
 }
 
-// The low 16 bits.
-fn low(x: u32) -> u16
-    ensures { λ r. ⌜ r ≡ x % 65536 ⌝ }
+const WIDEST: u16 = 65535;
+
+// No more than 65,535.
+fn most(x: u32) -> u16
+    ensures { λ r. ⌜ r ≡ smaller x 65535 ⌝ }
 {
-    (x % 65536) as u16
+    if x < 65535 {
+        return x as u16;
+    }
+    WIDEST
 }
 
-fn short(values: &[u32], i: usize) -> u16
-    ensures { λ r. ⌜ r ≡ shortAt (now (values .entry)) i ⌝ }
+// 0 for a number over 65,535.
+fn port_of(x: u32) -> u16
+    ensures { λ r. ⌜ r ≡ pick (ltb x 65536) x 0 ⌝ }
 {
-    low(value(values, i))
+    if x < 65536 {
+        return x as u16;
+    }
+    0
+}
+
+fn streams(values: &[u32], i: usize) -> u16
+    ensures { λ r. ⌜ r ≡ streamsAt (now (values .entry)) i ⌝ }
+{
+    most(value(values, i))
+}
+
+fn port(values: &[u32], i: usize) -> u16
+    ensures { λ r. ⌜ r ≡ portAt (now (values .entry)) i ⌝ }
+{
+    port_of(value(values, i))
 }
 
 fn tsn(values: &[u32], i: usize) -> Tsn
@@ -65,7 +89,7 @@ fn tsn(values: &[u32], i: usize) -> Tsn
 fn stream(values: &[u32], i: usize) -> StreamId
     ensures { λ r. ⌜ r ≡ streamAt (now (values .entry)) i ⌝ }
 {
-    StreamId(short(values, i))
+    StreamId(streams(values, i))
 }
 
 fn lent_of(values: &[u32]) -> Lent
@@ -74,7 +98,7 @@ fn lent_of(values: &[u32]) -> Lent
     Lent {
         tag: value(values, 0),
         tsn: tsn(values, 1),
-        streams: short(values, 2),
+        streams: streams(values, 2),
     }
 }
 
@@ -84,8 +108,8 @@ fn made_of(values: &[u32]) -> Made
     Made {
         my_tag: value(values, 3),
         peer_tag: value(values, 4),
-        streams_in: short(values, 5),
-        streams_out: short(values, 6),
+        streams_in: streams(values, 5),
+        streams_out: streams(values, 6),
         my_tsn: tsn(values, 7),
         peer_tsn: tsn(values, 8),
         window: value(values, 9),
@@ -98,8 +122,8 @@ fn associate_of(values: &[u32]) -> Event
     Event::Associate(
         value(values, 0),
         tsn(values, 1),
-        short(values, 2),
-        short(values, 3),
+        port(values, 2),
+        streams(values, 3),
     )
 }
 
@@ -112,7 +136,7 @@ fn hand_in_of(values: &[u32], unordered: bool) -> Event
 fn stale_of(values: &[u32]) -> Event
     ensures { λ r. ⌜ r ≡ staleOf (now (values .entry)) ⌝ }
 {
-    Event::ErrorStale(short(values, 0), value(values, 1), value(values, 2))
+    Event::ErrorStale(port(values, 0), value(values, 1), value(values, 2))
 }
 
 impl Event {
@@ -137,7 +161,7 @@ impl Event {
             13 => Event::Abort(Reason::User),
             14 => Event::Abort(Reason::NoData(tsn(values, 0))),
             15 => Event::Abort(Reason::Violation),
-            16 => Event::ErrorStream(stream(values, 0)),
+            16 => Event::ErrorStream(value(values, 0)),
             17 => stale_of(values),
             18 => Event::Heartbeat(value(values, 0), value(values, 1)),
             19 => Event::Sample(value(values, 0)),

@@ -133,25 +133,25 @@ module _ {n : ℕ} where
   kinds (s ∷ ss) ps = ps .0 .kind ∷ kinds ss (ps .1)
 
   module _ (κs : Lfts n) where
-    abbrev machs : (ss : List (Slot n)) (ps : Passes ss) → Denots (typesAt ss κs) → Machs (kinds ss ps)
+    abbrev pub machs : (ss : List (Slot n)) (ps : Passes ss) → Denots (typesAt ss κs) → Machs (kinds ss ps)
     machs [] ps x = tt
     machs (s ∷ ss) ps x = (ps .0 .mach κs (x .0), machs ss (ps .1) (x .1))
 
     -- the machine values as `said` asks for them, that the relations tell them, and that each may stand in a cell
-    abbrev spells : (ss : List (Slot n)) → Passes ss → Spells (typesAt ss κs)
+    abbrev pub spells : (ss : List (Slot n)) → Passes ss → Spells (typesAt ss κs)
     spells [] ps = tt
     spells (s ∷ ss) ps = ((λ x. valOf (ps .0 .kind) (ps .0 .mach κs x) ∷ []), spells ss (ps .1))
 
-    all-told : (ss : List (Slot n)) (ps : Passes ss) → Tellss (typesAt ss κs) (Ises (typesAt ss κs)) (spells ss ps)
+    pub all-told : (ss : List (Slot n)) (ps : Passes ss) → Tellss (typesAt ss κs) (Ises (typesAt ss κs)) (spells ss ps)
     all-told [] ps = tt
     all-told (s ∷ ss) ps = (ps .0 .tells κs, all-told ss (ps .1))
 
-    all-fit : {M : Type 1} (𝓤 : URA M) (H : Heap 𝓤) (A : Atoms 𝓤) → Given 𝓤 H A → (ss : List (Slot n)) (ps : Passes ss) (x : Denots (typesAt ss κs)) → Are (typesAt ss κs) (Ises (typesAt ss κs)) x (valss (typesAt ss κs) (spells ss ps) x) → Fits (kinds ss ps) (machs ss ps x)
+    pub all-fit : {M : Type 1} (𝓤 : URA M) (H : Heap 𝓤) (A : Atoms 𝓤) → Given 𝓤 H A → (ss : List (Slot n)) (ps : Passes ss) (x : Denots (typesAt ss κs)) → Are (typesAt ss κs) (Ises (typesAt ss κs)) x (valss (typesAt ss κs) (spells ss ps) x) → Fits (kinds ss ps) (machs ss ps x)
     all-fit 𝓤 H A W [] ps x are = tt
     all-fit 𝓤 H A W (s ∷ ss) ps x are = (ps .0 .fits 𝓤 H A W κs (x .0) (are .0), all-fit 𝓤 H A W ss (ps .1) (x .1) (are .1))
 
     -- in a row they are what the code passes on
-    all-flat : (ss : List (Slot n)) (ps : Passes ss) (x : Denots (typesAt ss κs)) → valsOf (kinds ss ps) (machs ss ps x) ≡ flat (typesAt ss κs) (valss (typesAt ss κs) (spells ss ps) x)
+    pub all-flat : (ss : List (Slot n)) (ps : Passes ss) (x : Denots (typesAt ss κs)) → valsOf (kinds ss ps) (machs ss ps x) ≡ flat (typesAt ss κs) (valss (typesAt ss κs) (spells ss ps) x)
     all-flat [] ps x = refl
     all-flat (s ∷ ss) ps x = ap (λ (vs : List Val). valOf (ps .0 .kind) (ps .0 .mach κs (x .0)) ∷ vs) (all-flat ss (ps .1) (x .1))
 

@@ -8,11 +8,11 @@ value-requires c κs = search needs
 tsn-requires : tie.Need-tsn-requires
 tsn-requires c κs = search needs
 
-short-requires : tie.Need-short-requires
-short-requires c κs = search needs
+streams-requires : tie.Need-streams-requires
+streams-requires c κs = search needs
 
 returns : tie.Need-returns
-returns c = rw (c .before .before .value .ensures, c .before .tsn .ensures, c .short .ensures)
+returns c = rw (c .before .before .value .ensures, c .before .tsn .ensures, c .streams .ensures)
 
 pub lent-of-spec : {M : Type 1} → statement M
-lent-of-spec = tie.close (tie.spec value-requires tsn-requires short-requires returns)
+lent-of-spec = tie.close (tie.spec value-requires tsn-requires streams-requires returns)

@@ -8,11 +8,11 @@ value-requires c κs = search needs
 value-requires-2 : tie.Need-value-requires-2
 value-requires-2 c κs = search needs
 
-short-requires : tie.Need-short-requires
-short-requires c κs = search needs
+streams-requires : tie.Need-streams-requires
+streams-requires c κs = search needs
 
-short-requires-2 : tie.Need-short-requires-2
-short-requires-2 c κs = search needs
+streams-requires-2 : tie.Need-streams-requires-2
+streams-requires-2 c κs = search needs
 
 tsn-requires : tie.Need-tsn-requires
 tsn-requires c κs = search needs
@@ -24,7 +24,7 @@ value-requires-3 : tie.Need-value-requires-3
 value-requires-3 c κs = search needs
 
 returns : tie.Need-returns
-returns c = rw (c .before .before .before .before .before .before .value .ensures, c .before .before .before .before .before .value2 .ensures, c .before .before .before .before .short .ensures, c .before .before .before .short2 .ensures, c .before .before .tsn .ensures, c .before .tsn2 .ensures, c .value3 .ensures)
+returns c = rw (c .before .before .before .before .before .before .value .ensures, c .before .before .before .before .before .value2 .ensures, c .before .before .before .before .streams .ensures, c .before .before .before .streams2 .ensures, c .before .before .tsn .ensures, c .before .tsn2 .ensures, c .value3 .ensures)
 
 pub made-of-spec : {M : Type 1} → statement M
 made-of-spec =
@@ -32,8 +32,8 @@ made-of-spec =
     (tie.spec
     value-requires
     value-requires-2
-    short-requires
-    short-requires-2
+    streams-requires
+    streams-requires-2
     tsn-requires
     tsn-requires-2
     value-requires-3

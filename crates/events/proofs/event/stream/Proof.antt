@@ -2,11 +2,11 @@ use borrow.Author.Needs.{needs}
 use Rattle.events.proofs.event.stream.Statement.{statement}
 use Rattle.events.proofs.event.stream.Tie as tie
 
-short-requires : tie.Need-short-requires
-short-requires c κs = search needs
+streams-requires : tie.Need-streams-requires
+streams-requires c κs = search needs
 
 returns : tie.Need-returns
-returns c = rw (c .short .ensures)
+returns c = rw (c .streams .ensures)
 
 pub stream-spec : {M : Type 1} → statement M
-stream-spec = tie.close (tie.spec short-requires returns)
+stream-spec = tie.close (tie.spec streams-requires returns)

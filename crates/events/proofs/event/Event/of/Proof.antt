@@ -31,20 +31,20 @@ hand-in-of-requires-2 c κs = search needs
 tsn-requires : tie.Need-tsn-requires
 tsn-requires c κs = search needs
 
-stream-requires : tie.Need-stream-requires
-stream-requires c κs = search needs
+value-requires : tie.Need-value-requires
+value-requires c κs = search needs
 
 stale-of-requires : tie.Need-stale-of-requires
 stale-of-requires c κs = search needs
-
-value-requires : tie.Need-value-requires
-value-requires c κs = search needs
 
 value-requires-2 : tie.Need-value-requires-2
 value-requires-2 c κs = search needs
 
 value-requires-3 : tie.Need-value-requires-3
 value-requires-3 c κs = search needs
+
+value-requires-4 : tie.Need-value-requires-4
+value-requires-4 c κs = search needs
 
 returns : tie.Need-returns
 unfolding eventOf
@@ -112,7 +112,7 @@ returns-16 c = simp (c .match .keys16)
 
 returns-17 : tie.Need-returns-17
 unfolding eventOf
-returns-17 c = simp (c .before .match .keys17, c .stream .ensures)
+returns-17 c = simp (c .before .match .keys17, c .value .ensures)
 
 returns-18 : tie.Need-returns-18
 unfolding eventOf
@@ -120,11 +120,11 @@ returns-18 c = simp (c .before .match .keys18, c .stale-of .ensures)
 
 returns-19 : tie.Need-returns-19
 unfolding eventOf
-returns-19 c = simp (c .before .before .match .keys19, c .before .value .ensures, c .value2 .ensures)
+returns-19 c = simp (c .before .before .match .keys19, c .before .value2 .ensures, c .value3 .ensures)
 
 returns-20 : tie.Need-returns-20
 unfolding eventOf
-returns-20 c = simp (c .before .match .keys20, c .value3 .ensures)
+returns-20 c = simp (c .before .match .keys20, c .value4 .ensures)
 
 returns-21 : tie.Need-returns-21
 unfolding eventOf
@@ -143,11 +143,11 @@ of-spec =
     hand-in-of-requires
     hand-in-of-requires-2
     tsn-requires
-    stream-requires
-    stale-of-requires
     value-requires
+    stale-of-requires
     value-requires-2
     value-requires-3
+    value-requires-4
     returns
     returns-2
     returns-3
