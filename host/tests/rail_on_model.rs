@@ -56,6 +56,13 @@ fn every_tile_comes_through_a_bad_stretch() {
 }
 
 #[test]
+fn a_circle_that_does_not_close_is_not_said_to() {
+    let (ended, said) = well("demo --messages 40");
+    assert!(ended.table.contains("TSN circle of 2^32 closed                        no"), "{}", ended.table);
+    assert!(!said.contains("TSN 4,294,967,295"), "{}", said);
+}
+
+#[test]
 fn both_circles_close_in_fair_weather() {
     let (ended, said) = well("demo --loss 0 --repeat 0 --reorder 0 --damage 0 --messages 65600");
     assert!(ended.table.contains("SSN circle of 2^16 closed                        yes"), "{}", ended.table);

@@ -100,7 +100,9 @@ impl<L: Library> Head<L> {
 
     /// Whether the peer has acknowledged a TSN past the end of the circle.
     pub fn has_closed_tsn_circle(&self) -> bool {
-        self.line.endpoint.standing().acked < self.first_tsn && self.line.endpoint.counts().messages_in > 0
+        let acked = self.line.endpoint.standing().acked;
+        // Before anything is acknowledged it stands just below the first.
+        acked < self.first_tsn && acked.wrapping_add(1) != self.first_tsn
     }
 
     /// Why there is no association yet, as far as this end can tell.
