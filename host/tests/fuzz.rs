@@ -16,8 +16,8 @@ use std::collections::{HashSet, VecDeque};
 use std::net::{IpAddr, SocketAddr};
 use std::time::{Duration, Instant};
 
-/// Emulated, it is a tenth of what runs natively.
-const STEPS: u32 = if cfg!(feature = "proved") { 20_000 } else { 200_000 };
+/// Fewer where the proved library runs too, which may be emulated.
+const STEPS: u32 = if cfg!(feature = "proved") { 80_000 } else { 200_000 };
 const PORTS: [u16; 2] = [5000, 5001];
 const FIRST_TSN: u32 = u32::MAX - 99;
 /// Where the tried endpoint is.
@@ -280,7 +280,7 @@ impl<L: Library> World<L> {
         let fate = self.chance.below(100);
         if self.chance.happens(0.5) {
             if let Some(packet) = self.ways[0].pop_front() {
-                let from = if fate < 8 { address(self.chance.below(4)) } else { address(0) };
+                let from = if fate < 12 { address(self.chance.below(4)) } else { address(0) };
                 if fate < 95 {
                     self.arrive(&packet, from);
                 }
@@ -503,7 +503,7 @@ fn endures<L: Library>(seed: u64, knows_tags: bool, steps: u32) {
     assert!(highest[1] - highest[0] < 200_000, "{:?}", highest);
     world.seen.turned_away = world.tried.counts().turned_away;
     let seen = &world.seen;
-    let least = steps / 5000;
+    let least = steps / 10_000;
     let counts = [seen.up, seen.down, seen.checks, seen.strays, seen.turned_away as u32, seen.taken];
     assert!(counts.iter().all(|count| *count > least) && (seen.moves > least || !knows_tags), "{:?}", seen);
     // When nothing comes any more, every timer ends, and what was acknowledged is there.
