@@ -1,4 +1,5 @@
-// What the host does: each line names one of its calls, or a packet that comes.
+// What the host does: each line names an event of its association, a packet that comes, or a record of the line's own making. Every event goes to the
+// thin entry.
 use crate::page::same;
 use crate::page::say;
 use crate::page::say_named;
@@ -10,33 +11,32 @@ use crate::reading::value16;
 use crate::reading::value32;
 use crate::reading::word;
 use crate::showing;
-use arriving::Arrived;
 use association::Association;
-use calls::Answer;
-use calls::HandedIn;
 use calls::Peeked;
-use calls::Reason;
-use calls::Transmitted;
 use chunks::init::Init;
 use chunks::sack::Sack;
+use events::Ran;
+use events::Told;
+use events::told::Went;
 use holding::taking::Message;
-use numbers::StreamId;
-use numbers::Tsn;
+use octets::get32;
 use octets::part;
 use octets::put_all;
 use states::State;
-use steps::Echoed;
-use steps::Lent;
-use steps::Made;
+ghost use Prim.Native.Nat.{_≤_};
 
-// What the host lends with a packet: for an INIT its values and a cookie, for a COOKIE ECHO its word (1 good, 2 stale, else bad) and what the cookie
-// was made from.
+// Bytes of the longest message, and some more; of a take's output.
+const INPUT: usize = 65600;
+
+const SPACE: usize = 65536;
+
+// What the host lends with a packet, as values of the event: for an INIT its tag, its first TSN, its streams, and a cookie; for a COOKIE ECHO what the
+// cookie was made from; and its word, which is the event's number: 0 bad, 1 stale, 2 good.
 pub(crate) struct Host {
-    pub(crate) lent: Lent,
+    pub(crate) values: [u32; 10],
     pub(crate) cookie: [u8; 300],
     pub(crate) cookie_len: usize,
     pub(crate) word: u8,
-    pub(crate) made: Made,
 }
 
 // The record after an event, the length of the packet that it wrote, and how far what it answered is as it should be.
@@ -47,81 +47,54 @@ pub(crate) struct Said {
 }
 
 pub(crate) fn nobody() -> Host {
-    let lent = Lent {
-        tag: 0,
-        tsn: Tsn(0),
-        streams: 0,
-    };
-    let made = Made {
-        my_tag: 0,
-        peer_tag: 0,
-        streams_in: 0,
-        streams_out: 0,
-        my_tsn: Tsn(0),
-        peer_tsn: Tsn(0),
-        window: 0,
-    };
     Host {
-        lent,
+        values: [0u32; 10],
         cookie: [0u8; 300],
         cookie_len: 0,
         word: 0,
-        made,
     }
 }
 
 // lends TAG TSN STREAMS COOKIE
 pub(crate) fn lends(mut h: Host, args: &[u8]) -> Host {
-    let lent = Lent {
-        tag: value32(args, 0),
-        tsn: Tsn(value32(args, 1)),
-        streams: value16(args, 2),
-    };
+    let mut values = h.values;
+    values[0] = value32(args, 0);
+    values[1] = value32(args, 1);
+    values[2] = value32(args, 2);
     let mut cookie = [0u8; 300];
     let n = spell(word(args, 3), &mut cookie, 0);
-    h.lent = lent;
+    h.values = values;
     h.cookie = cookie;
     h.cookie_len = n;
     h
 }
 
-// good or stale, with MY TAG, PEER'S TAG, STREAMS IN, OUT, MY TSN, PEER'S TSN, WINDOW; or bad
-pub(crate) fn judges(mut h: Host, args: &[u8]) -> Host {
-    let made = Made {
-        my_tag: value32(args, 1),
-        peer_tag: value32(args, 2),
-        streams_in: value16(args, 3),
-        streams_out: value16(args, 4),
-        my_tsn: Tsn(value32(args, 5)),
-        peer_tsn: Tsn(value32(args, 6)),
-        window: value32(args, 7),
-    };
-    h.made = made;
-    let w = first(args);
+fn word_of(w: &[u8]) -> u8 {
     if same(w, b"good") {
-        h.word = 1;
-        return h;
+        return 2;
     }
     if same(w, b"stale") {
-        h.word = 2;
-        return h;
+        return 1;
     }
-    h.word = 0;
+    0
+}
+
+// good or stale, with MY TAG, PEER'S TAG, STREAMS IN, OUT, MY TSN, PEER'S TSN, WINDOW; or bad
+pub(crate) fn judges(mut h: Host, args: &[u8]) -> Host {
+    let mut values = h.values;
+    values[3] = value32(args, 1);
+    values[4] = value32(args, 2);
+    values[5] = value32(args, 3);
+    values[6] = value32(args, 4);
+    values[7] = value32(args, 5);
+    values[8] = value32(args, 6);
+    values[9] = value32(args, 7);
+    h.values = values;
+    h.word = word_of(first(args));
     h
 }
 
-fn echoed_of(h: Host) -> Echoed {
-    let made = h.made;
-    if h.word == 1 {
-        return Echoed::Good(made);
-    }
-    if h.word == 2 {
-        return Echoed::Stale(made);
-    }
-    Echoed::Bad
-}
-
-// ---- packets that come
+// ---- packets that come, and messages
 
 // Ports, tag and chunks; the checksum is put in.
 fn sealed(args: &[u8], packet: &mut [u8]) -> usize {
@@ -136,6 +109,26 @@ fn sealed(args: &[u8], packet: &mut [u8]) -> usize {
 fn copied(last: &[u8], heard: usize, packet: &mut [u8]) -> usize {
     put_all(packet, 0, part(last, 0, heard));
     heard
+}
+
+fn is_seen(w: &[u8]) -> bool {
+    if same(w, b"peeks") {
+        return true;
+    }
+    same(w, b"glances")
+}
+
+fn is_heard(w: &[u8]) -> bool {
+    if same(w, b"hears") {
+        return true;
+    }
+    if same(w, b"gets") {
+        return true;
+    }
+    if same(w, b"raw") {
+        return true;
+    }
+    is_seen(w)
 }
 
 // The packet that a line speaks of: the other end's last one, one whose bytes all stand there, the checksum too, or one that is sealed.
@@ -153,31 +146,287 @@ fn composed(line: &[u8], last: &[u8], heard: usize, packet: &mut [u8]) -> usize 
     sealed(rest(line), packet)
 }
 
-fn arrived(a: Association, h: Host, packet: &[u8], area: &mut [u8], out: &mut [u8]) -> Arrived {
-    let lent = h.lent;
-    let cookie = h.cookie;
-    let echoed = echoed_of(h);
-    let kept = part(&cookie, 0, h.cookie_len);
-    arriving::arrive(a, area, packet, lent, kept, echoed, out)
+// What is handed to the event: a packet, or a message behind STREAM UNORDERED PPID.
+fn put_input(line: &[u8], last: &[u8], heard: usize, input: &mut [u8]) -> usize {
+    let w = first(line);
+    if is_heard(w) {
+        return composed(line, last, heard, input);
+    }
+    if same(w, b"hands") {
+        return spell(rest(rest(rest(rest(line)))), input, 0);
+    }
+    0
 }
 
-fn arrives(
+// ---- the event of a line, by its number and its values
+
+fn is_taken(w: &[u8]) -> bool {
+    if same(w, b"takes") {
+        return true;
+    }
+    same(w, b"takes8")
+}
+
+// hands STREAM UNORDERED PPID BYTES
+fn number_handed(line: &[u8]) -> u8 {
+    if value32(line, 2) == 1 {
+        return 5;
+    }
+    4
+}
+
+// aborts user, data TSN, or violation
+fn number_aborted(w: &[u8]) -> u8 {
+    if same(w, b"data") {
+        return 14;
+    }
+    if same(w, b"violation") {
+        return 15;
+    }
+    13
+}
+
+fn number_timed(w: &[u8]) -> u8 {
+    if same(w, b"t1") {
+        return 9;
+    }
+    if same(w, b"t2") {
+        return 10;
+    }
+    if same(w, b"t3") {
+        return 11;
+    }
+    if same(w, b"rtt") {
+        return 19;
+    }
+    20
+}
+
+fn number_told(w: &[u8]) -> u8 {
+    if same(w, b"strays") {
+        return 16;
+    }
+    if same(w, b"lates") {
+        return 17;
+    }
+    if same(w, b"beats") {
+        return 18;
+    }
+    number_timed(w)
+}
+
+fn number_called(line: &[u8]) -> u8 {
+    let w = first(line);
+    if same(w, b"associates") {
+        return 3;
+    }
+    if same(w, b"transmits") {
+        return 6;
+    }
+    if same(w, b"acknowledges") {
+        return 8;
+    }
+    if same(w, b"shuts") {
+        return 12;
+    }
+    if same(w, b"aborts") {
+        return number_aborted(word(line, 1));
+    }
+    number_told(w)
+}
+
+// A packet's is the host's word.
+fn number_of(h: Host, line: &[u8]) -> u8 {
+    let w = first(line);
+    if is_heard(w) {
+        return h.word;
+    }
+    if is_taken(w) {
+        return 7;
+    }
+    if same(w, b"hands") {
+        return number_handed(line);
+    }
+    number_called(line)
+}
+
+fn four(a: u32, b: u32, c: u32, d: u32) -> [u32; 10] {
+    [a, b, c, d, 0, 0, 0, 0, 0, 0]
+}
+
+// beats VALUE
+fn values_beaten(line: &[u8]) -> [u32; 10] {
+    let mut value = [0u8; 8];
+    spell(word(line, 1), &mut value, 0);
+    four(get32(&value, 0), get32(&value, 4), 0, 0)
+}
+
+// associates TAG TSN PORT STREAMS; lates PORT TAG MICROSECONDS; strays STREAM; rtt MILLISECONDS
+fn values_called(line: &[u8]) -> [u32; 10] {
+    four(
+        value32(line, 1),
+        value32(line, 2),
+        value32(line, 3),
+        value32(line, 4),
+    )
+}
+
+fn values_of(h: Host, number: u8, line: &[u8]) -> [u32; 10] {
+    match number {
+        0 | 1 | 2 => h.values,
+        4 | 5 => four(value32(line, 1), value32(line, 3), 0, 0),
+        14 => four(value32(line, 2), 0, 0, 0),
+        18 => values_beaten(line),
+        _ => values_called(line),
+    }
+}
+
+// Every event goes through here.
+fn happens(
     a: Association,
     h: Host,
-    packet: &[u8],
-    area: &mut [u8],
+    number: u8,
+    line: &[u8],
+    input: &[u8],
+    into: &mut [u8],
+    from: &mut [u8],
+    out: &mut [u8],
+) -> Ran {
+    let values = values_of(h, number, line);
+    let cookie = h.cookie;
+    let lent = part(&cookie, 0, h.cookie_len);
+    entry::happen_to(a, number, &values, into, from, input, lent, out)
+}
+
+// ---- what is said of an event
+
+fn say_transmitted(should: &[u8], number: u8, r: Went) -> usize {
+    let first = r.first;
+    let last = r.last;
+    let b = showing::say_answer(should, 0, number);
+    let c = say_named(should, b, b" resent ", r.resent as u64);
+    let d = say_named(should, c, b" TSN ", first.0 as u64);
+    say_named(should, d, b" to ", last.0 as u64)
+}
+
+fn say_message(should: &[u8], at: usize, m: Message) -> usize {
+    let stream = m.stream;
+    let ssn = m.ssn;
+    let c = say_named(should, at, b" stream ", stream.0 as u64);
+    let d = say_named(should, c, b" unordered ", m.unordered as u64);
+    let e = say_named(should, d, b" SSN ", ssn.0 as u64);
+    say_named(should, e, b" PPID ", m.ppid as u64)
+}
+
+// The length, or the length needed; then the message.
+fn say_delivered(should: &[u8], number: u8, m: Message, bytes: &[u8]) -> usize {
+    let b = showing::say_answer(should, 0, number);
+    let c = say_named(should, b, b" of ", m.length as u64);
+    if number == 0 {
+        let d = say_message(should, c, m);
+        return say_packet(should, d, bytes);
+    }
+    c
+}
+
+fn say_over(should: &[u8], at: usize, over: bool) -> usize {
+    if over {
+        return say(should, at, b" over");
+    }
+    at
+}
+
+fn say_handed(should: &[u8], number: u8, count: usize) -> usize {
+    let b = showing::say_answer(should, 0, number);
+    say_named(should, b, b" chunks ", count as u64)
+}
+
+fn say_sack(should: &[u8], number: u8, k: Sack) -> usize {
+    let blocks = k.blocks;
+    let b = showing::say_answer(should, 0, number);
+    let c = say_named(should, b, b" blocks ", blocks.count as u64);
+    say_named(should, c, b" listed ", k.listed as u64)
+}
+
+fn say_answered(should: &[u8], number: u8, over: bool) -> usize {
+    let b = showing::say_answer(should, 0, number);
+    say_over(should, b, over)
+}
+
+// Each event by its number; `out` is what was written.
+fn say_told(should: &[u8], event: u8, t: Told, out: &[u8]) -> usize {
+    match event {
+        0 | 1 | 2 => showing::say_arrived(should, 0, t.number, t.seen),
+        4 | 5 => say_handed(should, t.number, t.length),
+        6 => say_transmitted(should, t.number, t.went),
+        7 => say_delivered(should, t.number, t.message, part(out, 0, t.length)),
+        8 => say_sack(should, t.number, t.sack),
+        _ => say_answered(should, t.number, t.over),
+    }
+}
+
+// The bytes of a packet: a message that is handed in or taken is none.
+fn length_of(event: u8, t: Told) -> usize {
+    match event {
+        4 | 5 | 7 => 0,
+        _ => t.length,
+    }
+}
+
+fn does(
+    a: Association,
+    h: Host,
+    line: &[u8],
+    input: &[u8],
+    into: &mut [u8],
+    from: &mut [u8],
     out: &mut [u8],
     should: &[u8],
 ) -> Said {
-    let r = arrived(a, h, packet, area, out);
-    let to = showing::say_arrived(should, 0, r);
+    let number = number_of(h, line);
+    let r = happens(a, h, number, line, input, into, from, out);
+    let t = r.told;
+    let to = say_told(should, number, t, out);
     let association = r.association;
     Said {
         association,
-        length: r.length,
+        length: length_of(number, t),
         at: to,
     }
 }
+
+fn room_of(w: &[u8]) -> usize
+    ensures { λ r. ⌜ r ≤ 65536 ⌝ }
+{
+    if same(w, b"takes8") {
+        return 8;
+    }
+    SPACE
+}
+
+// The message goes to an output of its own.
+fn takes(
+    a: Association,
+    h: Host,
+    line: &[u8],
+    into: &mut [u8],
+    from: &mut [u8],
+    should: &[u8],
+) -> Said {
+    let mut space = [0u8; SPACE];
+    let n = room_of(first(line));
+    does(a, h, line, b"", into, from, &mut space[0..n], should)
+}
+
+fn kept(a: Association, at: usize) -> Said {
+    Said {
+        association: a,
+        length: 0,
+        at,
+    }
+}
+
+// ---- a packet that is only looked at
 
 fn say_wish(should: &[u8], at: usize, v: Init) -> usize {
     let tsn = v.tsn;
@@ -204,265 +453,6 @@ fn say_peeked(should: &[u8], p: Peeked) -> usize {
         Peeked::Nothing => say(should, 0, b"nothing"),
         Peeked::Init(v, port) => say_init(should, v, port),
         Peeked::Echo(from, len) => say_echo(should, from, len),
-    }
-}
-
-fn comes(
-    a: Association,
-    h: Host,
-    line: &[u8],
-    last: &[u8],
-    heard: usize,
-    into: &mut [u8],
-    out: &mut [u8],
-    should: &[u8],
-) -> Said {
-    let mut packet = [0u8; 2048];
-    let n = composed(line, last, heard, &mut packet);
-    if is_seen(first(line)) {
-        let to = say_peeked(should, calls::peek(part(&packet, 0, n)));
-        return kept(a, to);
-    }
-    arrives(a, h, part(&packet, 0, n), into, out, should)
-}
-
-fn is_seen(w: &[u8]) -> bool {
-    if same(w, b"peeks") {
-        return true;
-    }
-    same(w, b"glances")
-}
-
-fn is_heard(w: &[u8]) -> bool {
-    if same(w, b"hears") {
-        return true;
-    }
-    if same(w, b"gets") {
-        return true;
-    }
-    if same(w, b"raw") {
-        return true;
-    }
-    is_seen(w)
-}
-
-// ---- messages
-
-fn kept(a: Association, at: usize) -> Said {
-    Said {
-        association: a,
-        length: 0,
-        at,
-    }
-}
-
-// hands STREAM UNORDERED PPID BYTES
-fn handed(a: Association, args: &[u8], area: &mut [u8]) -> HandedIn {
-    let mut message = [0u8; 65600];
-    let n = spell(rest(rest(rest(args))), &mut message, 0);
-    let stream = StreamId(value16(args, 0));
-    let unordered = value16(args, 1) == 1;
-    let ppid = value32(args, 2);
-    calls::hand_in(a, area, part(&message, 0, n), stream, unordered, ppid)
-}
-
-fn hands(a: Association, args: &[u8], area: &mut [u8], should: &[u8]) -> Said {
-    let r = handed(a, args, area);
-    let b = showing::say_answer(should, 0, r.number);
-    let to = say_named(should, b, b" chunks ", r.chunks as u64);
-    let association = r.association;
-    kept(association, to)
-}
-
-fn say_transmitted(should: &[u8], r: Transmitted) -> usize {
-    let first = r.first;
-    let last = r.last;
-    let b = showing::say_answer(should, 0, r.number);
-    let c = say_named(should, b, b" resent ", r.resent as u64);
-    let d = say_named(should, c, b" TSN ", first.0 as u64);
-    say_named(should, d, b" to ", last.0 as u64)
-}
-
-fn transmits(a: Association, area: &[u8], out: &mut [u8], should: &[u8]) -> Said {
-    let r = calls::transmit(a, area, out);
-    let to = say_transmitted(should, r);
-    let association = r.association;
-    Said {
-        association,
-        length: r.length,
-        at: to,
-    }
-}
-
-fn say_message(should: &[u8], at: usize, m: Message) -> usize {
-    let stream = m.stream;
-    let ssn = m.ssn;
-    let c = say_named(should, at, b" stream ", stream.0 as u64);
-    let d = say_named(should, c, b" unordered ", m.unordered as u64);
-    let e = say_named(should, d, b" SSN ", ssn.0 as u64);
-    say_named(should, e, b" PPID ", m.ppid as u64)
-}
-
-// The length, or the length needed; then the message.
-fn say_delivered(should: &[u8], number: u8, m: Message, bytes: &[u8]) -> usize {
-    let b = showing::say_answer(should, 0, number);
-    let c = say_named(should, b, b" of ", m.length as u64);
-    if number == 0 {
-        let d = say_message(should, c, m);
-        return say_packet(should, d, bytes);
-    }
-    c
-}
-
-// The message goes to an output of its own.
-fn takes_into(a: Association, area: &[u8], space: &mut [u8], should: &[u8]) -> Said {
-    let r = calls::take(a, area, space);
-    let m = r.message;
-    let association = r.association;
-    let to = say_delivered(should, r.number, m, part(space, 0, m.length));
-    kept(association, to)
-}
-
-fn takes(a: Association, area: &[u8], should: &[u8]) -> Said {
-    let mut space = [0u8; 65536];
-    takes_into(a, area, &mut space, should)
-}
-
-fn takes_eight(a: Association, area: &[u8], should: &[u8]) -> Said {
-    let mut space = [0u8; 8];
-    takes_into(a, area, &mut space, should)
-}
-
-fn is_taken(w: &[u8]) -> bool {
-    if same(w, b"takes") {
-        return true;
-    }
-    same(w, b"takes8")
-}
-
-fn takes_some(a: Association, w: &[u8], area: &[u8], should: &[u8]) -> Said {
-    if same(w, b"takes8") {
-        return takes_eight(a, area, should);
-    }
-    takes(a, area, should)
-}
-
-// ---- calls that answer alike
-
-fn why(args: &[u8]) -> Reason {
-    let w = first(args);
-    if same(w, b"data") {
-        return Reason::NoData(Tsn(value32(args, 1)));
-    }
-    if same(w, b"violation") {
-        return Reason::Violation;
-    }
-    Reason::User
-}
-
-fn beats(a: Association, args: &[u8], out: &mut [u8]) -> Answer {
-    let mut nonce = [0u8; 8];
-    spell(args, &mut nonce, 0);
-    calls::heartbeat(a, nonce, out)
-}
-
-// associates TAG TSN PORT STREAMS
-fn associates(a: Association, args: &[u8], out: &mut [u8]) -> Answer {
-    let tsn = Tsn(value32(args, 1));
-    calls::associate(
-        a,
-        value32(args, 0),
-        tsn,
-        value16(args, 2),
-        value16(args, 3),
-        out,
-    )
-}
-
-// lates PORT TAG MICROSECONDS
-fn lates(a: Association, args: &[u8], out: &mut [u8]) -> Answer {
-    calls::error_stale(a, value16(args, 0), value32(args, 1), value32(args, 2), out)
-}
-
-fn timed(a: Association, line: &[u8], out: &mut [u8]) -> Answer {
-    let w = first(line);
-    if same(w, b"t1") {
-        return calls::t1(a, out);
-    }
-    if same(w, b"t2") {
-        return calls::t2(a, out);
-    }
-    if same(w, b"t3") {
-        return calls::t3(a);
-    }
-    calls::rtt(a, value32(line, 1))
-}
-
-fn told(a: Association, line: &[u8], out: &mut [u8]) -> Answer {
-    let w = first(line);
-    if same(w, b"beats") {
-        return beats(a, rest(line), out);
-    }
-    if same(w, b"strays") {
-        let stream = StreamId(value16(line, 1));
-        return calls::error_stream(a, stream, out);
-    }
-    if same(w, b"lates") {
-        return lates(a, rest(line), out);
-    }
-    timed(a, line, out)
-}
-
-fn called(a: Association, line: &[u8], out: &mut [u8]) -> Answer {
-    let w = first(line);
-    if same(w, b"associates") {
-        return associates(a, rest(line), out);
-    }
-    if same(w, b"shuts") {
-        return calls::shutdown(a, out);
-    }
-    if same(w, b"aborts") {
-        let reason = why(rest(line));
-        return calls::abort(a, reason, out);
-    }
-    told(a, line, out)
-}
-
-fn say_over(should: &[u8], at: usize, over: bool) -> usize {
-    if over {
-        return say(should, at, b" over");
-    }
-    at
-}
-
-fn answers(a: Association, line: &[u8], out: &mut [u8], should: &[u8]) -> Said {
-    let r = called(a, line, out);
-    let b = showing::say_answer(should, 0, r.number);
-    let to = say_over(should, b, r.over);
-    let association = r.association;
-    Said {
-        association,
-        length: r.length,
-        at: to,
-    }
-}
-
-fn say_sack(should: &[u8], number: u8, k: Sack) -> usize {
-    let blocks = k.blocks;
-    let b = showing::say_answer(should, 0, number);
-    let c = say_named(should, b, b" blocks ", blocks.count as u64);
-    say_named(should, c, b" listed ", k.listed as u64)
-}
-
-fn acknowledges(a: Association, out: &mut [u8], should: &[u8]) -> Said {
-    let r = calls::sack(a, out);
-    let k = r.sack;
-    let to = say_sack(should, r.number, k);
-    let association = r.association;
-    Said {
-        association,
-        length: r.length,
-        at: to,
     }
 }
 
@@ -533,41 +523,29 @@ fn is_made_up(w: &[u8]) -> bool {
 
 // ---- a line
 
-fn acts_alone(a: Association, line: &[u8], out: &mut [u8], should: &[u8]) -> Said {
+fn is_alone(w: &[u8]) -> bool {
+    if is_seen(w) {
+        return true;
+    }
+    if is_made_up(w) {
+        return true;
+    }
+    same(w, b"shows")
+}
+
+// What is no event.
+fn acts_alone(a: Association, line: &[u8], packet: &[u8], should: &[u8]) -> Said {
     let w = first(line);
+    if is_seen(w) {
+        let to = say_peeked(should, calls::peek(packet));
+        return kept(a, to);
+    }
     if is_made_up(w) {
         let to = say(should, 0, b"ok");
         return kept(made_up(a, line), to);
     }
-    if same(w, b"shows") {
-        let to = showing::say_record(should, 0, a);
-        return kept(a, to);
-    }
-    if same(w, b"acknowledges") {
-        return acknowledges(a, out, should);
-    }
-    answers(a, line, out, should)
-}
-
-fn moves(
-    a: Association,
-    line: &[u8],
-    into: &[u8],
-    from: &mut [u8],
-    out: &mut [u8],
-    should: &[u8],
-) -> Said {
-    let w = first(line);
-    if same(w, b"hands") {
-        return hands(a, rest(line), from, should);
-    }
-    if same(w, b"transmits") {
-        return transmits(a, from, out, should);
-    }
-    if is_taken(w) {
-        return takes_some(a, w, into, should);
-    }
-    acts_alone(a, line, out, should)
+    let to = showing::say_record(should, 0, a);
+    kept(a, to)
 }
 
 // The first `heard` bytes of `last` are the other end's last packet.
@@ -582,8 +560,14 @@ pub(crate) fn acts(
     out: &mut [u8],
     should: &[u8],
 ) -> Said {
-    if is_heard(first(line)) {
-        return comes(a, h, line, last, heard, into, out, should);
+    let w = first(line);
+    let mut input = [0u8; INPUT];
+    let n = put_input(line, last, heard, &mut input);
+    if is_alone(w) {
+        return acts_alone(a, line, part(&input, 0, n), should);
     }
-    moves(a, line, into, from, out, should)
+    if is_taken(w) {
+        return takes(a, h, line, into, from, should);
+    }
+    does(a, h, line, part(&input, 0, n), into, from, out, should)
 }

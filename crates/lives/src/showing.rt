@@ -2,10 +2,10 @@
 use crate::page::say;
 use crate::page::say_named;
 use crate::page::say_number;
-use arriving::Arrived;
 use arriving::Verdict;
 use association::Association;
 use association::Ends;
+use events::told::Seen;
 use octets::part;
 use path::Path;
 use places::Place;
@@ -94,8 +94,7 @@ fn say_verdict(should: &[u8], at: usize, v: Verdict) -> usize {
 }
 
 // The number of the packet if it is refused, else the verdicts of its chunks.
-pub(crate) fn say_arrived(should: &[u8], at: usize, r: Arrived) -> usize {
-    let number = r.number;
+pub(crate) fn say_arrived(should: &[u8], at: usize, number: u8, r: Seen) -> usize {
     if number != 0 {
         return say_answer(should, at, number);
     }
