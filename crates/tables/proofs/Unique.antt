@@ -7,8 +7,10 @@ use Rattle.tables.proofs.held.is_used.Reads as is-used-reads
 use Rattle.tables.proofs.held.is_of.Reads as is-of-reads
 use Rattle.tables.proofs.held.put_held.Reads as put-held-reads
 use Rattle.tables.proofs.held.free_held.Reads as free-held-reads
+use Rattle.tables.proofs.held.clear.Reads as held-clear-reads
 use Rattle.tables.proofs.ssns.ssn_at.Reads as ssn-at-reads
 use Rattle.tables.proofs.ssns.put_ssn.Reads as put-ssn-reads
+use Rattle.tables.proofs.ssns.clear.Reads as ssns-clear-reads
 
 pub held-at-unique : (κs : _) (a : _) (r q : _) (s t : _) → held-at-reads.Post κs a r s → held-at-reads.Post κs a q t → r ≡ q
 held-at-unique κs a r q s t x y = x ∙ sym y
@@ -30,3 +32,9 @@ ssn-at-unique κs a r q s t x y = x ∙ sym y
 
 pub put-ssn-unique : (κs : _) (a : _) (r q : _) (s t : _) → put-ssn-reads.Post κs a r s → put-ssn-reads.Post κs a q t → now (s .0) ≡ now (t .0)
 put-ssn-unique κs a r q s t x y = x ∙ sym y
+
+pub held-clear-unique : (κs : _) (a : _) (r q : _) (s t : _) → held-clear-reads.Post κs a r s → held-clear-reads.Post κs a q t → now (s .0) ≡ now (t .0)
+held-clear-unique κs a r q s t x y = x ∙ sym y
+
+pub ssns-clear-unique : (κs : _) (a : _) (r q : _) (s t : _) → ssns-clear-reads.Post κs a r s → ssns-clear-reads.Post κs a q t → now (s .0) ≡ now (t .0)
+ssns-clear-unique κs a r q s t x y = x ∙ sym y

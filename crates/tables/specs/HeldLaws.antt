@@ -1,5 +1,5 @@
 -- Laws of a table of held chunks: how many places it has, the place that stands at i, its bounds, and the places after one is put. Assumes nothing.
-use Prim.Native.Nat.{ℕ, _+_, _*_, _/_, _%_, _<_, _≤_}
+use Prim.Native.Nat.{ℕ, zero, suc, _+_, _*_, _/_, _%_, _<_, _≤_}
 use mathlib.Core.Path.{_≡_, refl, sym, ap, _∙_}
 use mathlib.Core.Bool.{Bool, true, false}
 use mathlib.Core.List.{List, [], _∷_}
@@ -11,12 +11,13 @@ use lib.Dec.{eqb, ltb}
 use lib.Seq.{set-out}
 use mir.Val.{boolByte as bit}
 use Rattle.scans.specs.Scan.{bit-le, pick}
+use Rattle.scans.specs.Each.{All}
 use Rattle.numbers.specs.Profile.{Profile}
 use Rattle.octets.specs.Bytes.{laid}
 use Rattle.octets.specs.BytesLaws.{laid-one, laid-nil, length-laid}
 use Rattle.holding.specs.declared.held.Held.{Held}
 use Rattle.holding.specs.Held.{noHeld}
-use Rattle.tables.specs.Words.{laid-step, laid-below, laid-above, laid-in, apart, low-bit, shown-long, shown-at, shown-touched}
+use Rattle.tables.specs.Words.{laid-step, laid-below, laid-above, laid-in, apart, low-bit, shownFrom, shown-long, shown-at, shown-touched}
 use Rattle.tables.specs.Held.{lastOf, wordsOf, decoded, heldAt, heldOf, heldPut}
 
 -- as many places as the profile has, whatever the words
@@ -67,6 +68,14 @@ held-small P ws i = go (decLt i (P .places))
     go : Dec (i < P .places) → Small (getD (heldOf P ws) i noHeld)
     go (yes h) = rw (← held-in P ws i h) (decoded-small (getD ws (4 * i) 0) (getD ws (4 * i + 1) 0) (getD ws (4 * i + 2) 0) (getD ws (4 * i + 3) 0))
     go (no h) = rw (← held-past P ws i (omega arith)) none-small
+
+small-from : (ws : List ℕ) (i n : ℕ) → All Small (shownFrom heldAt i n ws)
+small-from ws i zero = tt
+small-from ws i (suc n) = (decoded-small (getD ws (4 * i) 0) (getD ws (4 * i + 1) 0) (getD ws (4 * i + 2) 0) (getD ws (4 * i + 3) 0), small-from ws (i + 1) n)
+
+pub all-small : (P : Profile) (ws : List ℕ) → All Small (heldOf P ws)
+unfolding heldOf
+all-small P ws = small-from ws 0 (P .places)
 
 -- such a place shows what it was put as
 pub decoded-words : (h : Held) → Small h → decoded (h .tsn .0) (h .ssn .0) (h .ppid) (lastOf h) ≡ h

@@ -4,3 +4,4 @@ pub mod Open
 pub mod Held
 pub mod HeldLaws
 pub mod Ssns
+pub mod Zeros

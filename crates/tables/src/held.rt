@@ -6,7 +6,7 @@ use numbers::StreamId;
 use numbers::Tsn;
 ghost use mathlib.Core.Path.{_≡_};
 ghost use Prim.Native.Nat.{_≤_, _%_, _*_};
-ghost use lib.ListN.{getD};
+ghost use lib.ListN.{getD, replicate};
 ghost use lib.Dec.{eqb};
 ghost use mir.Val.{boolByte as bit};
 ghost use Rattle.numbers.specs.Profile.{rail};
@@ -137,4 +137,11 @@ pub fn free_held(t: &mut [u32; WORDS], i: usize)
         t[at + 2] = 0;
         t[at + 3] = 0;
     }
+}
+
+// Every place is free, and nothing is left in one.
+pub fn clear(t: &mut [u32; WORDS])
+    ensures { λ _. ⌜ now (t .exit) ≡ replicate 512 0 ⌝ }
+{
+    *t = [0; WORDS];
 }

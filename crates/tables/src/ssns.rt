@@ -3,7 +3,7 @@ use numbers::Rail;
 use numbers::Ssn;
 ghost use mathlib.Core.Path.{_≡_};
 ghost use Prim.Native.Nat.{_%_};
-ghost use lib.ListN.{getD};
+ghost use lib.ListN.{getD, replicate};
 ghost use Rattle.numbers.specs.Circle.{ssn0};
 ghost use Rattle.numbers.specs.Profile.{rail};
 ghost use Rattle.tables.specs.Ssns.{ssnsOf, ssnPut};
@@ -32,4 +32,11 @@ pub fn put_ssn(t: &mut [u16; Rail::STREAMS], i: usize, n: Ssn)
     if i < Rail::STREAMS {
         t[i] = n.0;
     }
+}
+
+// Every SSN is 0.
+pub fn clear(t: &mut [u16; Rail::STREAMS])
+    ensures { λ _. ⌜ now (t .exit) ≡ replicate 128 0 ⌝ }
+{
+    *t = [0; Rail::STREAMS];
 }
