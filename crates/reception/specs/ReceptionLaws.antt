@@ -1,14 +1,13 @@
 -- What is told after each verdict; and the words that a call leaves show what the call by value leaves. Assumes nothing.
 use Prim.Native.Nat.{ℕ, _*_, _^_, _<_, _≤_}
 use mathlib.Core.Path.{_≡_, refl, sym, ap, _∙_}
-use mathlib.Core.Bool.{Bool, true}
 use mathlib.Core.List.{List, []}
 use native.Mathlib.Omega.{arith}
 use lib.ListN.{length, replicate}
 use Rattle.numbers.specs.declared.circle.Tsn.{Tsn}
 use Rattle.numbers.specs.declared.keeping.Keeping.{Keeping}
 use Rattle.numbers.specs.Numbering.{Numbering, ring}
-use Rattle.numbers.specs.Profile.{Profile, rail}
+use Rattle.numbers.specs.Profile.{Profile}
 use Rattle.numbers.specs.Keeping.{marked, listed}
 use Rattle.numbers.specs.Keeping as keeping
 use Rattle.numbers.specs.KeepingLaws as number
@@ -18,12 +17,11 @@ use Rattle.scans.specs.declared.Found.the-variants.{At, Nothing}
 use Rattle.scans.specs.Scan.{count, findFrom}
 use Rattle.scans.specs.Each.{all-map}
 use Rattle.holding.specs.declared.held.Held.{Held}
-use Rattle.holding.specs.declared.taking.Took.{Took}
-use Rattle.holding.specs.Held.{noHeld, isFree}
+use Rattle.holding.specs.Held.{isFree}
 use Rattle.holding.specs.Taking.{took}
 use Rattle.tables.specs.Open.{by}
 use Rattle.tables.specs.Held.{heldOf}
-use Rattle.tables.specs.HeldLaws.{Small, held-long, held-put, all-small}
+use Rattle.tables.specs.HeldLaws.{Small, held-long, held-put, put-long, all-small}
 use Rattle.tables.specs.Ssns.{ssnsOf, ssns-long}
 use Rattle.tables.specs.Zeros.{held-zeros, ssns-zeros}
 use Rattle.taking.specs.Taking.{wordsTaken, ssnsTaken}
@@ -38,12 +36,11 @@ use Rattle.delivery.specs.declared.acknowledging.Acknowledged as whole
 use Rattle.delivery.specs.Receiving.{fresh, taken}
 use Rattle.delivery.specs.Arrival.{verdictOf, keptIn, after, arrived, storedBy, areaAfter}
 use Rattle.delivery.specs.ArrivalLaws.{kept-coming}
-use Rattle.delivery.specs.Acknowledging.{sackOf, acknowledged}
+use Rattle.delivery.specs.Acknowledging.{acknowledged}
 use Rattle.delivery.specs.Bounds.{isSound}
 use Rattle.delivery.specs.BoundsLaws.{sound-weighed}
 use Rattle.delivery.specs.Laws.{Shaped}
 use Rattle.delivery.specs.TableLaws.{fresh-is, noted-is, passed-is, kept-is, arrived-is, area-is, taken-is, sack-is, acknowledged-is}
-use Rattle.reception.specs.declared.arrival.Arrived.{Arrived}
 use Rattle.reception.specs.Reception.{seen, wordsKept, wordsBy, wordsAfter, told, sacked}
 
 -- ---- what an arrival leaves, by its verdict
@@ -129,6 +126,26 @@ module _ (T : Numbering) (P : Profile) (k : Keeping) (ws ns : List ℕ) (h : Hel
     words-arrived =
         (λ p. record { verdict = verdictOf T P (seen P k ws ns) h streams; receiving = record { keeping = after T P (seen P k ws ns) h (verdictOf T P (seen P k ws ns) h streams) .keeping; held = words-held p; next = next-same (verdictOf T P (seen P k ws ns) h streams) p } })
         ∙ sym (arrived-is T P (seen P k ws ns) h streams)
+
+-- the table stays as long as it was
+pub after-long : (T : Numbering) (P : Profile) (r : Receiving) (ws : List ℕ) (h : Held) (streams : ℕ) → length (wordsAfter T P r ws h streams) ≡ length ws
+unfolding wordsAfter
+after-long T P r ws h streams = go (verdictOf T P r h streams)
+  where
+    put : (f : Found) → length (wordsKept P ws h f) ≡ length ws
+    put (At i) = put-long P ws i h
+    put Nothing = refl
+
+    go : (v : Verdict) → length (wordsBy P ws h v) ≡ length ws
+    go Kept = put (findFrom isFree 0 (heldOf P ws))
+    go Empty = refl
+    go Long = refl
+    go Opposite = refl
+    go Duplicate = refl
+    go Wedged = refl
+    go Far = refl
+    go Stray = refl
+    go Clashing = refl
 
 -- a take: the answer, and the record that the words show, are those of `taken`
 pub words-taken : (T : Numbering) (P : Profile) (k : Keeping) (ws ns : List ℕ) (room : ℕ) → 4 * P .places ≤ length ws → P .streams ≤ length ns

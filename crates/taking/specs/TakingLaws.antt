@@ -18,13 +18,13 @@ use Rattle.holding.specs.declared.held.Held.{Held}
 use Rattle.holding.specs.declared.message.Best.{Best}
 use Rattle.holding.specs.declared.message.Places.{Places}
 use Rattle.holding.specs.declared.taking.Answer.{Answer}
-use Rattle.holding.specs.declared.taking.Answer.the-variants.{Taken, Nothing, Short}
+use Rattle.holding.specs.declared.taking.Answer.the-variants.{Taken, Short}
 use Rattle.holding.specs.declared.taking.Took.{Took}
 use Rattle.holding.specs.Held.{noHeld}
 use Rattle.holding.specs.Message.{Choice, chosen, none, one, chunksAt, follow}
 use Rattle.holding.specs.MessageLaws.{runOf, bestOf}
 use Rattle.holding.specs.Taking.{lengthOf, firstOf, messageOf, emptied, advanced, tookBy, took}
-use Rattle.holding.specs.TakingLaws.{Within, within-long, Picked, picked, picked-within, place-within, took-short, took-all, took-none}
+use Rattle.holding.specs.TakingLaws.{Within, within-long, Picked, picked, picked-within, took-short, took-all, took-none}
 use Rattle.holding.specs.TableLaws.{advanced-is, took-is}
 use Rattle.tables.specs.Held.{heldOf, heldFreed}
 use Rattle.tables.specs.HeldLaws.{held-long, held-put, none-small, put-long}
@@ -152,3 +152,38 @@ module _ (T : Numbering) (P : Profile) (ws ns : List ℕ) (point room : ℕ) whe
               → ssnsOf P (pick t ns (ssnsAdvanced (ring (2 ^ 16)) P ns (firstOf (chunksAt (heldOf P ws) is)))) ≡ pick {A = Took} t (record { answer = Short (lengthOf (heldOf P ws) is); held = heldOf P ws; next = ssnsOf P ns }) (record { answer = Taken (messageOf (lengthOf (heldOf P ws) is) (firstOf (chunksAt (heldOf P ws) is))); held = emptied (heldOf P ws) is; next = advanced (ring (2 ^ 16)) (ssnsOf P ns) (firstOf (chunksAt (heldOf P ws) is)) }) .next
           side true = refl
           side false = advanced-shows P ns (firstOf (chunksAt (heldOf P ws) is)) l
+
+-- ---- the tables stay as long as they were
+
+advanced-words : (S : Numbering) (P : Profile) (ns : List ℕ) (h : Held) → length (ssnsAdvanced S P ns h) ≡ length ns
+unfolding ssnsAdvanced
+advanced-words S P ns h = go (h .unordered)
+  where
+    go : (t : Bool) → length (pick t ns (ssnPut P ns (h .stream .0) (record { 0 = on S (getD (ssnsOf P ns) (h .stream .0) ssn0 .0) 1 }))) ≡ length ns
+    go true = refl
+    go false = ssn-put-long P ns (h .stream .0) (record { 0 = on S (getD (ssnsOf P ns) (h .stream .0) ssn0 .0) 1 })
+
+module _ (T : Numbering) (P : Profile) (ws ns : List ℕ) (point room : ℕ) where
+  pub words-long : length (wordsTaken T P ws ns point room) ≡ length ws
+  unfolding wordsTaken
+  words-long = go (chosen T P (heldOf P ws) (ssnsOf P ns) point)
+    where
+      go : (c : Choice) → length (wordsBy P ws room c) ≡ length ws
+      go none = refl
+      go (one k is) = side (ltb room (lengthOf (heldOf P ws) is))
+        where
+          side : (t : Bool) → length (pick t ws (wordsEmptied P ws is)) ≡ length ws
+          side true = refl
+          side false = emptied-words P ws is
+
+  pub ssns-long : (S : Numbering) → length (ssnsTaken T S P ws ns point room) ≡ length ns
+  unfolding ssnsTaken
+  ssns-long S = go (chosen T P (heldOf P ws) (ssnsOf P ns) point)
+    where
+      go : (c : Choice) → length (ssnsBy S P ws ns room c) ≡ length ns
+      go none = refl
+      go (one k is) = side (ltb room (lengthOf (heldOf P ws) is))
+        where
+          side : (t : Bool) → length (pick t ns (ssnsAdvanced S P ns (firstOf (chunksAt (heldOf P ws) is)))) ≡ length ns
+          side true = refl
+          side false = advanced-words S P ns (firstOf (chunksAt (heldOf P ws) is))
