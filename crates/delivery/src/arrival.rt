@@ -39,15 +39,15 @@ pub struct Arrival {
 
 // What the held chunks say of a chunk that comes: how many are low, whether its number is held, whether one of them contradicts it, and the lowest
 // free place, 128 if there is none.
-struct Look {
-    low: usize,
-    held: bool,
-    clash: bool,
-    free: usize,
+pub struct Look {
+    pub low: usize,
+    pub held: bool,
+    pub clash: bool,
+    pub free: usize,
 }
 
 // Whether it was held, or is here.
-fn or_held(was: bool, h: Held, tsn: Tsn) -> bool
+pub fn or_held(was: bool, h: Held, tsn: Tsn) -> bool
     ensures { λ y. ⌜ y ≡ either was (holds (tsn .0) h) ⌝ }
 {
     if was {
@@ -69,7 +69,7 @@ fn contradicts_next(first: Held, second: Held) -> bool
 }
 
 // Whether one contradicted the new chunk before, or this one does.
-fn or_clash(was: bool, h: Held, new: Held) -> bool
+pub fn or_clash(was: bool, h: Held, new: Held) -> bool
     ensures { λ y. ⌜ y ≡ either was (either (contradictsNext (ring (2 ^ 32)) h new) (contradictsNext (ring (2 ^ 32)) new h)) ⌝ }
 {
     if was {
@@ -82,7 +82,7 @@ fn or_clash(was: bool, h: Held, new: Held) -> bool
 }
 
 // The free place found before, or this one.
-fn or_free(free: usize, i: usize) -> usize
+pub fn or_free(free: usize, i: usize) -> usize
     ensures { λ y. ⌜ y ≡ orFree rail free i ⌝ }
 {
     if free < Rail::PLACES {
@@ -127,7 +127,7 @@ fn look_for(keeping: Keeping, held: [Held; Rail::PLACES], c: Chunk) -> Look
 }
 
 // Exactly half the circle away.
-fn is_opposite(j: Judgement) -> bool
+pub fn is_opposite(j: Judgement) -> bool
     ensures { λ y. ⌜ y ≡ isOpposite j ⌝ }
 {
     match j {
@@ -138,7 +138,7 @@ fn is_opposite(j: Judgement) -> bool
     }
 }
 
-fn is_old(j: Judgement) -> bool
+pub fn is_old(j: Judgement) -> bool
     ensures { λ y. ⌜ y ≡ isOld j ⌝ }
 {
     match j {
@@ -149,7 +149,7 @@ fn is_old(j: Judgement) -> bool
     }
 }
 
-fn is_beyond(j: Judgement) -> bool
+pub fn is_beyond(j: Judgement) -> bool
     ensures { λ y. ⌜ y ≡ isBeyond j ⌝ }
 {
     match j {
@@ -161,7 +161,7 @@ fn is_beyond(j: Judgement) -> bool
 }
 
 // Whether the number's offset has already come, or its chunk is already held.
-fn is_repeat(keeping: Keeping, held: bool, tsn: Tsn) -> bool
+pub fn is_repeat(keeping: Keeping, held: bool, tsn: Tsn) -> bool
     ensures { λ y. ⌜ y ≡ either (isCome (ring (2 ^ 32)) keeping (tsn .0)) held ⌝ }
 {
     if keeping.is_come(tsn) {

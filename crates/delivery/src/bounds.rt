@@ -17,15 +17,15 @@ ghost use Rattle.delivery.specs.Bounds.{isSound};
 ghost use Rattle.delivery.specs.BoundsLaws.{slotOf, weightOf};
 
 // How far before the point a number may lie for the test to look at it once only, and how many numbers there are from there.
-const BEFORE: u32 = 4294967040;
+pub const BEFORE: u32 = 4294967040;
 
-const NEAR: usize = 512;
+pub const NEAR: usize = 512;
 
 // More low chunks than there are places.
-const TOO_MANY: usize = 129;
+pub const TOO_MANY: usize = 129;
 
 // The slot of a number from the base on; none near where it lies elsewhere.
-fn slot(base: Tsn, tsn: Tsn) -> usize
+pub fn slot(base: Tsn, tsn: Tsn) -> usize
     ensures { λ d. ⌜ (d ≡ slotOf (far (ring (2 ^ 32)) (base .0) (tsn .0))) × (tsn .0 < 2 ^ 32) ⌝ }
 {
     match base.distance(tsn) {

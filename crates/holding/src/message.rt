@@ -43,7 +43,7 @@ fn is_of_one(first: Held, h: Held) -> bool
 }
 
 // Whether the chunk goes on the run of `first` at the number `t`.
-fn goes_on(first: Held, t: Tsn, h: Held) -> bool
+pub fn goes_on(first: Held, t: Tsn, h: Held) -> bool
     ensures { λ y. ⌜ y ≡ continues first (t .0) h ⌝ }
 {
     if !h.is_of(t) {
@@ -87,7 +87,8 @@ pub(crate) fn gather(held: [Held; Rail::PLACES], place: usize, first: Held) -> P
     Places { at, count: 0 }
 }
 
-fn is_left_end(h: Held) -> bool
+// Whether a message may begin with the chunk.
+pub fn is_left_end(h: Held) -> bool
     ensures { λ y. ⌜ y ≡ isLeftEnd h ⌝ }
 {
     if h.used { h.begin } else { false }

@@ -1,0 +1,86 @@
+-- What the rules of receiving say, as equations: for one who reads the places from a table in place of a list. Assumes nothing.
+use Prim.Native.Nat.{ℕ, _-_, _*_}
+use mathlib.Core.Path.{_≡_, refl}
+use mathlib.Core.Bool.{Bool, false, not}
+use mathlib.Core.List.{List}
+use lib.ListN.{set, replicate}
+use lib.Dec.{eqb, ltb}
+use Rattle.numbers.specs.declared.circle.Tsn.{Tsn}
+use Rattle.numbers.specs.declared.circle.Ssn.{Ssn}
+use Rattle.numbers.specs.declared.keeping.Keeping.{Keeping}
+use Rattle.numbers.specs.Circle.{ssn0}
+use Rattle.numbers.specs.Numbering.{Numbering}
+use Rattle.numbers.specs.Profile.{Profile, isAgreed}
+use Rattle.numbers.specs.Judgement.{judged}
+use Rattle.numbers.specs.Keeping as keeping
+use Rattle.numbers.specs.Blocks.{blocksOf}
+use Rattle.scans.specs.Scan.{pick, count, either}
+use Rattle.holding.specs.declared.held.Chunk.{Chunk}
+use Rattle.holding.specs.declared.held.Held.{Held}
+use Rattle.holding.specs.Held.{noHeld, asHeld, isFree}
+use Rattle.holding.specs.Message.{chosen, isOne}
+use Rattle.holding.specs.Taking.{took}
+use Rattle.delivery.specs.declared.receiving.Receiving.{Receiving}
+use Rattle.delivery.specs.declared.arrival.Look.{Look}
+use Rattle.delivery.specs.declared.arrival.Verdict.the-variants.{Kept, Empty, Long, Opposite, Duplicate, Wedged, Far, Stray, Clashing}
+use Rattle.delivery.specs.Receiving.{fresh, lowOf, takenBy, taken}
+use Rattle.delivery.specs.Arrival.{isOpposite, isOld, isBeyond, isRepeat, isWedged, judgementOf, verdictOf, noted, passed, kept, after, arrived, storedBy, areaAfter}
+use Rattle.delivery.specs.Acknowledging.{sackOf, told, acknowledged}
+use Rattle.delivery.specs.LookLaws.{Looked}
+
+module _ (T : Numbering) (P : Profile) where
+  pub fresh-is : (t : Tsn) → fresh T P t ≡ record { keeping = keeping.fresh T P t; held = replicate (P .places) noHeld; next = replicate (P .streams) ssn0 }
+  unfolding fresh
+  fresh-is t = refl
+
+  pub wedged-is : (low : ℕ) (hs : List Held) (next : List Ssn) (point : ℕ) → isWedged T P low hs next point ≡ pick (eqb low (P .places)) (not (isOne (chosen T P hs next point))) false
+  unfolding isWedged
+  wedged-is low hs next point = refl
+
+  -- the checks, by what a pass over the held chunks found
+  pub verdict-by : (r : Receiving) (c : Chunk) (n streams : ℕ) {w : Look} → Looked T P (r .keeping) (r .held) c w
+      → verdictOf T P r (asHeld c n) streams
+      ≡ pick (ltb n 1) Empty
+      (pick (ltb (P .payload) n) Long
+      (pick (isOpposite (judged T (r .keeping .point .0) (P .places - w .low) (c .tsn .0))) Opposite
+      (pick (isOld (judged T (r .keeping .point .0) (P .places - w .low) (c .tsn .0))) Duplicate
+      (pick (either (keeping.isCome T (r .keeping) (c .tsn .0)) (w .held)) Duplicate
+      (pick (isWedged T P (w .low) (r .held) (r .next) (r .keeping .point .0)) Wedged
+      (pick (isBeyond (judged T (r .keeping .point .0) (P .places - w .low) (c .tsn .0))) Far
+      (pick (isAgreed P (c .stream .0) streams) (pick (w .clash) Clashing Kept) Stray)))))))
+  unfolding verdictOf judgementOf lowOf isRepeat
+  verdict-by r c n streams k = rw (k .low, k .held, k .clash n)
+
+  pub noted-is : (r : Receiving) (t : Tsn) → noted P r t ≡ record { keeping = keeping.listed P (r .keeping) t; held = r .held; next = r .next }
+  unfolding noted
+  noted-is r t = refl
+
+  pub passed-is : (r : Receiving) (t : ℕ) → passed T P r t ≡ record { keeping = keeping.marked T P (r .keeping) t; held = r .held; next = r .next }
+  unfolding passed
+  passed-is r t = refl
+
+  pub kept-is : (r : Receiving) (i : ℕ) (h : Held) → kept T P r i h ≡ record { keeping = keeping.marked T P (r .keeping) (h .tsn .0); held = set (r .held) i h; next = r .next }
+  unfolding kept
+  kept-is r i h = refl
+
+  module _ (r : Receiving) (h : Held) (streams : ℕ) where
+    pub arrived-is : arrived T P r h streams ≡ record { verdict = verdictOf T P r h streams; receiving = after T P r h (verdictOf T P r h streams) }
+    unfolding arrived
+    arrived-is = refl
+
+    pub area-is : (area bytes : List ℕ) → areaAfter T P r h streams area bytes ≡ storedBy P (r .held) area bytes (verdictOf T P r h streams)
+    unfolding areaAfter
+    area-is area bytes = refl
+
+pub taken-is : (T S : Numbering) (P : Profile) (r : Receiving) (room : ℕ) → taken T S P r room ≡ takenBy r (took T S P (r .held) (r .next) (r .keeping .point .0) room)
+unfolding taken
+taken-is T S P r room = refl
+
+module _ (P : Profile) (r : Receiving) where
+  pub sack-is : sackOf P r ≡ record { point = r .keeping .point; window = P .payload * count isFree (r .held); blocks = blocksOf P (r .keeping); dups = r .keeping .dups; listed = r .keeping .listed }
+  unfolding sackOf
+  sack-is = refl
+
+  pub acknowledged-is : acknowledged P r ≡ record { sack = sackOf P r; receiving = record { keeping = keeping.told P (r .keeping); held = r .held; next = r .next } }
+  unfolding acknowledged told
+  acknowledged-is = refl

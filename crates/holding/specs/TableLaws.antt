@@ -1,0 +1,57 @@
+-- What the rules of messages and of a take say, as equations: for one who reads the places from a table in place of a list. Assumes nothing.
+use Prim.Native.Nat.{ℕ}
+use mathlib.Core.Path.{_≡_, refl}
+use mathlib.Core.Bool.{Bool, true, false}
+use mathlib.Core.List.{List}
+use lib.ListN.{set, getD}
+use lib.Dec.{eqb, ltb}
+use Rattle.numbers.specs.declared.circle.Ssn.{Ssn}
+use Rattle.numbers.specs.Circle.{ssn0}
+use Rattle.numbers.specs.Numbering.{Numbering, on, key}
+use Rattle.numbers.specs.Profile.{Profile}
+use Rattle.scans.specs.Scan.{pick}
+use Rattle.holding.specs.declared.held.Held.{Held}
+use Rattle.holding.specs.declared.message.Best.{Best}
+use Rattle.holding.specs.Held.{holds}
+use Rattle.holding.specs.Message.{isWhole, continues, follow, isLeftEnd, isExpected, opens, chosen}
+use Rattle.holding.specs.MessageLaws.{isBetter, tried, continues-holds}
+use Rattle.holding.specs.Taking.{advanced, tookBy, took}
+
+-- what does not hold the number does not go on with a run at it
+pub holds-not-continues : (first : Held) (t : ℕ) (h : Held) → holds t h ≡ false → continues first t h ≡ false
+unfolding continues
+holds-not-continues first t h e = rw e
+
+module _ (P : Profile) (next : List Ssn) (h : Held) where
+  pub expected-is : isExpected P next h ≡ pick (h .unordered) true (pick (ltb (h .stream .0) (P .streams)) (eqb (h .ssn .0) (getD next (h .stream .0) ssn0 .0)) false)
+  unfolding isExpected
+  expected-is = refl
+
+  pub opens-is : opens P next h ≡ pick (isLeftEnd h) (isExpected P next h) false
+  unfolding opens
+  opens-is = refl
+
+module _ (T : Numbering) (P : Profile) (next : List Ssn) (point : ℕ) (best : Best) (h : Held) where
+  pub better-is : isBetter T P next point best h ≡ pick (opens P next h) (pick (best .some) (ltb (key T point (h .tsn .0)) (best .key)) true) false
+  unfolding isBetter
+  better-is = refl
+
+  -- no message begins at a free place
+  pub free-not-better : h .used ≡ false → isBetter T P next point best h ≡ false
+  unfolding isBetter opens isLeftEnd
+  free-not-better u = rw u
+
+pub tried-is : (T : Numbering) (P : Profile) (hs : List Held) (point : ℕ) (best : Best) (i : ℕ) (h : Held)
+    → tried T P hs point best i h ≡ pick (isWhole (follow T hs h (P .places) i h)) (record { some = true; place = i; key = key T point (h .tsn .0) }) best
+unfolding tried
+tried-is T P hs point best i h = refl
+
+pub advanced-is : (S : Numbering) (next : List Ssn) (h : Held)
+    → advanced S next h ≡ pick (h .unordered) next (set next (h .stream .0) (record { 0 = on S (getD next (h .stream .0) ssn0 .0) 1 }))
+unfolding advanced
+advanced-is S next h = refl
+
+pub took-is : (T S : Numbering) (P : Profile) (hs : List Held) (next : List Ssn) (point room : ℕ)
+    → took T S P hs next point room ≡ tookBy S hs next room (chosen T P hs next point)
+unfolding took
+took-is T S P hs next point room = refl

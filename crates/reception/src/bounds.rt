@@ -1,0 +1,90 @@
+// The bounds of a receiving side whose held chunks are lent as words: "record outside its bounds" is answered 1 by who asks this test.
+use delivery::bounds;
+use delivery::receiving;
+use numbers::Keeping;
+use numbers::Rail;
+use numbers::Tsn;
+use tables::held;
+ghost use mathlib.Core.Path.{_≡_};
+ghost use mathlib.Core.List.{[]};
+ghost use Prim.Native.Nat.{_^_, _≤_};
+ghost use lib.ListN.{take};
+ghost use Rattle.numbers.specs.Numbering.{ring};
+ghost use Rattle.numbers.specs.Profile.{rail};
+ghost use Rattle.scans.specs.Scan.{any};
+ghost use Rattle.holding.specs.Held.{holds};
+ghost use Rattle.delivery.specs.Bounds.{isSound};
+ghost use Rattle.delivery.specs.BoundsLaws.{weightOf};
+ghost use Rattle.tables.specs.Held.{heldOf};
+ghost use Rattle.reception.specs.Reception.{seen};
+
+// Whether one of the first places holds the chunk of the number.
+fn is_held_before(words: &[u32; held::WORDS], place: usize, tsn: Tsn) -> bool
+    requires { ⌜ place ≤ 128 ⌝ }
+    ensures { λ y. ⌜ y ≡ any (holds (tsn .0)) (take place (heldOf rail (now (words .entry)))) ⌝ }
+{
+    let mut i: usize = 0;
+    while i < place {
+        if held::is_of(words, i, tsn) {
+            return true;
+        }
+        i += 1;
+    }
+    false
+}
+
+// How many held chunks are low; more than may be where one is unfit or a number is held twice. A number near the point is looked up where it was
+// noted; only others are compared with all before them.
+fn weight(keeping: Keeping, words: &[u32; held::WORDS]) -> usize
+    ensures { λ n. ⌜ (n ≡ weightOf (ring (2 ^ 32)) rail keeping (heldOf rail (now (words .entry)))) × (n ≤ 129) ⌝ }
+{
+    let point = keeping.point;
+    let base = point.after(bounds::BEFORE);
+    let come = keeping.come;
+    let mut low: usize = 0;
+    let mut seen = [false; bounds::NEAR];
+    let mut i: usize = 0;
+    while i < Rail::PLACES {
+        if held::is_used(words, i) {
+            let h = held::held_at(words, i);
+            let stream = h.stream;
+            if Rail::is_misfit(h.len, stream) {
+                return bounds::TOO_MANY;
+            }
+            let tsn = h.tsn;
+            let offset = keeping.offset(tsn);
+            let j = receiving::flag_at(offset);
+            low += receiving::is_low_by(offset, come[j]) as usize;
+            let d = bounds::slot(base, tsn);
+            if d < bounds::NEAR {
+                if seen[d] {
+                    return bounds::TOO_MANY;
+                }
+                seen[d] = true;
+                i += 1;
+            } else {
+                if is_held_before(words, i, tsn) {
+                    return bounds::TOO_MANY;
+                }
+                i += 1;
+            }
+        } else {
+            i += 1;
+        }
+    }
+    low
+}
+
+// Whether number-keeping and the places are within their bounds; any next expected SSNs are.
+pub fn is_sound(keeping: Keeping, words: &[u32; held::WORDS]) -> bool
+    ensures { λ y. ⌜ y ≡ isSound (ring (2 ^ 32)) rail (seen rail keeping (now (words .entry)) []) ⌝ }
+{
+    if !keeping.within_bounds() {
+        return false;
+    }
+    let n = weight(keeping, words);
+    if Rail::PLACES < keeping.highest() + n {
+        return false;
+    }
+    true
+}

@@ -1,0 +1,39 @@
+-- A take over tables of words: the words of the places and of the next expected SSNs that it leaves.
+use Prim.Native.Nat.{ℕ}
+use mathlib.Core.List.{List, [], _∷_}
+use lib.ListN.{getD}
+use lib.Dec.{ltb}
+use Rattle.numbers.specs.Circle.{ssn0}
+use Rattle.numbers.specs.Numbering.{Numbering, on}
+use Rattle.numbers.specs.Profile.{Profile}
+use Rattle.scans.specs.Scan.{pick}
+use Rattle.holding.specs.declared.held.Held.{Held}
+use Rattle.holding.specs.Message.{Choice, none, one, chunksAt, chosen}
+use Rattle.holding.specs.Taking.{lengthOf, firstOf}
+use Rattle.tables.specs.Held.{heldOf, heldFreed}
+use Rattle.tables.specs.Ssns.{ssnsOf, ssnPut}
+
+-- "and frees its places", one after the other
+abbrev pub wordsEmptied : Profile → List ℕ → List ℕ → List ℕ
+wordsEmptied P ws [] = ws
+wordsEmptied P ws (i ∷ is) = wordsEmptied P (heldFreed P ws i) is
+
+-- the next expected SSN of an ordered message's stream goes up by one
+unfoldable pub ssnsAdvanced : Numbering → Profile → List ℕ → Held → List ℕ
+ssnsAdvanced S P ns h = pick (h .unordered) ns (ssnPut P ns (h .stream .0) (record { 0 = on S (getD (ssnsOf P ns) (h .stream .0) ssn0 .0) 1 }))
+
+-- the words after a take of the message chosen into `room` bytes
+abbrev pub wordsBy : Profile → List ℕ → ℕ → Choice → List ℕ
+wordsBy P ws room none = ws
+wordsBy P ws room (one k is) = pick (ltb room (lengthOf (heldOf P ws) is)) ws (wordsEmptied P ws is)
+
+abbrev pub ssnsBy : Numbering → Profile → List ℕ → List ℕ → ℕ → Choice → List ℕ
+ssnsBy S P ws ns room none = ns
+ssnsBy S P ws ns room (one k is) = pick (ltb room (lengthOf (heldOf P ws) is)) ns (ssnsAdvanced S P ns (firstOf (chunksAt (heldOf P ws) is)))
+
+-- the same, of the message that the take gives
+unfoldable pub wordsTaken : Numbering → Profile → List ℕ → List ℕ → ℕ → ℕ → List ℕ
+wordsTaken T P ws ns point room = wordsBy P ws room (chosen T P (heldOf P ws) (ssnsOf P ns) point)
+
+unfoldable pub ssnsTaken : Numbering → Numbering → Profile → List ℕ → List ℕ → ℕ → ℕ → List ℕ
+ssnsTaken T S P ws ns point room = ssnsBy S P ws ns room (chosen T P (heldOf P ws) (ssnsOf P ns) point)
