@@ -1,0 +1,7 @@
+-- The tables of a record as words that are lent: what the words show, and what a place that is put leaves.
+pub mod Words
+pub mod Ssns
+pub mod Open
+pub mod Place
+pub mod PlaceLaws
+pub mod PlaceStates

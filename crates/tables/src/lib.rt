@@ -1,0 +1,3 @@
+// The tables of a record as words that are lent: no record is copied to look at one place, and any words show some places.
+pub mod place;
+pub mod ssns;
