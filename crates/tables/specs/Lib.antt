@@ -5,3 +5,6 @@ pub mod Held
 pub mod HeldLaws
 pub mod Ssns
 pub mod Zeros
+pub mod Place
+pub mod PlaceLaws
+pub mod PlaceStates

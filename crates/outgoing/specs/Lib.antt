@@ -1,0 +1,2 @@
+-- The sending side by value, with its tables.
+pub mod Outgoing

@@ -1,0 +1,137 @@
+-- What a pass over all places needs: what is asked of the places, as sums over them, also where each is replaced; a place that is given another state keeps
+-- its chunk; a free place stays and adds nothing. Assumes nothing.
+use Prim.Native.Nat.{ℕ, _+_, _<_}
+use mathlib.Core.Path.{_≡_, refl, ap}
+use mathlib.Core.Bool.{Bool, true, false}
+use mathlib.Core.List.{List, [], _∷_, map}
+use native.Mathlib.Omega.{arith}
+use borrow.Author.Tests.{ne-eqb, ltb-true}
+use lib.Dec.{eqb, ltb}
+use Rattle.numbers.specs.declared.circle.Tsn.{Tsn}
+use Rattle.scans.specs.Scan.{pick, any, total, count}
+use Rattle.scans.specs.Upto.{larger, largest}
+use Rattle.places.specs.declared.place.Place.{Place}
+use Rattle.places.specs.declared.sack.Sack.{Sack}
+use Rattle.places.specs.Places.{being, hasStatus, flightOf, payloadOf, lastOf, isOutstanding, isSent, offsetOf, isEmpty, tallied, marked, gets, reaches, missed, missedAll}
+use Rattle.places.specs.Blocks.{isBlocked}
+use Rattle.places.specs.Sack.{settled, isNewly, newlyBytes, newlyOffset, takenIn}
+use Rattle.places.specs.Laws.{unsent, flight-other, settled-unsent}
+
+-- ---- as sums
+
+pub taken-newly : (k : Sack) (from : Tsn) (ps : List Place) → takenIn k from ps .newly ≡ total (λ p. newlyBytes p (settled k p)) ps
+unfolding takenIn
+taken-newly k from ps = refl
+
+pub taken-highest : (k : Sack) (from : Tsn) (ps : List Place) → takenIn k from ps .highest ≡ largest (λ p. newlyOffset from p (settled k p)) ps
+unfolding takenIn
+taken-highest k from ps = refl
+
+pub missed-struck : (from : Tsn) (limit : ℕ) (ps : List Place) → missedAll from limit ps .struck ≡ any (reaches from limit) ps
+unfolding missedAll
+missed-struck from limit ps = refl
+
+pub empty-is : (ps : List Place) → isEmpty ps ≡ eqb (count (hasStatus 0) ps) 128
+unfolding isEmpty
+empty-is ps = refl
+
+pub tallied-is : (from : Tsn) (ps : List Place)
+    → tallied from ps ≡ record { flight = total flightOf ps; payload = total payloadOf ps; left = any isOutstanding ps; last = largest (lastOf from) ps }
+unfolding tallied
+tallied-is from ps = refl
+
+-- over places that f replaces
+module _ (f : Place → Place) where
+  pub total-over : (g : Place → ℕ) (ps : List Place) → total (λ p. g (f p)) ps ≡ total g (map f ps)
+  total-over g [] = refl
+  total-over g (p ∷ ps) = ap (λ (n : ℕ). g (f p) + n) (total-over g ps)
+
+  pub any-over : (g : Place → Bool) (ps : List Place) → any (λ p. g (f p)) ps ≡ any g (map f ps)
+  any-over g [] = refl
+  any-over g (p ∷ ps) = ap (λ (t : Bool). pick (g (f p)) true t) (any-over g ps)
+
+  pub largest-over : (g : Place → ℕ) (ps : List Place) → largest (λ p. g (f p)) ps ≡ largest g (map f ps)
+  largest-over g [] = refl
+  largest-over g (p ∷ ps) = ap (λ (n : ℕ). larger (g (f p)) n) (largest-over g ps)
+
+-- ---- another state
+
+-- the chunk stays, and what fits a byte does so still
+pub record Restated (p q : Place) : Type 0 where
+  pub chunk : q .chunk ≡ p .chunk
+  pub status : p .status < 256 → q .status < 256
+  pub misses : p .misses < 256 → q .misses < 256
+
+same : (p : Place) → Restated p p
+same p = record { chunk = refl; status = λ h. h; misses = λ h. h }
+
+state : (p : Place) (s : ℕ) → s < 256 → Restated p (being p s)
+state p s l = record { chunk = refl; status = λ h. l; misses = λ h. h }
+
+pub settled-restated : (k : Sack) (p : Place) → Restated p (settled k p)
+unfolding settled
+settled-restated k p = go (isSent p) (ltb (offsetOf (k .point) p) 1) (isBlocked (k .blocks) (offsetOf (k .point) p)) (eqb (p .status) 4) (k .whole)
+  where
+    go : (a b c d e : Bool) → Restated p (pick a (pick b (being p 0) (pick c (being p 4) (pick d (pick e (being p 2) p) p))) p)
+    go false b c d e = same p
+    go true true c d e = state p 0 (omega arith)
+    go true false true d e = state p 4 (omega arith)
+    go true false false true true = state p 2 (omega arith)
+    go true false false true false = same p
+    go true false false false e = same p
+
+pub missed-restated : (from : Tsn) (limit : ℕ) (p : Place) → Restated p (missed from limit p)
+unfolding missed
+missed-restated from limit p = go (gets from limit p) (ltb (p .misses) 2) (eqb (p .misses) 2) refl
+  where
+    go : (a b c : Bool) → ltb (p .misses) 2 ≡ b
+        → Restated p (pick a (pick b (record { status = p .status; misses = p .misses + 1; chunk = p .chunk }) (pick c (record { status = 3; misses = 3; chunk = p .chunk }) p)) p)
+    go false b c e = same p
+    go true true c e = let l = ltb-true (p .misses) 2 e in record { chunk = refl; status = λ h. h; misses = λ h. omega (arith, l) }
+    go true false true e = record { chunk = refl; status = λ h. omega arith; misses = λ h. omega arith }
+    go true false false e = same p
+
+pub marked-restated : (p : Place) → Restated p (marked p)
+unfolding marked
+marked-restated p = go (isOutstanding p)
+  where
+    go : (t : Bool) → Restated p (record { status = pick t 3 (p .status); misses = 0; chunk = p .chunk })
+    go true = record { chunk = refl; status = λ h. omega arith; misses = λ h. omega arith }
+    go false = record { chunk = refl; status = λ h. h; misses = λ h. omega arith }
+
+-- ---- a free place
+
+module _ (p : Place) (h : p .status ≡ 0) where
+  pub free-idle : isOutstanding p ≡ false
+  unfolding isOutstanding
+  free-idle = rw (ne-eqb (p .status) 2 (λ e. omega arith)) (ne-eqb (p .status) 3 (λ e. omega arith))
+
+  pub free-light : flightOf p ≡ 0
+  free-light = flight-other p (ne-eqb (p .status) 2 (λ e. omega arith))
+
+  pub free-last : (from : Tsn) → lastOf from p ≡ 0
+  unfolding lastOf
+  free-last from = rw free-idle
+
+  pub free-settled : (k : Sack) → settled k p ≡ p
+  free-settled k = settled-unsent k p (unsent p (omega arith))
+
+  pub free-bytes : (q : Place) → newlyBytes p q ≡ 0
+  unfolding newlyBytes isNewly
+  free-bytes q = rw free-idle
+
+  pub free-offset : (from : Tsn) (q : Place) → newlyOffset from p q ≡ 0
+  unfolding newlyOffset isNewly
+  free-offset from q = rw free-idle
+
+  free-gets : (from : Tsn) (limit : ℕ) → gets from limit p ≡ false
+  unfolding gets
+  free-gets from limit = rw free-idle
+
+  pub free-missed : (from : Tsn) (limit : ℕ) → missed from limit p ≡ p
+  unfolding missed
+  free-missed from limit = rw (free-gets from limit)
+
+  pub free-reaches : (from : Tsn) (limit : ℕ) → reaches from limit p ≡ false
+  unfolding reaches
+  free-reaches from limit = rw (free-gets from limit)

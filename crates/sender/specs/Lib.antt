@@ -1,0 +1,2 @@
+-- The sending side that a head and the words of its lent tables show.
+pub mod Seen

@@ -1,0 +1,134 @@
+// The sending side apart from its tables, which are lent: a small head by value, and the bounds of both.
+use numbers::Rail;
+use numbers::Tsn;
+use path::Path;
+use places::Place;
+use sending::bounds;
+use sending::bounds::Survey;
+ghost use mathlib.Core.Path.{_≡_};
+ghost use mathlib.Core.Bool.{not, false};
+ghost use mathlib.Core.List.{List, []};
+ghost use Prim.Native.Nat.{ℕ, _≤_};
+ghost use lib.Dec.{eqb};
+ghost use Rattle.scans.specs.Scan.{pick};
+ghost use Rattle.path.specs.Sizes.{railSizes};
+ghost use Rattle.numbers.specs.Profile.{rail};
+ghost use Rattle.sending.specs.Sending.{roomOf};
+ghost use Rattle.sending.specs.Bounds.{hasGap, isWithin};
+ghost use Rattle.sending.specs.Survey.{Surveyed};
+ghost use Rattle.tables.specs.Place.{placesOf};
+ghost use Rattle.sender.specs.Seen.{seen};
+
+// Our point, the TSN that is next, the window last advertised, the order of the chunk that waits longest, and the path.
+pub struct Sender {
+    pub acked: Tsn,
+    pub next_tsn: Tsn,
+    pub advertised: u32,
+    pub oldest: u32,
+    pub path: Path,
+}
+
+impl Sender {
+    // How many TSNs above our point were sent.
+    pub fn room(self) -> u32
+        ensures { λ r. ⌜ r ≡ roomOf (seen rail self [] []) ⌝ }
+    {
+        let d = numbers::keeping::ahead_of(self.acked, self.next_tsn);
+        if d < 1 {
+            return 0;
+        }
+        d - 1
+    }
+}
+
+// What one pass finds. Whether a place is odd is asked in both arms: of a free one only the misses are left to look at.
+fn survey_of(t: &[u32; 1024], acked: Tsn, oldest: u32) -> Survey
+    ensures { λ r. ⌜ Surveyed rail acked oldest (placesOf rail (now (t .entry))) r ⌝ }
+{
+    let mut flight: u32 = 0;
+    let mut odd = false;
+    let mut sent: usize = 0;
+    let mut waiting: usize = 0;
+    let mut seen_sent = [false; bounds::SPOTS];
+    let mut seen_waiting = [false; bounds::SPOTS];
+    let mut i: usize = 0;
+    while i < Rail::PLACES {
+        let p = tables::place::place_at(t, i);
+        if p.status == Place::FREE {
+            odd = bounds::or_odd(odd, p);
+            i += 1;
+        } else {
+            odd = bounds::or_odd(odd, p);
+            flight += p.flight();
+            sent += p.is_sent() as usize;
+            waiting += (p.status == Place::WAITING) as usize;
+            let j = bounds::spot_of(bounds::key_of(p, true, acked, oldest));
+            seen_sent[j] = true;
+            let k = bounds::spot_of(bounds::key_of(p, false, acked, oldest));
+            seen_waiting[k] = true;
+            i += 1;
+        }
+    }
+    Survey {
+        flight: flight,
+        odd: odd,
+        sent: sent,
+        waiting: waiting,
+        seen_sent: seen_sent,
+        seen_waiting: seen_waiting,
+    }
+}
+
+// Whether one of the first n is missing.
+fn has_gap(seen: [bool; bounds::SPOTS], n: usize) -> bool
+    requires { ⌜ n ≤ 128 ⌝ }
+    ensures { λ r. ⌜ r ≡ hasGap seen n ⌝ }
+{
+    let mut j: usize = 0;
+    while j < n {
+        if seen[j] {
+            j += 1;
+        } else {
+            return true;
+        }
+    }
+    false
+}
+
+// Whether there are n, and each of the numbers 1 to n is among theirs.
+fn is_successive(seen: [bool; bounds::SPOTS], many: usize, n: u32) -> bool
+    requires { ⌜ many ≤ 128 ⌝ }
+    ensures { λ r. ⌜ r ≡ pick (eqb many n) (not (hasGap seen n)) false ⌝ }
+{
+    if many == n as usize {
+        return !has_gap(seen, many);
+    }
+    false
+}
+
+// Whether the sending side is within its bounds, whatever the next SSNs.
+pub fn is_within(s: Sender, t: &[u32; 1024]) -> bool
+    ensures { λ r. ⌜ ((ns : List ℕ) → r ≡ isWithin railSizes rail (seen rail s (now (t .entry)) ns)) ⌝ }
+{
+    let p = s.path;
+    if p.is_within() {
+        let v = survey_of(t, s.acked, s.oldest);
+        if v.flight == p.flight {
+            if v.odd {
+                return false;
+            }
+            let d = numbers::keeping::ahead_of(s.acked, s.next_tsn);
+            if d < 1 {
+                return false;
+            }
+            let sent = v.seen_sent;
+            if is_successive(sent, v.sent, s.room()) {
+                let waiting = v.seen_waiting;
+                return is_successive(waiting, v.waiting, v.waiting as u32);
+            }
+            return false;
+        }
+        return false;
+    }
+    false
+}
