@@ -170,6 +170,8 @@ fn init(r: &mut Random, kind: u8) -> Vec<u8> {
     let cookie_at = r.below(3);
     // Now and then so many that their reports do not all fit.
     let many = r.one_in(10);
+    // Now and then a Host Name beside what stops, in any order.
+    let stopping = r.one_in(5);
     let count = if many { 300 } else { r.below(6) };
     for n in 0..=count {
         if kind == read::INIT_ACK && n == cookie_at.min(count) && !r.one_in(20) {
@@ -183,6 +185,7 @@ fn init(r: &mut Random, kind: u8) -> Vec<u8> {
         write::pad(&mut v);
         let kind = match r.below(40) {
             _ if many && !r.one_in(200) => 0xC001,
+            _ if stopping => r.pick(&[read::HOST_NAME, read::HOST_NAME, 2, 10, 0x4002, 0xC001]),
             0 => read::HOST_NAME,
             1..=10 => r.pick(&[1, 5, 6, 7, 8, 9, 12, 0x8000]),
             11 | 12 => r.pick(&[2, 0x4002, 0x3FFF, 0x7FFF]),

@@ -7,6 +7,7 @@ use crate::association;
 use crate::bend;
 use crate::born;
 use crate::call::{Bytes, Call, Maker, Reply, GUARD};
+use crate::cases::Met;
 use crate::coverage::Coverage;
 use crate::craft::{self, Crafted};
 use crate::random::Random;
@@ -97,11 +98,11 @@ impl<'m> Episode<'m> {
     }
 
     fn make(&mut self, who: usize, call: &Call) -> Result<Reply, Difference> {
-        let before = Coverage::before(self.ends[who].record());
+        let before = *self.ends[who].record();
         match self.ends[who].call(call) {
-            Err(what) => Err(self.difference(format!("state {} tries {}: {call:?}", before.0, before.1), what)),
+            Err(what) => Err(self.difference(format!("state {} tries {}: {call:?}", before.state, before.tries), what)),
             Ok(reply) => {
-                self.seen.note(before, call, &reply);
+                self.seen.note(&Met { before: &before, call, reply: &reply, after: self.ends[who].record() });
                 if matches!(call, Call::Associate { .. }) && reply.length() > 0 && !self.r.one_in(4) {
                     self.pool.clear();
                 }

@@ -22,6 +22,7 @@ mod bend;
 mod born;
 pub mod call;
 mod calls;
+mod cases;
 pub mod channel;
 pub mod checksum;
 mod core;

@@ -221,23 +221,33 @@ pub fn parameters(c: Seen<'_>) -> impl Iterator<Item = (u16, &[u8])> {
     })
 }
 
-/// The first parameter of a type, wherever it stands.
-pub fn parameter(c: Seen<'_>, kind: u16) -> Option<&[u8]> {
-    parameters(c).find(|p| p.0 == kind).map(|p| p.1)
+fn is_known_parameter(kind: u16) -> bool {
+    matches!(kind, 1 | 5 | 6 | 7 | 8 | 9 | 11 | 12 | 0x8000)
 }
 
-/// The unknown parameters that are to be reported; one that stops ends the reports.
+/// "00", "01": "do not process any further parameters in this chunk" (section 3.2.1). Known ones never stop.
+pub fn is_stop(kind: u16) -> bool {
+    !is_known_parameter(kind) && stops((kind >> 14) as u8)
+}
+
+/// The cookie, wherever it stands: whatever stops, a COOKIE ECHO is sent (section 3.2.1).
+pub fn cookie(c: Seen<'_>) -> Option<&[u8]> {
+    parameters(c).find(|p| p.0 == STATE_COOKIE).map(|p| p.1)
+}
+
+/// The first Host Name, found ahead of the first unknown parameter that stops.
+pub fn host_name(c: Seen<'_>) -> Option<&[u8]> {
+    parameters(c).take_while(|p| !is_stop(p.0)).find(|p| p.0 == HOST_NAME).map(|p| p.1)
+}
+
+/// The unknown parameters that are to be reported; one that stops is the last.
 pub fn reported_parameters(c: Seen<'_>) -> Vec<&[u8]> {
     let mut found = Vec::new();
     for (kind, bytes) in parameters(c) {
-        if matches!(kind, 1 | 5 | 6 | 7 | 8 | 9 | 11 | 12 | 0x8000) {
-            continue;
-        }
-        let high = (kind >> 14) as u8;
-        if reports(high) {
+        if !is_known_parameter(kind) && reports((kind >> 14) as u8) {
             found.push(bytes);
         }
-        if stops(high) {
+        if is_stop(kind) {
             break;
         }
     }

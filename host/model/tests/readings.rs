@@ -1,0 +1,83 @@
+//! Words of the papers that a build may read too widely, each on the model.
+
+use model::record::*;
+use model::{read, write, Core, Model};
+
+const MY_TAG: u32 = 7;
+const PEER_TAG: u32 = 9;
+
+struct End {
+    a: Association,
+    area: Vec<u8>,
+    out: Vec<u8>,
+}
+
+fn packet(tag: u32, chunks: &[Vec<u8>]) -> Vec<u8> {
+    let mut body = Vec::new();
+    for c in chunks {
+        body.extend_from_slice(c);
+        write::pad(&mut body);
+    }
+    let mut out = vec![0; 12 + body.len()];
+    write::packet(&mut out, 20, 10, tag, &body);
+    out
+}
+
+impl End {
+    fn closed(port: u16) -> End {
+        End { a: Model.closed(port), area: vec![0; AREA], out: vec![0; OUTPUT] }
+    }
+
+    /// With a cookie to lend, and a good word on every echo.
+    fn arrive(&mut self, tag: u32, chunks: &[Vec<u8>]) -> Arrived {
+        let made = Made { my_tag: MY_TAG, peer_tag: PEER_TAG, streams_in: 4, streams_out: 4, my_tsn: 100, peer_tsn: 1, window: 65_536 };
+        let lent = Lent { tag: MY_TAG, tsn: 100, streams: 4 };
+        let p = packet(tag, chunks);
+        Model.arrive(&mut self.a, &mut self.area, &p, lent, b"cookie", Echoed { word: GOOD, made }, &mut self.out)
+    }
+
+    /// What went out, by type.
+    fn sent(&self, length: usize) -> Vec<u8> {
+        read::walk(&self.out[..length]).map(|c| c.kind()).collect()
+    }
+}
+
+fn init(kind: u8, parameters: &[u16]) -> Vec<u8> {
+    let mut v = write::init_fields(read::Init { tag: PEER_TAG, window: 65_536, outs: 4, ins: 4, tsn: 1 });
+    for &p in parameters {
+        v.extend_from_slice(&write::item(p, b"name"));
+    }
+    write::chunk(kind, 0, &v)
+}
+
+/// RFC section 3.2.1: what stands behind an unknown parameter that stops is not acted on, but the cookie is echoed.
+#[test]
+fn a_host_name_behind_what_stops_is_not_met() {
+    let (cookie, name) = (read::STATE_COOKIE, read::HOST_NAME);
+    let of_init = |parameters: &[u16]| {
+        let mut e = End::closed(10);
+        let r = e.arrive(0, &[init(read::INIT, parameters)]);
+        e.sent(r.length)
+    };
+    let of_ack = |parameters: &[u16]| {
+        let mut e = End::closed(10);
+        assert_eq!(Model.associate(&mut e.a, MY_TAG, 100, 20, 4, &mut e.out).number, 0);
+        let r = e.arrive(MY_TAG, &[init(read::INIT_ACK, parameters)]);
+        (e.a.state, r.verdicts[0].event, e.sent(r.length))
+    };
+    for stop in [2, 10, 0x3FFF] {
+        assert_eq!(of_init(&[stop, name]), [read::INIT_ACK]);
+        assert_eq!(of_init(&[name, stop]), [read::ABORT]);
+        assert_eq!(of_ack(&[cookie, stop, name]), (COOKIE_ECHOED, NO_EVENT, vec![read::COOKIE_ECHO]));
+        assert_eq!(of_ack(&[stop, name, cookie]), (COOKIE_ECHOED, NO_EVENT, vec![read::COOKIE_ECHO]));
+    }
+    for stop in [0x4002, 0x7FFF] {
+        assert_eq!(of_init(&[stop, name]), [read::INIT_ACK]);
+        assert_eq!(of_ack(&[stop, cookie, name]), (COOKIE_ECHOED, NO_EVENT, vec![read::COOKIE_ECHO, read::ERROR]));
+        assert_eq!(of_ack(&[name, stop, cookie]), (CLOSED, DOWN_HOST_NAME, vec![read::ABORT]));
+    }
+    for goes_on in [1, 5, 6, 8, 9, 12, 0x8000, 0x8001, 0xC000] {
+        assert_eq!(of_init(&[goes_on, name]), [read::ABORT]);
+        assert_eq!(of_ack(&[goes_on, cookie, name]), (CLOSED, DOWN_HOST_NAME, vec![read::ABORT]));
+    }
+}
