@@ -64,7 +64,8 @@ pub fn record(r: &mut Random) -> Association {
     let most = crate::association::most_tries(state);
     let tries = if r.one_in(2) { most } else { r.within(0, usize::from(most)) as u8 };
     let ends = Ends {
-        local_port: r.within(1, 9) as u16,
+        // A closed record may be one for port 0.
+        local_port: if state == CLOSED && r.one_in(6) { 0 } else { r.within(1, 9) as u16 },
         peer_port: r.within(1, 9) as u16,
         my_tag: r.word() | 1,
         peer_tag: if state == CLOSED || state == COOKIE_WAIT { r.word() & 1 } else { r.word() | 1 },

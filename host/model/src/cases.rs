@@ -15,7 +15,7 @@ pub struct Met<'a> {
 type Case = (&'static str, fn(&Met<'_>) -> bool);
 
 #[rustfmt::skip]
-pub const CASES: [Case; 5] = [
+pub const CASES: [Case; 11] = [
     ("an INIT with a Host Name ahead of what stops", |m| m.first(read::INIT).map_or(false, |c| host_name(c) < stop(c) && has_stop(c))),
     ("an INIT with a Host Name behind what stops", |m| m.first(read::INIT).map_or(false, is_passed)),
     ("an INIT ACK with a Host Name ahead of what stops",
@@ -23,6 +23,12 @@ pub const CASES: [Case; 5] = [
     ("an INIT ACK with a Host Name behind what stops", |m| m.first(read::INIT_ACK).map_or(false, is_passed) && m.after.state == COOKIE_ECHOED),
     ("an INIT ACK with its cookie behind what stops",
         |m| m.first(read::INIT_ACK).map_or(false, |c| stop(c) < place(c, |kind| kind == read::STATE_COOKIE)) && m.after.state == COOKIE_ECHOED),
+    ("associate answered 4 for our port alone", |m| m.is_no_port(|ours, port, _| !ours && port)),
+    ("associate answered 4 for the peer's port alone", |m| m.is_no_port(|ours, port, _| ours && !port)),
+    ("associate answered 4 where 8 would come next", |m| m.is_no_port(|_, _, rest| !rest)),
+    ("error_stale answered 4 for our port alone", |m| m.is_no_way(|ours, port, tag| !ours && port && tag)),
+    ("error_stale answered 4 for the peer's port alone", |m| m.is_no_way(|ours, port, tag| ours && !port && tag)),
+    ("error_stale answered 4 for the tag alone", |m| m.is_no_way(|ours, port, tag| ours && port && !tag)),
 ];
 
 impl<'a> Met<'a> {
@@ -40,6 +46,24 @@ impl<'a> Met<'a> {
             return None;
         }
         read::walk(packet).next()
+    }
+
+    /// An `associate` that was answered 4: whether our port, the peer's port, and all the rest are such that a packet could go out.
+    fn is_no_port(&self, which: fn(bool, bool, bool) -> bool) -> bool {
+        match *self.call {
+            Call::Associate { tag, port, streams, .. } => {
+                self.reply.number() == 4 && which(self.before.ends.local_port != 0, port != 0, tag != 0 && streams != 0)
+            }
+            _ => false,
+        }
+    }
+
+    /// The same of an `error_stale`: our port, the peer's port and its tag.
+    fn is_no_way(&self, which: fn(bool, bool, bool) -> bool) -> bool {
+        match *self.call {
+            Call::ErrorStale { port, tag, .. } => self.reply.number() == 4 && which(self.before.ends.local_port != 0, port != 0, tag != 0),
+            _ => false,
+        }
     }
 }
 

@@ -81,3 +81,31 @@ fn a_host_name_behind_what_stops_is_not_met() {
         assert_eq!(of_ack(&[goes_on, cookie, name]), (CLOSED, DOWN_HOST_NAME, vec![read::ABORT]));
     }
 }
+
+/// RFC section 3.1 forbids port 0, and only an INIT has tag 0: nothing else goes out so.
+#[test]
+fn no_packet_has_port_0() {
+    let associate = |ours: u16, tag: u32, port: u16, streams: u16| {
+        let mut e = End::closed(ours);
+        Model.associate(&mut e.a, tag, 100, port, streams, &mut e.out).number
+    };
+    assert_eq!(associate(10, 7, 20, 1), 0);
+    assert_eq!((associate(0, 7, 20, 1), associate(10, 7, 0, 1)), (4, 4));
+    assert_eq!((associate(0, 0, 20, 1), associate(0, 7, 20, 0), associate(10, 0, 0, 0)), (4, 4, 4));
+    assert_eq!((associate(10, 0, 20, 1), associate(10, 7, 20, 0)), (8, 8));
+
+    let stale = |ours: u16, port: u16, tag: u32, lent: usize| {
+        let mut e = End::closed(ours);
+        let r = Model.error_stale(&mut e.a, port, tag, 1, &mut e.out[..lent]);
+        (r.number, r.length)
+    };
+    assert_eq!(stale(10, 20, 9, OUTPUT), (0, 24));
+    for (ours, port, tag) in [(0, 20, 9), (10, 0, 9), (10, 20, 0), (0, 0, 0)] {
+        assert_eq!(stale(ours, port, tag, OUTPUT), (4, 0));
+        assert_eq!(stale(ours, port, tag, OUTPUT - 1), (18, 0));
+    }
+    let mut e = End::closed(10);
+    assert_eq!(Model.associate(&mut e.a, MY_TAG, 100, 20, 4, &mut e.out).number, 0);
+    assert_eq!(Model.error_stale(&mut e.a, 0, 0, 1, &mut e.out).number, 7);
+    assert_eq!(Model.associate(&mut e.a, 0, 100, 0, 0, &mut e.out).number, 7);
+}
