@@ -1,5 +1,6 @@
 //! Cases that hang on more than a call and its number, each with its name: a drive counts how often it met each of them, and should have met all.
 
+use crate::association::is_sound;
 use crate::call::{Call, Reply};
 use crate::read::{self, Seen};
 use crate::record::*;
@@ -15,7 +16,7 @@ pub struct Met<'a> {
 type Case = (&'static str, fn(&Met<'_>) -> bool);
 
 #[rustfmt::skip]
-pub const CASES: [Case; 11] = [
+pub const CASES: [Case; 18] = [
     ("an INIT with a Host Name ahead of what stops", |m| m.first(read::INIT).map_or(false, |c| host_name(c) < stop(c) && has_stop(c))),
     ("an INIT with a Host Name behind what stops", |m| m.first(read::INIT).map_or(false, is_passed)),
     ("an INIT ACK with a Host Name ahead of what stops",
@@ -29,6 +30,13 @@ pub const CASES: [Case; 11] = [
     ("error_stale answered 4 for our port alone", |m| m.is_no_way(|ours, port, tag| !ours && port && tag)),
     ("error_stale answered 4 for the peer's port alone", |m| m.is_no_way(|ours, port, tag| ours && !port && tag)),
     ("error_stale answered 4 for the tag alone", |m| m.is_no_way(|ours, port, tag| ours && port && !tag)),
+    ("a closed record with too many streams in alone outside", |m| m.is_outside_by(CLOSED, |e| e.streams_in = 128)),
+    ("a closed record with too many streams out alone outside", |m| m.is_outside_by(CLOSED, |e| e.streams_out = 128)),
+    ("a closed record with 128 streams each way within", |m| m.is_closed_within(|e| (e.streams_in, e.streams_out) == (128, 128))),
+    ("a closed record with no streams within", |m| m.is_closed_within(|e| e.streams_in == 0 && e.streams_out > 0)),
+    ("a closed record with no ports within", |m| m.is_closed_within(|e| e.local_port == 0 && e.peer_port == 0)),
+    ("an open record whose own port alone puts it outside", |m| m.before.state != CLOSED && m.is_outside_by(m.before.state, |e| e.local_port = 1)),
+    ("an open record whose peer's port alone puts it outside", |m| m.before.state != CLOSED && m.is_outside_by(m.before.state, |e| e.peer_port = 1)),
 ];
 
 impl<'a> Met<'a> {
@@ -46,6 +54,22 @@ impl<'a> Met<'a> {
             return None;
         }
         read::walk(packet).next()
+    }
+
+    /// A record in this state that was answered 1, and would be within its bounds if one thing were mended.
+    fn is_outside_by(&self, state: u8, mend: fn(&mut Ends)) -> bool {
+        self.before.state == state && self.reply.number() == 1 && {
+            let mut mended = *self.before;
+            mend(&mut mended.ends);
+            is_sound(&mended)
+        }
+    }
+
+    fn is_closed_within(&self, is: fn(&Ends) -> bool) -> bool {
+        self.before.state == CLOSED
+            && !matches!(self.call, Call::Closed { .. } | Call::Peek { .. })
+            && self.reply.number() != 1
+            && is(&self.before.ends)
     }
 
     /// An `associate` that was answered 4: whether our port, the peer's port, and all the rest are such that a packet could go out.

@@ -1,7 +1,7 @@
 //! Words of the papers that a build may read too widely, each on the model.
 
 use model::record::*;
-use model::{read, write, Core, Model};
+use model::{is_sound, read, write, Core, Model};
 
 const MY_TAG: u32 = 7;
 const PEER_TAG: u32 = 9;
@@ -108,4 +108,33 @@ fn no_packet_has_port_0() {
     assert_eq!(Model.associate(&mut e.a, MY_TAG, 100, 20, 4, &mut e.out).number, 0);
     assert_eq!(Model.error_stale(&mut e.a, 0, 0, 1, &mut e.out).number, 7);
     assert_eq!(Model.associate(&mut e.a, 0, 100, 0, 0, &mut e.out).number, 7);
+}
+
+/// "128 streams each way at most", in every state; a record outside CLOSED has two ports.
+#[test]
+fn the_bounds_of_streams_and_ports() {
+    let mut closed = Model.closed(0);
+    for (streams, within) in [(0, true), (1, true), (128, true), (129, false), (65_535, false)] {
+        closed.ends.streams_in = streams;
+        closed.ends.streams_out = 128;
+        assert_eq!(is_sound(&closed), within);
+        closed.ends.streams_in = 0;
+        closed.ends.streams_out = streams;
+        assert_eq!(is_sound(&closed), within);
+    }
+    for state in COOKIE_WAIT..=SHUTDOWN_ACK_SENT {
+        let mut a = Model.closed(10);
+        a.state = state;
+        a.cookie.len = 1;
+        a.ends = Ends { local_port: 10, peer_port: 20, my_tag: MY_TAG, peer_tag: PEER_TAG, streams_in: 1, streams_out: 128 };
+        assert!(is_sound(&a));
+        for spoil in
+            [|e: &mut Ends| e.local_port = 0, |e: &mut Ends| e.peer_port = 0, |e: &mut Ends| e.streams_in = 0, |e: &mut Ends| e.streams_out = 129]
+        {
+            let mut spoilt = a;
+            spoil(&mut spoilt.ends);
+            assert!(!is_sound(&spoilt));
+            assert_eq!(Model.rtt(&mut spoilt, 1).number, 1);
+        }
+    }
 }
