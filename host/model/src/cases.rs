@@ -2,6 +2,7 @@
 
 use crate::association::is_sound;
 use crate::call::{Call, Reply};
+use crate::letting::{heeded, is_addressed};
 use crate::read::{self, Seen};
 use crate::record::*;
 
@@ -16,7 +17,7 @@ pub struct Met<'a> {
 type Case = (&'static str, fn(&Met<'_>) -> bool);
 
 #[rustfmt::skip]
-pub const CASES: [Case; 18] = [
+pub const CASES: [Case; 26] = [
     ("an INIT with a Host Name ahead of what stops", |m| m.first(read::INIT).map_or(false, |c| host_name(c) < stop(c) && has_stop(c))),
     ("an INIT with a Host Name behind what stops", |m| m.first(read::INIT).map_or(false, is_passed)),
     ("an INIT ACK with a Host Name ahead of what stops",
@@ -37,6 +38,14 @@ pub const CASES: [Case; 18] = [
     ("a closed record with no ports within", |m| m.is_closed_within(|e| e.local_port == 0 && e.peer_port == 0)),
     ("an open record whose own port alone puts it outside", |m| m.before.state != CLOSED && m.is_outside_by(m.before.state, |e| e.local_port = 1)),
     ("an open record whose peer's port alone puts it outside", |m| m.before.state != CLOSED && m.is_outside_by(m.before.state, |e| e.peer_port = 1)),
+    ("an ABORT behind a good COOKIE ECHO in CLOSED", |m| m.is_blue(4, |p, good| good && p[12] == read::COOKIE_ECHO && read::check_shape(p) == 0)),
+    ("an ABORT behind another COOKIE ECHO in CLOSED", |m| m.is_blue(4, |p, good| !good && p[12] == read::COOKIE_ECHO && read::check_shape(p) == 0)),
+    ("an ABORT in CLOSED where 6 would come next", |m| m.is_blue(4, |p, _| read::check_shape(p) == 6)),
+    ("an ABORT in CLOSED behind a length under 4", |m| m.is_blue(4, |p, _| read::heads(p).take_while(|h| h.0 != read::ABORT).any(|h| h.1 < 4))),
+    ("an ABORT in CLOSED with a length under 4", |m| m.is_blue(4, |p, _| is_ill_abort(p, |length, _| length < 4))),
+    ("an ABORT in CLOSED that reaches past the packet", |m| m.is_blue(4, |p, _| is_ill_abort(p, |length, size| length > size))),
+    ("an ABORT in CLOSED behind a length past the packet", |m| m.is_blue(5, |p, _| ends_as_abort(p))),
+    ("an ABORT in CLOSED within another chunk", |m| m.is_blue(0, |p, _| ends_as_abort(p))),
 ];
 
 impl<'a> Met<'a> {
@@ -54,6 +63,17 @@ impl<'a> Met<'a> {
             return None;
         }
         read::walk(packet).next()
+    }
+
+    /// A packet to a closed record that was answered so, whose ports and tag are right; `is` is told whether an echo would be good.
+    fn is_blue(&self, number: u8, is: fn(&[u8], bool) -> bool) -> bool {
+        match self.call {
+            Call::Arrive { packet, echoed, .. } if self.before.state == CLOSED && self.reply.number() == number => {
+                let echoed = heeded(*echoed);
+                is_addressed(self.before, packet, &echoed) && is(packet, echoed.word == GOOD)
+            }
+            _ => false,
+        }
     }
 
     /// A record in this state that was answered 1, and would be within its bounds if one thing were mended.
@@ -113,4 +133,17 @@ fn has_stop(c: Seen<'_>) -> bool {
 /// There is a Host Name, and it stands behind what stops.
 fn is_passed(c: Seen<'_>) -> bool {
     stop(c) < host_name(c) && host_name(c) < usize::MAX
+}
+
+// ---- ABORT
+
+/// The first ABORT's length, and the packet's.
+fn is_ill_abort(packet: &[u8], is: fn(usize, usize) -> bool) -> bool {
+    read::heads(packet).find(|h| h.0 == read::ABORT).map_or(false, |h| is(h.1, packet.len()))
+}
+
+/// The last bytes would be an ABORT, if a chunk began there.
+fn ends_as_abort(packet: &[u8]) -> bool {
+    let last = &packet[packet.len().saturating_sub(8)..];
+    last.len() == 8 && last[0] == read::ABORT && last[2..] == [0, 8, 0, 12, 0, 4]
 }

@@ -256,20 +256,19 @@ fn heartbeat(r: &mut Random, kind: u8) -> Vec<u8> {
 }
 
 fn chunk(r: &mut Random, a: &Association, kind: u8) -> Vec<u8> {
-    let t = r.below(2) as u8;
     match kind {
         read::DATA => data(r, a),
         read::INIT | read::INIT_ACK => init(r, kind),
         read::SACK => sack(r, &a.sending),
         read::HEARTBEAT | read::HEARTBEAT_ACK => heartbeat(r, kind),
-        read::ABORT => write::chunk(kind, t, &write::item(12, &[])),
+        read::ABORT => chunk_of_abort(r),
         read::SHUTDOWN => write::chunk(kind, 0, &point(r, &a.sending).to_be_bytes()),
         read::ERROR => error(r),
         read::COOKIE_ECHO => {
             let length = cookie_length(r);
             write::chunk(kind, 0, &bytes(r, length))
         }
-        read::SHUTDOWN_COMPLETE => write::chunk(kind, t, &[]),
+        read::SHUTDOWN_COMPLETE => write::chunk(kind, r.below(2) as u8, &[]),
         read::COOKIE_ACK | read::SHUTDOWN_ACK => {
             let tail = if r.one_in(20) { 4 } else { 0 };
             write::chunk(kind, 0, &bytes(r, tail))
@@ -315,6 +314,41 @@ fn tag(r: &mut Random, a: &Association, first: &[u8], e: &Echoed) -> u32 {
     }
 }
 
+/// An ABORT goes behind what the packet has so far: plainly, where a walk over ill lengths finds it, or where none does.
+fn add_abort(r: &mut Random, body: &mut Vec<u8>) {
+    write::pad(body);
+    let mut abort = chunk_of_abort(r);
+    let more = match r.below(8) {
+        // Behind a chunk whose length is under 4.
+        0 | 1 => [&[r.pick(&[read::DATA, read::HEARTBEAT, 128, 63]), 0, 0, r.below(4) as u8], &abort[..]].concat(),
+        // Behind one that claims to reach past the packet.
+        2 => [&[r.pick(&[read::DATA, read::HEARTBEAT, 128]), 0, r.pick(&[0x10, 0xFF]), r.word() as u8], &abort[..]].concat(),
+        // As the value of another chunk.
+        3 => write::chunk(r.pick(&[read::HEARTBEAT, 128, 192]), 0, &abort),
+        // Its own length is ill.
+        4 => {
+            abort[2] = r.pick(&[0, 0, 0x10]);
+            abort[3] = r.below(4) as u8;
+            abort
+        }
+        // Behind an unknown chunk that stops.
+        5 => [write::chunk(63, 0, &[]), abort].concat(),
+        _ => abort,
+    };
+    if 12 + body.len() + more.len() <= PACKET_MOST {
+        body.extend_from_slice(&more);
+    }
+    if r.one_in(12) {
+        // The first chunk's length is under 4: the walk goes on within it.
+        body[2] = 0;
+        body[3] = r.below(4) as u8;
+    }
+}
+
+fn chunk_of_abort(r: &mut Random) -> Vec<u8> {
+    write::chunk(read::ABORT, r.below(2) as u8, &write::item(12, &[]))
+}
+
 /// A packet to an end with this record.
 pub fn packet(r: &mut Random, a: &Association) -> Crafted {
     let echoed = echoed(r);
@@ -342,6 +376,9 @@ pub fn packet(r: &mut Random, a: &Association) -> Crafted {
         if 12 + body.len() + padded(next.len()) <= PACKET_MOST {
             body.extend_from_slice(&next);
         }
+    }
+    if a.state == CLOSED && r.one_in(5) {
+        add_abort(r, &mut body);
     }
     write::pad(&mut body);
     if r.one_in(20) {

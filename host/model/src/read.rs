@@ -78,6 +78,23 @@ pub fn walk(packet: &[u8]) -> impl Iterator<Item = Seen<'_>> {
     })
 }
 
+/// Type and length of each chunk of a packet whose lengths may be ill: one under 4 counts as 4, one past the packet is the last.
+pub fn heads(packet: &[u8]) -> impl Iterator<Item = (u8, usize)> + '_ {
+    let mut at = 12;
+    std::iter::from_fn(move || {
+        if at >= packet.len() {
+            return None;
+        }
+        let head = (packet[at], usize::from(be16(packet, at + 2)));
+        at += padded(head.1.max(4));
+        Some(head)
+    })
+}
+
+pub fn has_abort(packet: &[u8]) -> bool {
+    heads(packet).any(|h| h.0 == ABORT)
+}
+
 pub fn is_known(kind: u8) -> bool {
     kind <= COOKIE_ACK || kind == SHUTDOWN_COMPLETE
 }

@@ -138,3 +138,33 @@ fn the_bounds_of_streams_and_ports() {
         }
     }
 }
+
+/// RFC section 8.4, rule 2: what contains an ABORT is discarded in CLOSED, wherever the ABORT stands, before any other fault of the packet is named.
+#[test]
+fn an_abort_out_of_the_blue() {
+    let echo = || write::chunk(read::COOKIE_ECHO, 0, b"cookie");
+    let abort = || write::chunk(read::ABORT, 0, &[]);
+    let stops = || write::chunk(63, 0, &[]);
+    let ill = |length: u16| [&[read::DATA, 3][..], &length.to_be_bytes()].concat();
+    let number = |tag: u32, chunks: &[Vec<u8>]| {
+        let mut e = End::closed(10);
+        let r = e.arrive(tag, chunks);
+        assert_eq!(e.a == Model.closed(10), r.number != 0 || chunks[0][0] == read::INIT);
+        (r.number, r.length)
+    };
+    assert_eq!(number(MY_TAG, &[echo()]), (0, 16));
+    assert_eq!(number(MY_TAG, &[echo(), abort()]), (4, 0));
+    assert_eq!(number(MY_TAG, &[echo(), stops(), stops(), abort()]), (4, 0));
+    assert_eq!(number(0, &[init(read::INIT, &[]), stops()]), (6, 0));
+    assert_eq!(number(0, &[init(read::INIT, &[]), abort()]), (4, 0));
+    for length in 0..4 {
+        assert_eq!(number(MY_TAG, &[echo(), ill(length)]), (5, 0));
+        assert_eq!(number(MY_TAG, &[echo(), ill(length), abort()]), (4, 0));
+        assert_eq!(number(MY_TAG, &[echo(), vec![read::ABORT, 0, 0, length as u8]]), (4, 0));
+    }
+    // A chunk that has all the rest for its value, or claims more than that.
+    assert_eq!(number(MY_TAG, &[echo(), write::chunk(128, 0, &abort())]), (0, 16));
+    assert_eq!(number(MY_TAG, &[echo(), ill(9), abort()]), (5, 0));
+    assert_eq!(number(MY_TAG, &[echo(), ill(65_535), abort()]), (5, 0));
+    assert_eq!(number(MY_TAG, &[echo(), vec![read::ABORT, 0, 0, 5]]), (4, 0));
+}
