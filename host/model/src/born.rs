@@ -258,7 +258,7 @@ fn window(r: &mut Random, places: &[Place; PLACES], oldest: u32) -> u32 {
     let first = places.iter().find(|p| p.status == WAITING && p.chunk.order == oldest).map_or(0, |p| u32::from(p.chunk.len));
     match r.below(3) {
         0 => (flying + first + r.below(3) as u32).saturating_sub(1),
-        _ => r.pick(&[0, 1, 512, 1024, 65_536, u32::MAX]),
+        _ => r.pick(&[0, 1, 511, 512, 1024, 65_536, u32::MAX]),
     }
 }
 

@@ -17,7 +17,7 @@ pub struct Met<'a> {
 type Case = (&'static str, fn(&Met<'_>) -> bool);
 
 #[rustfmt::skip]
-pub const CASES: [Case; 26] = [
+pub const CASES: [Case; 30] = [
     ("an INIT with a Host Name ahead of what stops", |m| m.first(read::INIT).map_or(false, |c| host_name(c) < stop(c) && has_stop(c))),
     ("an INIT with a Host Name behind what stops", |m| m.first(read::INIT).map_or(false, is_passed)),
     ("an INIT ACK with a Host Name ahead of what stops",
@@ -46,6 +46,11 @@ pub const CASES: [Case; 26] = [
     ("an ABORT in CLOSED that reaches past the packet", |m| m.is_blue(4, |p, _| is_ill_abort(p, |length, size| length > size))),
     ("an ABORT in CLOSED behind a length past the packet", |m| m.is_blue(5, |p, _| ends_as_abort(p))),
     ("an ABORT in CLOSED within another chunk", |m| m.is_blue(0, |p, _| ends_as_abort(p))),
+    ("a SACK with a window of 511 and nothing new: T3's tries 0", |m| m.is_nothing_new(read::SACK, |m, w| w == 511 && m.after.sending.path.tries == 0)),
+    ("a SACK with a window of 0 and nothing new: T3's tries 0", |m| m.is_nothing_new(read::SACK, |m, w| w == 0 && m.after.sending.path.tries == 0)),
+    ("a SACK with a window of 512 and nothing new: T3's tries kept", |m| m.is_nothing_new(read::SACK, |m, w| w == 512 && m.after.sending.path.tries > 0)),
+    ("a SHUTDOWN with nothing new, the window closed: T3's tries kept",
+        |m| m.is_nothing_new(read::SHUTDOWN, |m, _| m.before.sending.advertised < 512 && m.after.sending.path.tries > 0)),
 ];
 
 impl<'a> Met<'a> {
@@ -63,6 +68,16 @@ impl<'a> Met<'a> {
             return None;
         }
         read::walk(packet).next()
+    }
+
+    /// A lone chunk of this type that was accepted, with tries to lose, and acknowledged nothing new; `is` is told the window, which a SACK alone has.
+    fn is_nothing_new(&self, kind: u8, is: fn(&Met<'_>, u32) -> bool) -> bool {
+        let mut places = self.before.sending.places.iter().zip(&self.after.sending.places);
+        let outstanding = |p: &Place| matches!(p.status, FLYING | MARKED);
+        self.arrived().map_or(false, |(_, r)| r.count == 1)
+            && self.before.sending.path.tries > 0
+            && !places.any(|(before, after)| outstanding(before) && !outstanding(after))
+            && self.first(kind).map_or(false, |c| is(self, if kind == read::SACK { read::be32(c.bytes, 8) } else { 0 }))
     }
 
     /// A packet to a closed record that was answered so, whose ports and tag are right; `is` is told whether an echo would be good.

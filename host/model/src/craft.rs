@@ -121,7 +121,7 @@ fn sack(r: &mut Random, s: &Sending) -> Vec<u8> {
     let point = point(r, s);
     let above = s.next_tsn.wrapping_sub(point).wrapping_sub(1) % 200;
     let mut v = point.to_be_bytes().to_vec();
-    v.extend_from_slice(&r.pick(&[0, 1, 512, 65_536, 65_536, u32::MAX]).to_be_bytes());
+    v.extend_from_slice(&r.pick(&[0, 1, 511, 512, 65_536, 65_536, u32::MAX]).to_be_bytes());
     let mut blocks = Vec::new();
     let mut at = 1;
     while r.one_in(2) || blocks.len() > 3 && !r.one_in(6) {

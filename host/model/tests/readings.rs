@@ -168,3 +168,39 @@ fn an_abort_out_of_the_blue() {
     assert_eq!(number(MY_TAG, &[echo(), ill(65_535), abort()]), (5, 0));
     assert_eq!(number(MY_TAG, &[echo(), vec![read::ABORT, 0, 0, 5]]), (4, 0));
 }
+
+/// RFC section 6.1 A: who tells of a closed window is alive, however long it leaves the probe unacknowledged.
+#[test]
+fn a_closed_window_is_no_silence() {
+    let sack = |point: u32, window: u32| write::chunk(read::SACK, 0, &[&point.to_be_bytes()[..], &window.to_be_bytes(), &[0; 4]].concat());
+    let mut area = vec![0; AREA];
+    let mut e = End::closed(10);
+    assert_eq!(e.arrive(MY_TAG, &[write::chunk(read::COOKIE_ECHO, 0, b"cookie")]).number, 0);
+    assert_eq!(Model.hand_in(&mut e.a, &mut area, b"probe", 0, 0, 0).number, 0);
+    assert!(Model.transmit(&mut e.a, &area, &mut e.out).length > 0);
+    let expire = |e: &mut End, chunks: &[Vec<u8>]| {
+        let r = Model.t3(&mut e.a);
+        assert_eq!(r.number, 0);
+        Model.transmit(&mut e.a, &area, &mut e.out);
+        let r = e.arrive(MY_TAG, chunks);
+        (r.verdicts[0].number, e.a.sending.path.tries)
+    };
+    for window in [0, 1, 511] {
+        for _ in 0..20 {
+            assert_eq!(expire(&mut e, &[sack(99, window)]), (0, 0));
+        }
+    }
+    // An open window, a SACK that is refused and a SHUTDOWN say nothing of the kind; what T3 does to the path stays.
+    assert_eq!(expire(&mut e, &[sack(99, 512)]), (0, 1));
+    assert_eq!(expire(&mut e, &[sack(98, 0)]), (15, 2));
+    assert_eq!(expire(&mut e, &[sack(101, 0)]), (16, 3));
+    assert_eq!(expire(&mut e, &[sack(99, 0)]), (0, 0));
+    assert_eq!(expire(&mut e, &[write::chunk(read::SHUTDOWN, 0, &99u32.to_be_bytes())]), (0, 1));
+    assert_eq!((e.a.sending.advertised, e.a.state), (0, SHUTDOWN_RECEIVED));
+    assert_eq!((e.a.sending.path.control.cwnd, e.a.sending.path.clock.rto), (528, 60_000));
+    for tries in 2..=10 {
+        assert_eq!(expire(&mut e, &[sack(99, 65_536)]), (0, tries));
+    }
+    let r = Model.t3(&mut e.a);
+    assert_eq!((r.number, r.over, e.a.state), (0, true, CLOSED));
+}
