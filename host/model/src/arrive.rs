@@ -109,7 +109,7 @@ impl<'a> Arriving<'a> {
             return refused(8);
         }
         self.reply.tag = i.tag;
-        if let Some(name) = read::parameter(c, read::HOST_NAME) {
+        if let Some(name) = read::host_name(c) {
             self.reply.add(&write::caused(read::ABORT, 5, name));
             return accepted();
         }
@@ -129,12 +129,12 @@ impl<'a> Arriving<'a> {
         if self.a.state != COOKIE_WAIT {
             return refused(7);
         }
-        let cookie = read::parameter(c, read::STATE_COOKIE).map_or(&[][..], |p| &p[4..]);
+        let cookie = read::cookie(c).map_or(&[][..], |p| &p[4..]);
         if is_poor(&i) || cookie.is_empty() || cookie.len() > COOKIE_MOST {
             return refused(8);
         }
         self.reply.tag = i.tag;
-        if let Some(name) = read::parameter(c, read::HOST_NAME) {
+        if let Some(name) = read::host_name(c) {
             self.reply.add(&write::caused(read::ABORT, 5, name));
             move_to(self.a, CLOSED);
             return event(DOWN_HOST_NAME);

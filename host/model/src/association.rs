@@ -36,9 +36,15 @@ pub fn are_streams(n: u16) -> bool {
     (1..=STREAMS).contains(&usize::from(n))
 }
 
+/// "128 streams each way at most" holds in every state. A closed record need have no stream, no tag and no port yet.
 fn are_ends(a: &Association) -> bool {
     let e = &a.ends;
-    e.my_tag != 0 && (e.peer_tag != 0 || a.state == COOKIE_WAIT) && are_streams(e.streams_in) && are_streams(e.streams_out)
+    if a.state == CLOSED {
+        return usize::from(e.streams_in) <= STREAMS && usize::from(e.streams_out) <= STREAMS;
+    }
+    let has_ports = e.local_port != 0 && e.peer_port != 0;
+    let has_tags = e.my_tag != 0 && (e.peer_tag != 0 || a.state == COOKIE_WAIT);
+    has_ports && has_tags && are_streams(e.streams_in) && are_streams(e.streams_out)
 }
 
 /// Number 1: "record outside its bounds".
@@ -46,7 +52,7 @@ pub fn is_sound(a: &Association) -> bool {
     a.state <= SHUTDOWN_ACK_SENT
         && a.tries <= most_tries(a.state)
         && usize::from(a.cookie.len) <= COOKIE_MOST
-        && (a.state == CLOSED || are_ends(a))
+        && are_ends(a)
         && (a.state != COOKIE_ECHOED || a.cookie.len > 0)
         && receiving::is_sound(&a.receiving)
         && sending::is_sound(&a.sending)

@@ -63,7 +63,7 @@ pub fn record(r: &mut Random) -> Association {
     let state = if r.one_in(2) { r.pick(&brief) } else { r.below(8) as u8 };
     let most = crate::association::most_tries(state);
     let tries = if r.one_in(2) { most } else { r.within(0, usize::from(most)) as u8 };
-    let ends = Ends {
+    let mut ends = Ends {
         local_port: r.within(1, 9) as u16,
         peer_port: r.within(1, 9) as u16,
         my_tag: r.word() | 1,
@@ -71,6 +71,9 @@ pub fn record(r: &mut Random) -> Association {
         streams_in: streams(r),
         streams_out: streams(r),
     };
+    if state == CLOSED {
+        unsettle(r, &mut ends);
+    }
     let mut cookie = Cookie { bytes: [0; COOKIE_MOST], len: 0 };
     r.fill(&mut cookie.bytes);
     cookie.len = r.pick(&[1, 3, 4, 100, 255, 256]);
@@ -78,6 +81,18 @@ pub fn record(r: &mut Random) -> Association {
         cookie.len = 0;
     }
     Association { state, tries, ends, cookie, receiving: receiving(r), sending: sending(r) }
+}
+
+/// What a closed record need not have.
+fn unsettle(r: &mut Random, ends: &mut Ends) {
+    match r.below(10) {
+        0 | 1 => ends.local_port = 0,
+        2 => ends.peer_port = 0,
+        3 => ends.streams_in = 0,
+        4 => ends.streams_out = 0,
+        5 => ends.my_tag = 0,
+        _ => {}
+    }
 }
 
 // ---- Receiving
@@ -243,7 +258,7 @@ fn window(r: &mut Random, places: &[Place; PLACES], oldest: u32) -> u32 {
     let first = places.iter().find(|p| p.status == WAITING && p.chunk.order == oldest).map_or(0, |p| u32::from(p.chunk.len));
     match r.below(3) {
         0 => (flying + first + r.below(3) as u32).saturating_sub(1),
-        _ => r.pick(&[0, 1, 512, 1024, 65_536, u32::MAX]),
+        _ => r.pick(&[0, 1, 511, 512, 1024, 65_536, u32::MAX]),
     }
 }
 

@@ -57,7 +57,7 @@ fn send_init(a: &Association, out: &mut [u8]) -> usize {
 
 pub fn associate(a: &mut Association, tag: u32, tsn: u32, port: u16, streams: u16, out: &mut [u8]) -> Answer {
     match bar(a, is_short(out), &[CLOSED]) {
-        0 if port == 0 => return refused(4),
+        0 if a.ends.local_port == 0 || port == 0 => return refused(4),
         0 if tag == 0 || streams == 0 => return refused(8),
         0 => {}
         number => return refused(number),
@@ -258,6 +258,7 @@ pub fn error_stream(a: &mut Association, stream: u16, out: &mut [u8]) -> Answer 
 
 pub fn error_stale(a: &mut Association, port: u16, tag: u32, late: u32, out: &mut [u8]) -> Answer {
     match bar(a, is_short(out), &[CLOSED]) {
+        0 if a.ends.local_port == 0 || port == 0 || tag == 0 => refused(4),
         0 => {
             let to = Ends { peer_port: port, peer_tag: tag, ..a.ends };
             told(send(&to, out, write::caused(read::ERROR, 3, &late.to_be_bytes())))

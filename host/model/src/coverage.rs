@@ -3,7 +3,7 @@
 use std::fmt;
 
 use crate::call::{Call, Reply, KINDS};
-use crate::record::Association;
+use crate::cases::{Met, CASES};
 
 /// Chunk types by number; all others together.
 pub const TYPES: usize = 17;
@@ -26,14 +26,17 @@ pub struct Coverage {
     /// Packets that were answered by one; expiries that closed.
     pub replies: usize,
     pub expiries: usize,
+    /// By case.
+    pub cases: [usize; CASES.len()],
 }
 
 impl Coverage {
-    pub fn note(&mut self, before: (u8, u8), call: &Call, reply: &Reply) {
+    pub fn note(&mut self, met: &Met<'_>) {
+        let Met { before, call, reply, .. } = *met;
         let (kind, number) = (call.kind(), usize::from(reply.number()));
         self.calls += 1;
         self.answered[kind][number] += 1;
-        let state = usize::from(before.0);
+        let state = usize::from(before.state);
         if state < 8 && number != 1 {
             self.states[kind][state] += 1;
         }
@@ -54,10 +57,9 @@ impl Coverage {
         if let Reply::Answer(r) = reply {
             self.expiries += usize::from(r.over);
         }
-    }
-
-    pub fn before(a: &Association) -> (u8, u8) {
-        (a.state, a.tries)
+        for (count, case) in self.cases.iter_mut().zip(&CASES) {
+            *count += usize::from(case.1(met));
+        }
     }
 
     /// What a drive of some hundred thousand calls should have met and has not.
@@ -85,7 +87,7 @@ impl Coverage {
             (12, &common),
             (13, &common),
             (14, &common),
-            (15, &common),
+            (15, &[0, 1, 18, 7, 4]),
             (16, &common),
         ];
         for (call, numbers) in numbers {
@@ -112,6 +114,9 @@ impl Coverage {
         }
         want(self.expiries, "an expiry that closes".into());
         want(self.replies, "a packet that is answered".into());
+        for (&met, case) in self.cases.iter().zip(&CASES) {
+            want(met, case.0.into());
+        }
         missing
     }
 
@@ -130,6 +135,7 @@ impl Coverage {
         each(&mut self.fates, &other.fates);
         each(&mut self.events, &other.events);
         each(&mut self.causes, &other.causes);
+        each(&mut self.cases, &other.cases);
         for i in 0..8 {
             each(&mut self.rows[i], &other.rows[i]);
             each(&mut self.accepted[i], &other.accepted[i]);
@@ -151,6 +157,9 @@ impl fmt::Display for Coverage {
         writeln!(f, "by fate {:?}, by event {:?}, by cause {:?}", self.fates, self.events, self.causes)?;
         for (state, (rows, accepted)) in self.rows.iter().zip(&self.accepted).enumerate() {
             writeln!(f, "state {state}: first chunk by type {rows:?}, accepted {accepted:?}")?;
+        }
+        for (count, case) in self.cases.iter().zip(&CASES) {
+            writeln!(f, "{count:>7} {}", case.0)?;
         }
         Ok(())
     }

@@ -121,7 +121,7 @@ fn sack(r: &mut Random, s: &Sending) -> Vec<u8> {
     let point = point(r, s);
     let above = s.next_tsn.wrapping_sub(point).wrapping_sub(1) % 200;
     let mut v = point.to_be_bytes().to_vec();
-    v.extend_from_slice(&r.pick(&[0, 1, 512, 65_536, 65_536, u32::MAX]).to_be_bytes());
+    v.extend_from_slice(&r.pick(&[0, 1, 511, 512, 65_536, 65_536, u32::MAX]).to_be_bytes());
     let mut blocks = Vec::new();
     let mut at = 1;
     while r.one_in(2) || blocks.len() > 3 && !r.one_in(6) {
@@ -170,6 +170,8 @@ fn init(r: &mut Random, kind: u8) -> Vec<u8> {
     let cookie_at = r.below(3);
     // Now and then so many that their reports do not all fit.
     let many = r.one_in(10);
+    // Now and then a Host Name beside what stops, in any order.
+    let stopping = r.one_in(5);
     let count = if many { 300 } else { r.below(6) };
     for n in 0..=count {
         if kind == read::INIT_ACK && n == cookie_at.min(count) && !r.one_in(20) {
@@ -183,6 +185,7 @@ fn init(r: &mut Random, kind: u8) -> Vec<u8> {
         write::pad(&mut v);
         let kind = match r.below(40) {
             _ if many && !r.one_in(200) => 0xC001,
+            _ if stopping => r.pick(&[read::HOST_NAME, read::HOST_NAME, 2, 10, 0x4002, 0xC001]),
             0 => read::HOST_NAME,
             1..=10 => r.pick(&[1, 5, 6, 7, 8, 9, 12, 0x8000]),
             11 | 12 => r.pick(&[2, 0x4002, 0x3FFF, 0x7FFF]),
@@ -253,20 +256,19 @@ fn heartbeat(r: &mut Random, kind: u8) -> Vec<u8> {
 }
 
 fn chunk(r: &mut Random, a: &Association, kind: u8) -> Vec<u8> {
-    let t = r.below(2) as u8;
     match kind {
         read::DATA => data(r, a),
         read::INIT | read::INIT_ACK => init(r, kind),
         read::SACK => sack(r, &a.sending),
         read::HEARTBEAT | read::HEARTBEAT_ACK => heartbeat(r, kind),
-        read::ABORT => write::chunk(kind, t, &write::item(12, &[])),
+        read::ABORT => chunk_of_abort(r),
         read::SHUTDOWN => write::chunk(kind, 0, &point(r, &a.sending).to_be_bytes()),
         read::ERROR => error(r),
         read::COOKIE_ECHO => {
             let length = cookie_length(r);
             write::chunk(kind, 0, &bytes(r, length))
         }
-        read::SHUTDOWN_COMPLETE => write::chunk(kind, t, &[]),
+        read::SHUTDOWN_COMPLETE => write::chunk(kind, r.below(2) as u8, &[]),
         read::COOKIE_ACK | read::SHUTDOWN_ACK => {
             let tail = if r.one_in(20) { 4 } else { 0 };
             write::chunk(kind, 0, &bytes(r, tail))
@@ -312,6 +314,41 @@ fn tag(r: &mut Random, a: &Association, first: &[u8], e: &Echoed) -> u32 {
     }
 }
 
+/// An ABORT goes behind what the packet has so far: plainly, where a walk over ill lengths finds it, or where none does.
+fn add_abort(r: &mut Random, body: &mut Vec<u8>) {
+    write::pad(body);
+    let mut abort = chunk_of_abort(r);
+    let more = match r.below(8) {
+        // Behind a chunk whose length is under 4.
+        0 | 1 => [&[r.pick(&[read::DATA, read::HEARTBEAT, 128, 63]), 0, 0, r.below(4) as u8], &abort[..]].concat(),
+        // Behind one that claims to reach past the packet.
+        2 => [&[r.pick(&[read::DATA, read::HEARTBEAT, 128]), 0, r.pick(&[0x10, 0xFF]), r.word() as u8], &abort[..]].concat(),
+        // As the value of another chunk.
+        3 => write::chunk(r.pick(&[read::HEARTBEAT, 128, 192]), 0, &abort),
+        // Its own length is ill.
+        4 => {
+            abort[2] = r.pick(&[0, 0, 0x10]);
+            abort[3] = r.below(4) as u8;
+            abort
+        }
+        // Behind an unknown chunk that stops.
+        5 => [write::chunk(63, 0, &[]), abort].concat(),
+        _ => abort,
+    };
+    if 12 + body.len() + more.len() <= PACKET_MOST {
+        body.extend_from_slice(&more);
+    }
+    if r.one_in(12) {
+        // The first chunk's length is under 4: the walk goes on within it.
+        body[2] = 0;
+        body[3] = r.below(4) as u8;
+    }
+}
+
+fn chunk_of_abort(r: &mut Random) -> Vec<u8> {
+    write::chunk(read::ABORT, r.below(2) as u8, &write::item(12, &[]))
+}
+
 /// A packet to an end with this record.
 pub fn packet(r: &mut Random, a: &Association) -> Crafted {
     let echoed = echoed(r);
@@ -339,6 +376,9 @@ pub fn packet(r: &mut Random, a: &Association) -> Crafted {
         if 12 + body.len() + padded(next.len()) <= PACKET_MOST {
             body.extend_from_slice(&next);
         }
+    }
+    if a.state == CLOSED && r.one_in(5) {
+        add_abort(r, &mut body);
     }
     write::pad(&mut body);
     if r.one_in(20) {

@@ -7,6 +7,7 @@ use crate::association;
 use crate::bend;
 use crate::born;
 use crate::call::{Bytes, Call, Maker, Reply, GUARD};
+use crate::cases::Met;
 use crate::coverage::Coverage;
 use crate::craft::{self, Crafted};
 use crate::random::Random;
@@ -97,11 +98,11 @@ impl<'m> Episode<'m> {
     }
 
     fn make(&mut self, who: usize, call: &Call) -> Result<Reply, Difference> {
-        let before = Coverage::before(self.ends[who].record());
+        let before = *self.ends[who].record();
         match self.ends[who].call(call) {
-            Err(what) => Err(self.difference(format!("state {} tries {}: {call:?}", before.0, before.1), what)),
+            Err(what) => Err(self.difference(format!("state {} tries {}: {call:?}", before.state, before.tries), what)),
             Ok(reply) => {
-                self.seen.note(before, call, &reply);
+                self.seen.note(&Met { before: &before, call, reply: &reply, after: self.ends[who].record() });
                 if matches!(call, Call::Associate { .. }) && reply.length() > 0 && !self.r.one_in(4) {
                     self.pool.clear();
                 }
@@ -311,7 +312,7 @@ impl<'m> Episode<'m> {
         let streams = self.ends[who].record().ends.streams_out;
         let r = &mut self.r;
         match kind {
-            0 => Call::Closed { port: who as u16 + 1 },
+            0 => Call::Closed { port: if self.mood == Mood::Hostile && r.one_in(3) { 0 } else { who as u16 + 1 } },
             3 => Call::Associate {
                 tag: if r.one_in(30) { 0 } else { r.word() | 1 },
                 tsn: born::tsn(r),
@@ -333,7 +334,7 @@ impl<'m> Episode<'m> {
             12 => Call::Shutdown { out },
             13 => Call::Abort { cause: r.pick(&[0, 9, 12, 13, 255]), tsn: r.word(), out },
             14 => Call::ErrorStream { stream: r.word() as u16, out },
-            15 => Call::ErrorStale { port: r.below(4) as u16, tag: r.word(), late: r.word(), out },
+            15 => Call::ErrorStale { port: r.below(4) as u16, tag: if r.one_in(6) { 0 } else { r.word() }, late: r.word(), out },
             _ => Call::Heartbeat { value: r.long().to_be_bytes(), out },
         }
     }

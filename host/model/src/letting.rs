@@ -15,7 +15,7 @@ pub fn heeded(mut e: Echoed) -> Echoed {
 }
 
 /// "4 port or tag"; "The first chunk settles which tag rule holds."
-fn is_let_in(a: &Association, packet: &[u8], e: &Echoed) -> bool {
+pub fn is_addressed(a: &Association, packet: &[u8], e: &Echoed) -> bool {
     let h = read::header(packet);
     let (kind, t) = (packet[12], packet[13] & 1 == 1);
     // Section 3.1 forbids port 0: a record keeps the port that it was given, and every packet to port 0 is 4.
@@ -36,6 +36,11 @@ fn is_let_in(a: &Association, packet: &[u8], e: &Echoed) -> bool {
             read::ABORT | read::SHUTDOWN_COMPLETE if t => a.state != COOKIE_WAIT && h.tag == a.ends.peer_tag,
             _ => h.tag == a.ends.my_tag,
         }
+}
+
+/// What comes out of the blue and contains an ABORT is discarded "and take no further action" (section 8.4, rule 2), whatever else it contains.
+fn is_let_in(a: &Association, packet: &[u8], e: &Echoed) -> bool {
+    is_addressed(a, packet, e) && !(a.state == CLOSED && read::has_abort(packet))
 }
 
 /// Order: 1, 18, 2, 3, 4, 5, 6.

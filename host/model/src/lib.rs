@@ -13,6 +13,7 @@
 //! - A SACK empties `dups` to 0; its values have `dups` as it stood, entries behind `listed` too.
 //! - In COOKIE-WAIT `streams_in` is 128 and the peer's tag 0. An INIT always offers 128 streams in and a window of 65,536.
 //! - An INIT ACK's cookie is kept with 0 behind it; a COOKIE ACK leaves it.
+//! - In CLOSED neither tag, port nor stream is asked for; more than 128 streams are outside the bounds there too.
 //! - `tries` of the association is 0 in a state that does not wait, else the record is outside its bounds.
 //! - Values of a refused call are 0, but for the length that a take needs.
 
@@ -22,6 +23,7 @@ mod bend;
 mod born;
 pub mod call;
 mod calls;
+mod cases;
 pub mod channel;
 pub mod checksum;
 mod core;

@@ -78,6 +78,23 @@ pub fn walk(packet: &[u8]) -> impl Iterator<Item = Seen<'_>> {
     })
 }
 
+/// Type and length of each chunk of a packet whose lengths may be ill: one under 4 counts as 4, one past the packet is the last.
+pub fn heads(packet: &[u8]) -> impl Iterator<Item = (u8, usize)> + '_ {
+    let mut at = 12;
+    std::iter::from_fn(move || {
+        if at >= packet.len() {
+            return None;
+        }
+        let head = (packet[at], usize::from(be16(packet, at + 2)));
+        at += padded(head.1.max(4));
+        Some(head)
+    })
+}
+
+pub fn has_abort(packet: &[u8]) -> bool {
+    heads(packet).any(|h| h.0 == ABORT)
+}
+
 pub fn is_known(kind: u8) -> bool {
     kind <= COOKIE_ACK || kind == SHUTDOWN_COMPLETE
 }
@@ -221,23 +238,33 @@ pub fn parameters(c: Seen<'_>) -> impl Iterator<Item = (u16, &[u8])> {
     })
 }
 
-/// The first parameter of a type, wherever it stands.
-pub fn parameter(c: Seen<'_>, kind: u16) -> Option<&[u8]> {
-    parameters(c).find(|p| p.0 == kind).map(|p| p.1)
+fn is_known_parameter(kind: u16) -> bool {
+    matches!(kind, 1 | 5 | 6 | 7 | 8 | 9 | 11 | 12 | 0x8000)
 }
 
-/// The unknown parameters that are to be reported; one that stops ends the reports.
+/// "00", "01": "do not process any further parameters in this chunk" (section 3.2.1). Known ones never stop.
+pub fn is_stop(kind: u16) -> bool {
+    !is_known_parameter(kind) && stops((kind >> 14) as u8)
+}
+
+/// The cookie, wherever it stands: whatever stops, a COOKIE ECHO is sent (section 3.2.1).
+pub fn cookie(c: Seen<'_>) -> Option<&[u8]> {
+    parameters(c).find(|p| p.0 == STATE_COOKIE).map(|p| p.1)
+}
+
+/// The first Host Name, found ahead of the first unknown parameter that stops.
+pub fn host_name(c: Seen<'_>) -> Option<&[u8]> {
+    parameters(c).take_while(|p| !is_stop(p.0)).find(|p| p.0 == HOST_NAME).map(|p| p.1)
+}
+
+/// The unknown parameters that are to be reported; one that stops is the last.
 pub fn reported_parameters(c: Seen<'_>) -> Vec<&[u8]> {
     let mut found = Vec::new();
     for (kind, bytes) in parameters(c) {
-        if matches!(kind, 1 | 5 | 6 | 7 | 8 | 9 | 11 | 12 | 0x8000) {
-            continue;
-        }
-        let high = (kind >> 14) as u8;
-        if reports(high) {
+        if !is_known_parameter(kind) && reports((kind >> 14) as u8) {
             found.push(bytes);
         }
-        if stops(high) {
+        if is_stop(kind) {
             break;
         }
     }

@@ -255,7 +255,9 @@ pub fn acknowledge(s: &mut Sending, point: u32, told: Option<(u32, &[(u16, u16)]
     if !has_outstanding(s) {
         s.path.control.partial = 0;
     }
-    if news.newly > 0 {
+    // A peer that tells of its closed window is alive: a probe that it leaves unacknowledged counts for nothing (section 6.1 A).
+    let is_closed = told.map_or(false, |t| (t.0 as usize) < PAYLOAD);
+    if news.newly > 0 || is_closed {
         s.path.tries = 0;
     }
     path::end_recovery(&mut s.path, point);

@@ -2,12 +2,13 @@
 
 use model::call::{Buffers, Call, Maker, Reply};
 use model::record::*;
-use model::{drive, is_sound, Model};
+use model::{drive, is_sound, read, Model};
 
 const CALLS: usize = 300_000;
 const SEED: u64 = 9260;
 
 /// The model, and what 01 says of every call: "1 … leaves all", a refused call leaves record and areas, no byte but the answer's is written, bounds are kept.
+/// No packet has port 0, and none but an INIT tag 0.
 struct Watched;
 
 impl Maker for Watched {
@@ -29,6 +30,10 @@ impl Maker for Watched {
         };
         assert_eq!(out[written..], b.out[written..], "{call:?}");
         assert!(number == 0 || written == 0);
+        if reply.length() > 0 {
+            let h = read::header(&b.out);
+            assert!(h.source != 0 && h.destination != 0 && (h.tag != 0 || b.out[12] == read::INIT), "port 0 or tag 0 goes out: {call:?}");
+        }
         reply
     }
 }
