@@ -18,3 +18,4 @@ pub mod SoundLaws
 pub mod LeftLaws
 pub mod PortLaws
 pub mod SizeLaws
+pub mod StreamLaws

@@ -4,8 +4,10 @@ use Prim.Native.Nat.{ℕ, _<_, _≤_}
 use mathlib.Core.Path.{_≡_, refl, ap, subst, _∙_}
 use mathlib.Core.Bool.{Bool, true, false}
 use mathlib.Core.List.{List}
+use native.Mathlib.Omega.{arith}
 use borrow.Author.Tests.{ltb-true, ltb-false}
 use lib.Dec.{ltb}
+use lib.ListN.{length}
 use Rattle.scans.specs.Scan.{pick}
 use Rattle.states.specs.declared.call.Call.the-variants.{Acknowledge}
 use Rattle.association.specs.declared.ends.Association.{Association}
@@ -14,9 +16,10 @@ use Rattle.calls.specs.declared.answer.Answer.{Answer}
 use Rattle.calls.specs.Answer.{isShortOut, barred, refusing, answerOf}
 use Rattle.calls.specs.Telling.{tellingStream}
 use Rattle.calls.specs.PortLaws.{associate-ported, stale-ported}
+use Rattle.calls.specs.StreamLaws.{handed-agreed}
 use Rattle.events.specs.declared.event.Event.{Event}
-use Rattle.events.specs.Event.{at, tsnAt, streamsAt, portAt, eventOf}
-use Rattle.events.specs.EventLaws.{port-wide, associate-coded, stray-coded, stale-coded}
+use Rattle.events.specs.Event.{at, tsnAt, streamsAt, streamAt, portAt, handInOf, eventOf}
+use Rattle.events.specs.EventLaws.{port-wide, streams-fit, streams-wide, associate-coded, hand-in-coded, stray-coded, stale-coded}
 use Rattle.entry.specs.Happening.{Buffers, strayNumber, tellingAny, happened}
 use Rattle.entry.specs.HappeningLaws.{refused-done, stray-refused}
 
@@ -34,6 +37,23 @@ module _ (a : Association) (vs : List ℕ) (b : Buffers) where
   unfolding happened
   associate-fits z =
       below (at vs 2) (λ h. h) (λ h. absurd (associate-ported a (at vs 0) (tsnAt vs 1) (portAt vs 2) (streamsAt vs 3) (b .out) (subst (λ (e : Event). happened a e b .ran .told .number ≡ 0) (associate-coded vs) z) .to (port-wide vs 2 h)))
+
+  -- the stream of a message, ordered or not: below 128 as it was given
+  hand-in-below : (unordered : Bool) → happened a (handInOf vs unordered) b .ran .told .number ≡ 0 → at vs 0 < 128
+  unfolding happened
+  hand-in-below unordered z = go (ltb (at vs 0) 65535) refl
+    where
+      agreed : streamsAt vs 0 < 128
+      agreed = handed-agreed a (b .sent) (length (b .input)) (streamAt vs 0) unordered (at vs 1) z
+
+      go : (t : Bool) → ltb (at vs 0) 65535 ≡ t → at vs 0 < 128
+      go true e = omega (arith, agreed, streams-fit vs 0 (ltb-true (at vs 0) 65535 e))
+      go false e = absurd (omega (arith, agreed, streams-wide vs 0 (ltb-false (at vs 0) 65535 e)))
+
+  pub hand-in-fits : (happened a (eventOf 4 vs) b .ran .told .number ≡ 0 → at vs 0 < 128) × (happened a (eventOf 5 vs) b .ran .told .number ≡ 0 → at vs 0 < 128)
+  hand-in-fits = (
+    λ z. hand-in-below false (subst (λ (e : Event). happened a e b .ran .told .number ≡ 0) (hand-in-coded vs .0) z),
+    λ z. hand-in-below true (subst (λ (e : Event). happened a e b .ran .told .number ≡ 0) (hand-in-coded vs .1) z))
 
   -- the port of the cookie's peer
   pub stale-fits : happened a (eventOf 17 vs) b .ran .told .number ≡ 0 → at vs 0 < 65536
