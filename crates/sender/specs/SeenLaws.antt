@@ -1,13 +1,12 @@
 -- What bears on the head alone, against the definitions of the sending side. Assumes nothing.
 use Prim.Native.Nat.{ℕ}
-use mathlib.Core.Path.{_≡_, sym, ap, _∙_}
+use mathlib.Core.Path.{_≡_}
 use mathlib.Core.List.{List}
 use lib.ListN.{replicate}
 use Rattle.numbers.specs.declared.circle.Tsn.{Tsn}
 use Rattle.numbers.specs.Profile.{Profile}
 use Rattle.path.specs.Sizes.{Sizes}
 use Rattle.tables.specs.Zeros.{places-zeros, ssns-zeros}
-use Rattle.sending.specs.declared.sending.Sending.{Sending}
 use Rattle.sending.specs.Sending.{fresh, sampled, doubled, heard}
 use Rattle.sending.specs.TableLaws.{fresh-is, sampled-is, doubled-is, heard-is}
 use Rattle.sender.specs.declared.Sender.{Sender}
@@ -15,18 +14,7 @@ use Rattle.sender.specs.Seen.{seen, headOf}
 
 -- tables of zeros show a sending side that begins
 pub fresh-seen : (z : Sizes) (P : Profile) (t : Tsn) (window m n : ℕ) → seen P (headOf (fresh z P t window)) (replicate m 0) (replicate n 0) ≡ fresh z P t window
-fresh-seen z P t window m n =
-    (λ p. seen P (headOf (fresh-is z P t window p)) (replicate m 0) (replicate n 0))
-    ∙ (λ p. record {
-      acked = fresh-is z P t window (~ p) .acked;
-      «next_tsn» = t;
-      advertised = window;
-      oldest = 0;
-      places = places-zeros P m p;
-      next = ssns-zeros P n p;
-      path = fresh-is z P t window (~ p) .path;
-    })
-    ∙ sym (fresh-is z P t window)
+fresh-seen z P t window m n = rw (fresh-is z P t window, places-zeros P m, ssns-zeros P n)
 
 -- the tables stay
 module _ (P : Profile) (h : Sender) (ws ns : List ℕ) where
