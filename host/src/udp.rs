@@ -30,8 +30,8 @@ impl<L: Library> Line<L> {
         self.socket.local_addr()
     }
 
-    /// Why the last packet that could not be sent was not, or did not arrive, if none has come since. It counts as lost, so that no peer can stop this end by
-    /// an address that nothing can be sent to.
+    /// Why the last packet could not be sent, or did not arrive, if none has come since. It counts as lost, so that no peer can stop this end by an address
+    /// that nothing can be sent to.
     pub fn trouble(&self) -> Option<&io::Error> {
         self.trouble.as_ref()
     }
@@ -62,9 +62,7 @@ impl<L: Library> Line<L> {
             if let Some(tap) = &self.tap {
                 tap.sent(datagram.to, &datagram.packet);
             }
-            if let Err(e) = self.socket.send_to(&datagram.packet, datagram.to) {
-                self.trouble = Some(e);
-            }
+            self.trouble = self.socket.send_to(&datagram.packet, datagram.to).err();
         }
     }
 
