@@ -111,6 +111,15 @@ mod tests {
     use super::*;
 
     #[test]
+    fn a_network_that_is_down_or_a_closed_port_does_not_end_a_line() {
+        let is_told = |number: i32| is_trouble(&io::Error::from_raw_os_error(number));
+        // A network that is down or unreachable, a port that is closed, a host that is down or unreachable.
+        assert!([100, 101, 111, 112, 113].into_iter().all(is_told));
+        // No such socket.
+        assert!(!is_told(9));
+    }
+
+    #[test]
     fn a_wait_is_whole_grains_and_never_for_ever() {
         assert_eq!(rounded_up(Duration::ZERO), GRAIN);
         assert_eq!(rounded_up(Duration::from_micros(1500)), GRAIN * 2);
