@@ -3,8 +3,9 @@ use Prim.Native.Nat.{ℕ}
 use mathlib.Core.Path.{_≡_, sym, ap, _∙_}
 use mathlib.Core.List.{List}
 use borrow.Author.Tests.{ne-eqb}
-use lib.ListN.{replicate}
-use Rattle.scans.specs.Upto.{smaller}
+use lib.Dec.{eqb}
+use lib.ListN.{length, replicate, length-replicate}
+use Rattle.scans.specs.Upto.{smaller, pick-keeps}
 use Rattle.numbers.specs.declared.circle.Tsn.{Tsn}
 use Rattle.states.specs.declared.state.State.the-variants.{CookieWait}
 use Rattle.states.specs.declared.call.Call.the-variants.{Associate}
@@ -22,7 +23,23 @@ use Rattle.flat.specs.ShownLaws.{started-shows}
 use Rattle.asks.specs.declared.answer.Answered.{Answered}
 use Rattle.asks.specs.Answer.{answerIn, refusedWith, toldWith}
 use Rattle.asks.specs.AnswerLaws.{refused-in, told-in}
-use Rattle.asks.specs.Opening.{Tables, tablesAfter}
+use Rattle.asks.specs.Opening.{Tables, zeros, tablesAfter}
+
+-- tables as long as a record's
+pub record Whole (t : Tables) : Type 0 where
+  pub held : length (t .held) ≡ 512
+  pub next : length (t .next) ≡ 128
+  pub places : length (t .places) ≡ 1024
+  pub nextOut : length (t .nextOut) ≡ 128
+  pub kept : length (t .kept) ≡ 256
+
+-- stay so
+pub tables-whole : (n : ℕ) (t : Tables) → Whole t → Whole (tablesAfter n t)
+unfolding tablesAfter
+tables-whole n t w =
+    pick-keeps Whole (eqb n 0) zeros t
+    (record { held = length-replicate {A = ℕ} 512 0; next = length-replicate {A = ℕ} 128 0; places = length-replicate {A = ℕ} 1024 0; nextOut = length-replicate {A = ℕ} 128 0; kept = length-replicate {A = ℕ} 256 0 })
+    w
 
 -- two outcomes are one
 pub tables-one : (t : Tables) {m n : ℕ} {u v : Tables} → m ≡ n → u ≡ tablesAfter m t → v ≡ tablesAfter n t → u ≡ v
