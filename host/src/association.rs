@@ -47,6 +47,14 @@ impl<L: Library> Association<L> {
         &self.record
     }
 
+    pub fn is_closed(&self) -> bool {
+        state_of(self.record.state) == State::Closed
+    }
+
+    pub fn peer_port(&self) -> u16 {
+        self.record.ends.peer_port
+    }
+
     pub fn standing(&self) -> Standing {
         let receiving = &self.record.receiving;
         let sending = &self.record.sending;
