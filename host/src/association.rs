@@ -51,6 +51,10 @@ impl<L: Library> Association<L> {
         state_of(self.record.state) == State::Closed
     }
 
+    pub fn peer_tag(&self) -> u32 {
+        self.record.ends.peer_tag
+    }
+
     pub fn peer_port(&self) -> u16 {
         self.record.ends.peer_port
     }

@@ -142,8 +142,7 @@ impl<L: Library> Endpoint<L> {
     /// A packet came while there is no association.
     fn meet(&mut self, incoming: Incoming) {
         let has_room = self.has_room();
-        let my_tag = self.tools.random.tag();
-        match self.front.meet(incoming, my_tag, has_room, &mut self.session.outbox, &mut self.tools) {
+        match self.front.meet(incoming, |_| false, has_room, &mut self.session.outbox, &mut self.tools) {
             Met::Done => {}
             Met::OutOfTheBlue => {
                 // An ABORT would make a failure of an end that was clean.

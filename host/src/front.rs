@@ -44,14 +44,17 @@ impl<L: Library> Front<L> {
         self.door.listen(listens);
     }
 
-    /// A packet came. An INIT is answered with this tag, and promised only what its cookie will get.
-    pub fn meet(&mut self, incoming: Incoming, my_tag: u32, has_room: bool, outbox: &mut Outbox, tools: &mut Tools) -> Met {
+    /// A packet came. An INIT is answered with a tag that is free, and promised only what its cookie will get.
+    pub fn meet(&mut self, incoming: Incoming, is_taken: impl Fn(u32) -> bool, has_room: bool, outbox: &mut Outbox, tools: &mut Tools) -> Met {
         let Incoming { packet, from, at: now } = incoming;
         let prepared = match peek::<L>(packet) {
             Peeked::Nothing | Peeked::Refused(_) => return self.refuse(packet, outbox, tools),
             _ if !self.door.admits(from.ip()) => return turned_away(outbox),
             Peeked::Init(_) if !has_room => return turned_away(outbox),
-            Peeked::Init(init) => self.door.invite(&init, from, my_tag, tools.first_tsn(), now),
+            Peeked::Init(init) => {
+                let (tag, tsn) = (tools.fresh_tag(is_taken), tools.first_tsn());
+                self.door.invite(&init, from, tag, tsn, now)
+            }
             Peeked::Echo { at, len } => match self.door.judge(packet, at, len, from, now) {
                 prepared if !prepared.opens() => prepared,
                 prepared if has_room => return Met::Opens(prepared),

@@ -14,6 +14,9 @@ pub const COOKIE_ECHO: u8 = 10;
 pub const COOKIE_ACK: u8 = 11;
 pub const SHUTDOWN_COMPLETE: u8 = 14;
 
+/// Of an ABORT's or a SHUTDOWN COMPLETE's flags: the tag is the one of the packet that it answers.
+pub const T: u8 = 1;
+
 /// A packet on its way out.
 #[derive(Clone, Debug, PartialEq, Eq)]
 pub struct Datagram {
@@ -50,6 +53,11 @@ pub fn tag(packet: &[u8]) -> Option<u32> {
 /// The type of the first chunk.
 pub fn first_chunk(packet: &[u8]) -> Option<u8> {
     packet.get(HEADER).copied()
+}
+
+/// The flags of the first chunk; none where there is no chunk.
+pub fn flags_of_first(packet: &[u8]) -> u8 {
+    packet.get(HEADER + 1).copied().unwrap_or(0)
 }
 
 /// The chunk that begins at this byte of a packet, without its padding.

@@ -8,7 +8,7 @@ use crate::config::Config;
 use crate::door::Prepared;
 use crate::event::{Event, Why};
 use crate::heartbeat::Heartbeat;
-use crate::last_word::LastWord;
+use crate::last_word::{Farewell, LastWord};
 use crate::library::Library;
 use crate::outbox::Outbox;
 use crate::packet::{chunk_at, first_chunk, source_port, tag, Incoming, DATA, HEARTBEAT_ACK, INIT};
@@ -39,6 +39,16 @@ pub struct Tools {
 impl Tools {
     pub fn new(config: &Config, random: Random) -> Tools {
         Tools { random, first_tsn: config.first_tsn, out: vec![0; OUTPUT].into_boxed_slice() }
+    }
+
+    /// A tag that is not one of these.
+    pub fn fresh_tag(&mut self, is_taken: impl Fn(u32) -> bool) -> u32 {
+        loop {
+            let tag = self.random.tag();
+            if !is_taken(tag) {
+                return tag;
+            }
+        }
     }
 
     pub fn first_tsn(&mut self) -> u32 {
@@ -229,15 +239,31 @@ impl<L: Library> Session<L> {
         answer
     }
 
+    /// Ends it without a word to the peer.
+    pub fn give_up(&mut self, why: Why, tools: &mut Tools) {
+        // The core is told, so that it takes and sends nothing more; its ABORT stays here. Refused only where it is over already.
+        let answer = self.core.abort(Cause::User, &mut tools.out);
+        if self.counted(answer).is_ok() {
+            self.events.push_back(Event::Down(why));
+        }
+    }
+
     /// Whether a packet came late to an association that was shut down; it then gets the last word again, if it asks for it.
     pub fn answer_late(&mut self, incoming: Incoming) -> bool {
-        if !self.is_of_peer(incoming) || !self.last_word.is_late(incoming.packet) {
-            return false;
-        }
-        let again = self.last_word.to_late(incoming.packet).map(<[u8]>::to_vec);
+        let farewell = match self.last_word.farewell().filter(|farewell| farewell.is_late(incoming)) {
+            Some(farewell) => farewell,
+            None => return false,
+        };
+        let again = farewell.to_late(incoming).map(<[u8]>::to_vec);
         self.path.showed(incoming.from, incoming.at);
         self.repeat(again);
         true
+    }
+
+    /// It is over: what is left to say to late packets, where nothing else of it may be kept. What came can still be taken.
+    pub fn farewell(&mut self) -> Option<Farewell> {
+        self.may_take = self.core.has_message();
+        std::mem::take(&mut self.last_word).into_farewell()
     }
 
     /// Sends what is due: a SACK, then DATA as far as the core lets it.
@@ -364,9 +390,7 @@ impl<L: Library> Session<L> {
             Turn::None => return,
             Turn::Up => return self.events.push_back(Event::Up),
             Turn::ShutDown => {
-                if !reply.is_empty() {
-                    self.last_word.closed(before.my_tag, reply);
-                }
+                self.note_last_word(before.my_tag, reply);
                 Why::ShutDown
             }
             Turn::Aborted => Why::PeerAborted,
@@ -374,6 +398,13 @@ impl<L: Library> Session<L> {
             Turn::HostName => Why::HostName,
         };
         self.events.push_back(Event::Down(why));
+    }
+
+    /// The end of a shutdown: where it was this end's to say, the peer may not get it.
+    fn note_last_word(&mut self, my_tag: u32, reply: &[u8]) {
+        if let Some(peer) = self.path.peer().filter(|_| !reply.is_empty()) {
+            self.last_word.closed(Farewell { peer: peer.ip(), peer_port: self.core.peer_port(), my_tag, reply: reply.to_vec() });
+        }
     }
 
     /// What the packet's DATA asks of the next SACK, of the taker and of T2. An opposite chunk is neither new nor a duplicate, and asks for nothing.
