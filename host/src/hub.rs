@@ -4,7 +4,7 @@
 
 mod farewells;
 
-use crate::calls::{Answer, Cause, Refusal, Standing, Taken, MESSAGE_MOST};
+use crate::calls::{Answer, Cause, Refusal, Shelf, Standing, Taken, MESSAGE_MOST};
 use crate::config::Config;
 use crate::counts::Counts;
 use crate::event::{self, Why};
@@ -154,6 +154,11 @@ impl<L: Library> Hub<L> {
 
     pub fn counts(&self, head: HeadId) -> Option<&Counts> {
         self.heads.get(&head).map(|head| &head.session.outbox.counts)
+    }
+
+    /// What came of this association and was not taken.
+    pub fn shelf(&self, head: HeadId) -> Option<Shelf> {
+        self.heads.get(&head).map(|head| head.session.core().shelf())
     }
 
     /// How long nothing was heard of the peer.

@@ -7,6 +7,7 @@ mod modelled;
 use modelled::Modelled;
 use oilwhisper::rail::arguments::{parse, Command as Rail};
 use oilwhisper::rail::stop::Stop;
+use oilwhisper::rail::view::Screen;
 use oilwhisper::rail::{demo, lone};
 use oilwhisper::random::Seeded;
 use std::collections::HashMap;
@@ -34,7 +35,7 @@ fn rail() {
     let (stop, out) = (Stop::on_signals(), &mut io::stdout());
     let ended = match parse(&words) {
         Ok(Rail::Head(asked)) => lone::head::<Modelled>(&asked, &stop, out),
-        Ok(Rail::Field(asked)) => lone::field::<Modelled>(&asked, &stop, out),
+        Ok(Rail::Field(asked)) => lone::field::<Modelled>(&asked, &stop, &mut Screen::new(out, false)),
         Ok(Rail::Demo(asked)) => demo::run::<Modelled>(&asked, &stop, out),
         other => panic!("{:?}", other),
     };

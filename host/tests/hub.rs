@@ -6,7 +6,7 @@ mod rail_world;
 mod pair;
 
 use modelled::Modelled;
-use oilwhisper::calls::{Cause, Refusal};
+use oilwhisper::calls::{Cause, Refusal, Shelf};
 use oilwhisper::config::Config;
 use oilwhisper::event::Why;
 use oilwhisper::hub::{Event, HeadId, Hub, Settings};
@@ -256,6 +256,27 @@ fn room_and_messages_are_told<L: Library>() {
     assert_eq!(world.field.hand_in(field_id, &[], 0, false, 0), Err(Refusal(19)));
 }
 
+fn a_gap_is_seen_from_outside<L: Library>() {
+    let mut world = World::<L>::up(1, slow(5), 18);
+    let (id, now) = (world.outposts[0].id, world.now);
+    let field_id = world.id_of(address(0)).expect("it is up");
+    world.outposts[0].hub.hand_in(id, &[1; 500], 0, false, 0).expect("there is room");
+    world.outposts[0].hub.flush(now);
+    while world.outposts[0].hub.outgoing().is_some() {}
+    for stream in [0, 1, 0] {
+        world.outposts[0].hub.hand_in(id, &[2; 500], stream, false, 0).expect("there is room");
+    }
+    // Three SACKs later it is sent again, before T3.
+    world.run_for(Duration::from_millis(8));
+    let shelf = world.field.shelf(field_id).expect("it is up");
+    assert_eq!((shelf.missing, shelf.held), (Some(FIRST_TSN), vec![(0, 1), (0, 2)]));
+    // The other stream's does not wait.
+    assert_eq!(world.taken_from(0), 1);
+    world.run_for(MINUTE);
+    assert_eq!(world.field.shelf(field_id), Some(Shelf::default()));
+    assert_eq!(world.taken_from(0), 4);
+}
+
 fn a_head_that_moves_is_followed<L: Library>() {
     let mut world = World::<L>::up(2, slow(5), 14);
     let (from, to) = (address(0), address(7));
@@ -380,6 +401,7 @@ on_both! {
     a_line_that_is_pulled_tells_what_was_not_delivered
     a_field_computer_that_began_anew_tells_its_heads
     room_and_messages_are_told
+    a_gap_is_seen_from_outside
     a_head_that_moves_is_followed
     a_farewell_that_is_lost_is_said_again
     every_tile_comes_beside_a_hostile_sender

@@ -7,10 +7,12 @@ use oilwhisper::endpoint::{Config, Endpoint};
 use oilwhisper::rail::arguments::{parse, Command};
 use oilwhisper::rail::report::Ended;
 use oilwhisper::rail::stop::Stop;
+use oilwhisper::rail::view::Screen;
 use oilwhisper::rail::{demo, lone, Failure};
 use oilwhisper::random::Random;
 use oilwhisper::udp::Line;
-use std::net::UdpSocket;
+use std::io::{Read, Write};
+use std::net::{TcpListener, TcpStream, UdpSocket};
 use std::path::PathBuf;
 use std::time::{Duration, Instant};
 use std::{env, fs, io, thread};
@@ -23,7 +25,7 @@ fn run_until(line: &str, stop: &Stop) -> Result<(Ended, String), Failure> {
         Command::Help | Command::Version => panic!("'{}' asks for a text", line),
         Command::Demo(asked) => demo::run::<Modelled>(&asked, stop, &mut out),
         Command::Head(asked) => lone::head::<Modelled>(&asked, stop, &mut out),
-        Command::Field(asked) => lone::field::<Modelled>(&asked, stop, &mut out),
+        Command::Field(asked) => lone::field::<Modelled>(&asked, stop, &mut Screen::new(&mut out, false)),
     };
     ended.map(|ended| (ended, String::from_utf8_lossy(&out).into_owned()))
 }
@@ -112,6 +114,45 @@ fn a_field_computer_at_all_addresses_serves_one_head_after_another() {
     assert_eq!(field.verdict, "all 168 tiles of 2 heads came once, in order, byte for byte");
     assert!(said.contains("112 tiles from north at 127.0.0.1:"), "{}", said);
     assert!(said.contains(&format!("56 tiles from south at {}:", other)), "{}", said);
+}
+
+/// What a browser gets.
+fn page_at(port: u16) -> String {
+    let mut stream = TcpStream::connect(("127.0.0.1", port)).expect("the view is served");
+    stream.write_all(b"GET / HTTP/1.1\r\nHost: localhost\r\n\r\n").expect("it can be asked");
+    let mut page = String::new();
+    stream.read_to_string(&mut page).expect("it answers");
+    page
+}
+
+#[test]
+fn a_page_shows_every_head_and_its_tiles() {
+    let port = free_port();
+    let view = TcpListener::bind("127.0.0.1:0").and_then(|listener| listener.local_addr()).expect("there is a free port").port();
+    let stops: Vec<Stop> = (0..3).map(|_| Stop::default()).collect();
+    let lines = [
+        format!("field 127.0.0.1:{} --view {}", port, view),
+        format!("head 127.0.0.1:{} --name north --messages 60000000", port),
+        format!("head 127.0.0.1:{} --name south --messages 100", port),
+    ];
+    let mut runs = Vec::new();
+    for (line, stop) in lines.into_iter().zip(stops.clone()) {
+        runs.push(thread::spawn(move || run_until(&line, &stop).unwrap_or_else(|failure| panic!("{}", failure))));
+        thread::sleep(Duration::from_millis(300));
+    }
+    thread::sleep(Duration::from_millis(2000));
+    let page = page_at(view);
+    assert!(page.contains("<h2>north at 127.0.0.1:") && page.contains(": up, heard 0."), "{}", page);
+    assert!(page.contains("<h2>south at 127.0.0.1:") && page.contains(": gone, "), "{}", page);
+    assert!(page.contains("<tr><th>band 0: 100</th><td class=t title=\"tile 60: taken\">"), "{}", page);
+    stops.iter().rev().for_each(|stop| {
+        stop.ask();
+        thread::sleep(Duration::from_millis(300));
+    });
+    for run in runs {
+        let (ended, _) = run.join().expect("it ends");
+        assert!(ended.faults.is_empty(), "{:?}", ended);
+    }
 }
 
 /// A field computer and a head that have begun, each with what stops it.
@@ -208,6 +249,7 @@ fn a_head_from_a_network_that_is_not_admitted_gets_no_answer() {
     let mut runs = Vec::new();
     for (line, stop) in lines.into_iter().zip(stops.clone()) {
         runs.push(thread::spawn(move || run_until(&line, &stop).unwrap_or_else(|failure| panic!("{}", failure))));
+        thread::sleep(Duration::from_millis(500));
     }
     thread::sleep(Duration::from_millis(2500));
     stops.iter().for_each(Stop::ask);

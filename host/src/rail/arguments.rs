@@ -70,6 +70,8 @@ pub struct Field {
     pub port: u16,
     /// The folder that tiles are kept in; without one they are compared.
     pub to: Option<PathBuf>,
+    /// Where a page shows the heads.
+    pub view: Option<SocketAddr>,
     /// How many heads it serves at once.
     pub heads: usize,
     /// After so many associations it ends.
@@ -151,6 +153,7 @@ fn field(mut options: Options) -> Result<Field, Failure> {
         address: listening_address(&at)?,
         port: options.port("--port", FIELD_PORT)?,
         to: options.path("--to"),
+        view: options.loopback("--view")?,
         heads: options.number("--heads", HEADS, 1, HEADS_MOST)? as usize,
         count: options.optional("--count", 1, u64::MAX)?,
         admits: options.networks("--admit")?,
@@ -254,6 +257,21 @@ impl Options {
         let heartbeat = Duration::from_secs(self.number("--heartbeat", usual.heartbeat.as_secs(), 1, 3600)?);
         let unanswered = self.number("--unanswered", u64::from(usual.unanswered), 0, 100)? as u32;
         Ok(Beats { heartbeat, unanswered })
+    }
+
+    /// An address of this machine alone, or a port there.
+    fn loopback(&mut self, name: &str) -> Result<Option<SocketAddr>, Failure> {
+        let text = match self.text(name) {
+            Some(text) => text,
+            None => return Ok(None),
+        };
+        let address = u16::from_str(&text).map(|port| SocketAddr::from((Ipv4Addr::LOCALHOST, port))).or_else(|_| resolved(&text))?;
+        match address.ip().is_loopback() {
+            true => Ok(Some(address)),
+            false => {
+                Err(Failure(format!("{} shows itself to this machine alone: '{}' is no address of its loopback, as 127.0.0.1:8080 is", name, text)))
+            }
+        }
     }
 
     /// A head's name; without one its machine's.
@@ -371,8 +389,11 @@ mod tests {
             }
             other => panic!("{:?}", other),
         }
-        match parsed("field --to /c --heads 5") {
-            Ok(Command::Field(field)) => assert_eq!((field.to, field.heads), (Some(PathBuf::from("/c")), 5)),
+        match parsed("field --to /c --heads 5 --view 8080") {
+            Ok(Command::Field(field)) => {
+                assert_eq!((field.to, field.heads), (Some(PathBuf::from("/c")), 5));
+                assert_eq!(field.view, Some(SocketAddr::from(([127, 0, 0, 1], 8080))));
+            }
             other => panic!("{:?}", other),
         }
         assert!(matches!(parsed("demo"), Ok(Command::Demo(Demo { heads: 3, .. }))));
@@ -401,6 +422,7 @@ mod tests {
         assert!(complaint("field --heartbeat 0").contains("--heartbeat takes a number from 1"));
         assert!(complaint("field --count 0").contains("--count takes a number from 1"));
         assert!(complaint("head 127.0.0.1:9 --name a/b").contains("--name takes letters"));
+        assert!(complaint("field --view 192.0.2.7:8080").contains("--view shows itself to this machine alone"));
         assert!(complaint("field --heads 0").contains("--heads takes a number from 1"));
         assert!(complaint("head 127.0.0.1").contains("'127.0.0.1' is no address"));
         assert!(complaint("head 127.0.0.1:99999").contains("is no address"));

@@ -1,12 +1,14 @@
 //! One end of the rail by itself, on a real address.
 
 use super::arguments;
+use super::page::Page;
 use super::report::{grouped, per_second, plural, shown, silence, Ended, Table};
 use super::sender::{Asking, Sender, Stage};
 use super::source::Source;
 use super::stop::{Stop, Wish};
 use super::store::Store;
 use super::taker::{Field, Sink, Sum};
+use super::view::{self, Screen, View};
 use super::{bind, end_capture, start_capture, Failure};
 use crate::endpoint::{Config, Endpoint};
 use crate::hub::{Hub, Settings};
@@ -197,33 +199,48 @@ fn verdict(sum: &Sum, heads: u64, to: Option<&Path>, was_stopped: bool) -> Strin
     }
 }
 
-pub fn field<L: Library>(arguments: &arguments::Field, stop: &Stop, out: &mut dyn Write) -> Result<Ended, Failure> {
+pub fn field<L: Library>(arguments: &arguments::Field, stop: &Stop, screen: &mut Screen) -> Result<Ended, Failure> {
     let sink = match &arguments.to {
         Some(folder) => Sink::Keep(Store::open(folder)?),
         None => Sink::Compare(BTreeMap::new()),
     };
     let socket = bind(arguments.address)?;
+    let page = arguments.view.map(Page::serve).transpose()?;
     let recording = Recording::start(&arguments.pcap)?;
     let address = socket.local_addr().map_err(Failure::of_network)?;
     let config = Config { admits: arguments.admits.clone(), most: arguments.count, ..config(arguments.port, arguments.beats) };
     let hub = Hub::<L>::new(Settings::for_heads(config, arguments.heads), random()?, Instant::now());
     let mut field = Field::new(Station::new(hub, socket, recording.tap(address)), sink, stop);
-    let _ = writeln!(out, "field: waiting at {} for heads (SCTP port {}), until Ctrl-C", address, arguments.port);
+    screen.say(&format!("field: waiting at {} for heads (SCTP port {}), until Ctrl-C", address, arguments.port));
+    if let Some(page) = &page {
+        screen.say(&format!("field: the view is at http://{}", page.address()));
+        page.show(view::page(&[]));
+    }
     let mut pace = Pace::new();
+    let mut view = View::new(Instant::now());
     let (mut busy, mut told) = (Duration::ZERO, Instant::now());
     let mut was_stopped = false;
     while arguments.count.map_or(true, |count| field.sum().visits < count) && (!field.visits().is_empty() || stop.wish() == Wish::GoOn) {
         was_stopped |= field.is_asked_to_stop() && !field.visits().is_empty();
         field.turn(TURN)?;
         for news in field.news() {
-            let _ = writeln!(out, "{}", news);
+            screen.say(&news);
         }
+        let now = Instant::now();
         if !field.visits().is_empty() {
-            busy += told.elapsed();
+            busy += now - told;
         }
-        told = Instant::now();
-        if !field.visits().is_empty() && pace.is_due() {
-            let _ = writeln!(out, "  {} of {}", plural(field.sum().tiles, "tile", "tiles"), plural(field.visits().len() as u64, "head", "heads"));
+        told = now;
+        if (screen.is_terminal() || page.is_some()) && view.is_due(now) {
+            let rows = view.rows(&field, now);
+            screen.draw(&view::lines(&rows));
+            if let Some(page) = &page {
+                page.show(view::page(&rows));
+            }
+        }
+        if !field.visits().is_empty() && !screen.is_terminal() && pace.is_due() {
+            let (tiles, heads) = (field.sum().tiles, field.visits().len() as u64);
+            screen.say(&format!("  {} so far, {} there", plural(tiles, "tile", "tiles"), plural(heads, "head", "heads")));
         }
     }
     // A head that was shut down from here may not have got the last word.
@@ -232,6 +249,10 @@ pub fn field<L: Library>(arguments: &arguments::Field, stop: &Stop, out: &mut dy
         field.turn(TURN)?;
     }
     recording.end()?;
+    Ok(ended(arguments, &field, was_stopped, busy))
+}
+
+fn ended<L: Library>(arguments: &arguments::Field, field: &Field<L>, was_stopped: bool, busy: Duration) -> Ended {
     let sum = field.sum();
     let counts = field.station.hub.total();
     let mut table = Table::default();
@@ -248,5 +269,5 @@ pub fn field<L: Library>(arguments: &arguments::Field, stop: &Stop, out: &mut dy
     table.end("field", &counts);
     table.count("tiles per second", per_second(sum.tiles, busy));
     let verdict = verdict(sum, field.heads(), arguments.to.as_deref(), was_stopped);
-    Ok(Ended { table: table.text(), verdict, faults: sum.faults.clone(), was_stopped })
+    Ended { table: table.text(), verdict, faults: sum.faults.clone(), was_stopped }
 }

@@ -4,6 +4,7 @@ pub mod arguments;
 pub mod demo;
 pub mod lines;
 pub mod lone;
+pub mod page;
 pub mod parcel;
 pub mod report;
 pub mod sender;
@@ -11,6 +12,7 @@ pub mod source;
 pub mod stop;
 pub mod store;
 pub mod taker;
+pub mod view;
 
 use crate::pcap::{Capture, Pcap};
 use std::fmt;

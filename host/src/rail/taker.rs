@@ -75,6 +75,21 @@ impl Visit {
     }
 }
 
+/// What came of one head, over all its associations.
+#[derive(Clone, Debug)]
+pub struct Known {
+    /// Where it was last.
+    pub peer: SocketAddr,
+    /// Its tiles of each band, those that came again left out.
+    pub bands: [u64; BANDS as usize],
+}
+
+impl Known {
+    fn new(peer: SocketAddr) -> Known {
+        Known { peer, bands: [0; BANDS as usize] }
+    }
+}
+
 /// What came of all heads.
 #[derive(Clone, Debug, Default)]
 pub struct Sum {
@@ -104,7 +119,7 @@ pub struct Field<L> {
     unsealed: Vec<(HeadId, u16, String)>,
     try_again: Option<Instant>,
     sum: Sum,
-    names: BTreeMap<String, HeadId>,
+    known: BTreeMap<String, Known>,
     stop: Heeded,
     news: Vec<String>,
 }
@@ -120,7 +135,7 @@ impl<L: Library> Field<L> {
             unsealed: Vec::new(),
             try_again: None,
             sum: Sum::default(),
-            names: BTreeMap::new(),
+            known: BTreeMap::new(),
             stop: Heeded::of(stop),
             news: Vec::new(),
         }
@@ -132,7 +147,12 @@ impl<L: Library> Field<L> {
 
     /// How many heads came, by their names.
     pub fn heads(&self) -> u64 {
-        self.names.len() as u64
+        self.known.len() as u64
+    }
+
+    /// What came of each head, by its name.
+    pub fn known(&self) -> &BTreeMap<String, Known> {
+        &self.known
     }
 
     pub fn visits(&self) -> &BTreeMap<HeadId, Visit> {
@@ -280,6 +300,7 @@ impl<L: Library> Field<L> {
             }
         };
         let is_first = visit.name.is_none();
+        let before = self.sum.again;
         match &mut self.sink {
             Sink::Compare(albums) => {
                 let is_new = !albums.contains_key(parcel.head);
@@ -316,7 +337,9 @@ impl<L: Library> Field<L> {
         if is_first {
             visit.name = Some(parcel.head.to_string());
         }
-        self.names.insert(parcel.head.to_string(), *id);
+        let known = self.known.entry(parcel.head.to_string()).or_insert_with(|| Known::new(visit.peer));
+        known.peer = visit.peer;
+        known.bands[usize::from(band)] += 1 - (self.sum.again - before);
         self.unsealed.push((*id, band, parcel.name.to_string()));
         Ok(())
     }
