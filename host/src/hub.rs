@@ -4,7 +4,7 @@
 
 mod farewells;
 
-use crate::calls::{Answer, Cause, Refusal, Shelf, Standing, Taken, MESSAGE_MOST};
+use crate::calls::{Answer, Cause, Refusal, Shelf, Standing, Taken, AREA, MESSAGE_MOST};
 use crate::config::Config;
 use crate::counts::Counts;
 use crate::event::{self, Why};
@@ -17,6 +17,7 @@ use crate::session::{Session, Tools};
 use crate::tickets::{Ticket, Tickets};
 use farewells::Farewells;
 use std::collections::{BTreeMap, BTreeSet, HashMap, VecDeque};
+use std::mem::size_of;
 use std::net::SocketAddr;
 use std::time::{Duration, Instant};
 
@@ -137,6 +138,11 @@ impl<L: Library> Hub<L> {
             counts: Counts::default(),
             message: vec![0; MESSAGE_MOST].into_boxed_slice(),
         }
+    }
+
+    /// What an association takes of memory, beside the packets and events that wait.
+    pub fn bytes_of_a_head() -> usize {
+        size_of::<Head<L>>() + 2 * AREA
     }
 
     /// The associations that are there, those that are down and not taken out included.

@@ -17,6 +17,7 @@ pub mod heartbeat;
 pub mod hub;
 pub mod last_word;
 pub mod library;
+pub mod load;
 pub mod outbox;
 pub mod packet;
 pub mod path;

@@ -7,7 +7,6 @@ mod pair;
 
 use modelled::Modelled;
 use oilwhisper::calls::{Cause, Refusal, Shelf};
-use oilwhisper::config::Config;
 use oilwhisper::event::Why;
 use oilwhisper::hub::{Event, HeadId, Hub, Settings};
 use oilwhisper::library::Library;
@@ -111,9 +110,9 @@ fn inits_leave_nothing_and_only_so_many_heads_come<L: Library>() {
 }
 
 fn whom_it_does_not_admit_gets_no_answer<L: Library>() {
-    let one = Some(vec![address(0).ip().into()]);
-    let strict = Settings { at_one_address: 1, ..settings(FIELD_PORT, 8) };
-    let mut world = World::<L>::of(Settings { common: Config { admits: one, ..strict.common.clone() }, ..strict }, 2, slow(5), 6);
+    let mut strict = Settings { at_one_address: 1, ..settings(FIELD_PORT, 8) };
+    strict.common.admits = Some(vec![address(0).ip().into()]);
+    let mut world = World::<L>::of(strict, 2, slow(5), 6);
     // Another head at the address of the first.
     let neighbour = SocketAddr::new(address(0).ip(), 40_000);
     world.run_for(SECOND);

@@ -152,14 +152,11 @@ fn run_ends<L: Library>(demo: &Demo, stop: &Stop, capture: Option<&Capture>, pro
             stretches.push(scope.spawn(move || post.relay.carry_back(Channel::new(demo.weather, !seed), &shared.stop)));
         }
         let field = scope.spawn(|| run_field::<L>(demo, field_socket, field_tap, shared));
-        let heads: Vec<_> = posts
-            .iter()
-            .enumerate()
-            .map(|(n, post)| {
-                let tap = tap(post.address).map(|tap| tap.shows_behind(post.to_field, field_address));
-                scope.spawn(move || run_head::<L>(demo, n, post, tap, shared, stop))
-            })
-            .collect();
+        let mut heads = Vec::new();
+        for (n, post) in posts.iter().enumerate() {
+            let tap = tap(post.address).map(|tap| tap.shows_behind(post.to_field, field_address));
+            heads.push(scope.spawn(move || run_head::<L>(demo, n, post, tap, shared, stop)));
+        }
         watch(demo, shared, progress);
         let heads: Vec<_> = heads.into_iter().map(joined).collect();
         let field = joined(field);
