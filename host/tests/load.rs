@@ -57,34 +57,34 @@ fn ten_million_messages() {
     well(messages, 2)(outcome);
 }
 
-/// Seconds of the field computer's part of a packet, the least of several rounds: from the heads in turn, so many of which send.
-fn packet_costs(crowd: &mut Crowd<Modelled>, sending: usize) -> f64 {
-    let mut least = f64::INFINITY;
-    for _ in 0..9 {
-        let mut spent = Duration::ZERO;
-        let count = 4096;
-        for turn in 0..count {
-            let n = turn % sending;
-            let mut answers = Vec::new();
-            for packet in crowd.photograph(n, 512) {
-                let begin = Instant::now();
-                crowd.serve(n, &packet, &mut answers);
-                spent += begin.elapsed();
-            }
-            crowd.answer(n, &mut answers);
+/// Seconds of the field computer's part of a packet, from the heads in turn, so many of which send.
+fn packet_cost(crowd: &mut Crowd<Modelled>, sending: usize) -> f64 {
+    let mut spent = Duration::ZERO;
+    let count = 2048;
+    for turn in 0..count {
+        let n = turn % sending;
+        let mut answers = Vec::new();
+        for packet in crowd.photograph(n, 512) {
+            let begin = Instant::now();
+            crowd.serve(n, &packet, &mut answers);
+            spent += begin.elapsed();
         }
-        least = least.min(spent.as_secs_f64() / count as f64);
+        crowd.answer(n, &mut answers);
     }
-    least
+    spent.as_secs_f64() / count as f64
 }
 
 #[test]
 #[ignore = "measures, and asserts nothing"]
 fn what_a_head_costs() {
     let (mut one, mut many) = (Crowd::<Modelled>::of(1), Crowd::<Modelled>::of(HEADS));
-    let alone = packet_costs(&mut one, 1);
-    let beside = packet_costs(&mut many, 1);
-    let among = packet_costs(&mut many, HEADS);
+    // The least of rounds in which they take turns, so that a busy machine harms them alike.
+    let [mut alone, mut beside, mut among] = [f64::INFINITY; 3];
+    for _ in 0..40 {
+        alone = alone.min(packet_cost(&mut one, 1));
+        beside = beside.min(packet_cost(&mut many, 1));
+        among = among.min(packet_cost(&mut many, HEADS));
+    }
     println!("a packet alone {:.3} us, beside {} idle heads {:.3} us ({:.3})", alone * 1e6, HEADS - 1, beside * 1e6, beside / alone);
     println!("a packet where {} heads send in turn {:.3} us ({:.3})", HEADS, among * 1e6, among / alone);
     let (mut spent, minute) = (Duration::ZERO, many.now + Duration::from_secs(60));
