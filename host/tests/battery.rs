@@ -275,6 +275,12 @@ fn a_folder_that_cannot_be_written_loses_nothing() {
     assert_eq!(head.ended(), None);
     let said = fs::read_to_string(&log).expect("they have said something");
     assert_eq!(said.matches("a tile cannot be kept").count(), 1, "{}", said);
+    // It can be stopped all the same, and started again.
+    let start = Instant::now();
+    field.terminate();
+    assert!(start.elapsed() < Duration::from_secs(20), "{:?}", start.elapsed());
+    field = Process::start(&format!("field {} --to {}", at, kept.display()), &log);
+    thread::sleep(Duration::from_secs(2));
     fs::remove_file(kept.join("east")).expect("the file can be removed");
     let start = Instant::now();
     while head.ended().is_none() {

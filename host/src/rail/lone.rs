@@ -189,7 +189,7 @@ fn verdict(sum: &Sum, heads: u64, to: Option<&Path>, was_stopped: bool) -> Strin
     };
     let again = if sum.again > 0 { format!(" ({} came again)", grouped(sum.again)) } else { String::new() };
     if !sum.faults.is_empty() {
-        format!("NOT all came well: {} of {} {}{}; {}", tiles, heads_text, came, again, plural(sum.faults.len() as u64, "fault", "faults"))
+        format!("NOT all came well: {} of {} {}{}; {}", tiles, heads_text, came, again, plural(sum.all_faults, "fault", "faults"))
     } else if sum.visits == 0 {
         "no head came".to_string()
     } else if was_stopped {

@@ -78,7 +78,9 @@ pub struct Sender<L> {
     waiting: Option<(Tile, Vec<u8>)>,
     awaited: Awaited,
     stage: Stage,
+    /// Of the present asking: since when, and how many packets had come before.
     since: Instant,
+    received: u64,
     first_tsn: u32,
     is_source_empty: bool,
     kept: u64,
@@ -102,6 +104,7 @@ impl<L: Library> Sender<L> {
             awaited: Awaited::default(),
             stage: Stage::Opening,
             since: Instant::now(),
+            received: 0,
             first_tsn: 0,
             is_source_empty: false,
             kept: 0,
@@ -180,7 +183,7 @@ impl<L: Library> Sender<L> {
         }
         let counts = self.line.endpoint.counts();
         let refusals: Vec<String> = counts.refusals().map(|(refusal, _)| refusal.to_string()).collect();
-        match (counts.packets_received, refusals.is_empty()) {
+        match (counts.packets_received - self.received, refusals.is_empty()) {
             (0, _) => format!("no answer from {} yet", field),
             (_, true) => format!("{} has answered, and is not through yet", field),
             (_, false) => format!("{} answers, and its answer is refused: {}", field, refusals.join(", ")),
@@ -256,6 +259,7 @@ impl<L: Library> Sender<L> {
         self.first_tsn = self.line.endpoint.standing().next_tsn;
         self.stage = Stage::Opening;
         self.since = now;
+        self.received = self.line.endpoint.counts().packets_received;
         self.is_quiet = false;
         Ok(())
     }

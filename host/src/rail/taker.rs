@@ -21,6 +21,9 @@ const BATCH: usize = 64;
 /// A receipt waits for others so long, or until there are so many.
 const RECEIPT_AFTER: Duration = Duration::from_millis(50);
 const RECEIPT_OF: usize = 64;
+/// So many faults are told, and so many names are known; whoever makes more fills no memory.
+const FAULTS_TOLD: usize = 100;
+const NAMES_MOST: usize = 4096;
 /// What cannot be kept is tried again after so long.
 const TRY_AGAIN: Duration = Duration::from_secs(1);
 
@@ -99,7 +102,18 @@ pub struct Sum {
     /// Tiles that had come before.
     pub again: u64,
     pub bytes: u64,
+    /// The first of them.
     pub faults: Vec<String>,
+    pub all_faults: u64,
+}
+
+impl Sum {
+    fn fault(&mut self, fault: String) {
+        self.all_faults += 1;
+        if self.faults.len() < FAULTS_TOLD {
+            self.faults.push(fault);
+        }
+    }
 }
 
 /// A tile that was taken and could not be kept yet.
@@ -295,11 +309,19 @@ impl<L: Library> Field<L> {
         let parcel = match Parcel::read(message).filter(|_| taken.ppid == TILE && band < BANDS) {
             Some(parcel) => parcel,
             None => {
-                self.sum.faults.push(format!("from {}: a message of {} bytes on stream {} is no tile", visit.who(), message.len(), band));
+                self.sum.fault(format!("from {}: a message of {} bytes on stream {} is no tile", visit.who(), message.len(), band));
                 return Ok(());
             }
         };
         let is_first = visit.name.is_none();
+        if visit.name.as_ref().map_or(false, |name| name != parcel.head) {
+            self.sum.fault(format!("from {}: a tile says to be of {}", visit.who(), parcel.head));
+            return Ok(());
+        }
+        if self.known.len() >= NAMES_MOST && !self.known.contains_key(parcel.head) {
+            self.sum.fault(format!("from {}: more than {} names of heads", visit.who(), NAMES_MOST));
+            return Ok(());
+        }
         let before = self.sum.again;
         match &mut self.sink {
             Sink::Compare(albums) => {
@@ -310,7 +332,7 @@ impl<L: Library> Field<L> {
                 }
                 let (wraps, again, bytes) = (album.wrapped().len(), album.again(), album.bytes());
                 if let Err(difference) = album.add(band, taken.ssn, parcel.content) {
-                    self.sum.faults.push(format!("from {} at {}: {}", parcel.head, shown(visit.peer), difference));
+                    self.sum.fault(format!("from {} at {}: {}", parcel.head, shown(visit.peer), difference));
                     return Ok(());
                 }
                 if album.wrapped().len() > wraps {
@@ -327,7 +349,7 @@ impl<L: Library> Field<L> {
                     self.sum.bytes += parcel.content.len() as u64;
                     if let Kept::Beside(name) = kept {
                         let fault = format!("{} has sent another tile {} of band {}: it is kept as {}", parcel.head, parcel.name, band, name);
-                        self.sum.faults.push(fault);
+                        self.sum.fault(fault);
                     }
                 }
             },
@@ -368,7 +390,9 @@ impl<L: Library> Field<L> {
     /// Tells of associations that are over and taken out.
     fn end_visits(&mut self) {
         let (readable, stuck) = (&self.readable, &self.stuck);
-        let is_through = |id: &HeadId| !readable.contains(id) && stuck.as_ref().map_or(true, |stuck| stuck.id != *id);
+        // Who stops what cannot keep anything waits for nothing: the heads still have what got no receipt.
+        let gives_up = self.stop.is_asked() && self.is_stuck();
+        let is_through = |id: &HeadId| gives_up || !readable.contains(id) && stuck.as_ref().map_or(true, |stuck| stuck.id != *id);
         let ended: Vec<HeadId> = self.visits.iter().filter(|(id, visit)| visit.has_ended() && is_through(id)).map(|(id, _)| *id).collect();
         for id in ended {
             if let Some((visit, why)) = self.visits.remove(&id).and_then(|visit| visit.why.map(|why| (visit, why))) {
