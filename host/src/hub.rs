@@ -25,6 +25,18 @@ use std::time::{Duration, Instant};
 #[derive(Clone, Copy, Debug, PartialEq, Eq, PartialOrd, Ord, Hash)]
 pub struct HeadId(u64);
 
+impl HeadId {
+    /// For C, which knows it as a number.
+    pub fn number(self) -> u64 {
+        self.0
+    }
+
+    /// Of a number that no association has, nothing can be asked.
+    pub fn from_number(number: u64) -> HeadId {
+        HeadId(number)
+    }
+}
+
 #[derive(Clone, Debug, PartialEq, Eq)]
 pub enum Event {
     Up {
