@@ -10,6 +10,7 @@ use oilwhisper::calls::{Cause, Refusal, Shelf};
 use oilwhisper::event::Why;
 use oilwhisper::hub::{Event, HeadId, Hub, Settings};
 use oilwhisper::library::Library;
+use oilwhisper::packet::Datagram;
 use oilwhisper::random::{Random, Seeded};
 use oilwhisper::relay::Weather;
 use oilwhisper::tickets::Ticket;
@@ -354,6 +355,9 @@ fn every_tile_comes_beside_a_hostile_sender<L: Library>() {
             world.field.arrive(&packet, from, world.now);
             hostile += 1;
         }
+        // Nothing of an association goes to a stranger: only what tells him that he may echo a cookie, or that there is nothing.
+        let is_harmless = |datagram: &Datagram| [INIT_ACK, ABORT, SHUTDOWN_COMPLETE].contains(&first_chunk(&datagram.packet));
+        assert!(world.astray.iter().all(is_harmless));
         seen.extend(world.astray.drain(..).map(|datagram| datagram.packet));
         seen.truncate(64);
         world.outposts.iter().all(|outpost| outpost.delivered.len() == total)
