@@ -1,10 +1,11 @@
 // Number 1: the bounds of a record.
 use crate::ends::Association;
-use crate::ends::Cookie;
 use crate::ends::Ends;
 use numbers::Rail;
 use states::State;
 ghost use mathlib.Core.Path.{_≡_};
+ghost use mathlib.Core.List.{List};
+ghost use Prim.Native.Nat.{ℕ};
 ghost use Rattle.chunks.specs.CookieChunk.{isCookie};
 ghost use Rattle.association.specs.Bounds.{areStreams, lacksPort, lacksTag, areEnds, areFew, isHead, isSound};
 
@@ -67,23 +68,24 @@ fn are_few(e: Ends) -> bool
     false
 }
 
-fn is_echo(c: Cookie) -> bool
-    ensures { λ r. ⌜ r ≡ isCookie (c .len) ⌝ }
+fn is_echo(len: u16) -> bool
+    ensures { λ r. ⌜ r ≡ isCookie len ⌝ }
 {
-    if c.len < 1 {
+    if len < 1 {
         return false;
     }
-    c.len <= 256
+    len <= 256
 }
 
-fn is_head(state: State, e: Ends, c: Cookie) -> bool
-    ensures { λ r. ⌜ r ≡ isHead state e c ⌝ }
+// What a state asks of the ends, and of a cookie of so many bytes, whichever they are.
+pub fn is_head(state: State, e: Ends, len: u16) -> bool
+    ensures { λ r. ⌜ ((bytes : List ℕ) → r ≡ isHead state e (record { bytes = bytes; len = len })) ⌝ }
 {
     match state {
         State::Closed => are_few(e),
         State::CookieWait(_) => are_ends(e, false),
         State::CookieEchoed(_) => {
-            if is_echo(c) {
+            if is_echo(len) {
                 return are_ends(e, true);
             }
             false
@@ -112,7 +114,7 @@ impl Association {
         if 256 < cookie.len {
             return false;
         }
-        if !is_head(state, ends, cookie) {
+        if !is_head(state, ends, cookie.len) {
             return false;
         }
         if !receiving.is_sound() {

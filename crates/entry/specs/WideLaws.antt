@@ -53,7 +53,8 @@ module _ (a : Association) (vs : List ℕ) (b : Buffers) where
   pub hand-in-fits : (happened a (eventOf 4 vs) b .ran .told .number ≡ 0 → at vs 0 < 128) × (happened a (eventOf 5 vs) b .ran .told .number ≡ 0 → at vs 0 < 128)
   hand-in-fits = (
     λ z. hand-in-below false (subst (λ (e : Event). happened a e b .ran .told .number ≡ 0) (hand-in-coded vs .0) z),
-    λ z. hand-in-below true (subst (λ (e : Event). happened a e b .ran .told .number ≡ 0) (hand-in-coded vs .1) z))
+    λ z. hand-in-below true (subst (λ (e : Event). happened a e b .ran .told .number ≡ 0) (hand-in-coded vs .1) z),
+  )
 
   -- the port of the cookie's peer
   pub stale-fits : happened a (eventOf 17 vs) b .ran .told .number ≡ 0 → at vs 0 < 65536

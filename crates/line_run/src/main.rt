@@ -1,12 +1,12 @@
 // Random plans over both wraps, with loss, repeats, reordering, takes and SACKs mixed: the circle receiver against a plain receiver on the line, which
 // keeps one byte for each number: 0 not come, 1 held, 2 given. What differs is counted.
-use delivery::Receiving;
 use delivery::Sack;
-use delivery::Taken;
 use delivery::Verdict;
 use holding::Answer;
 use holding::Chunk;
 use holding::Message;
+use incoming::Incoming;
+use incoming::Took;
 use libc::STDOUT_FILENO;
 use numbers::Blocks;
 use numbers::Ssn;
@@ -497,7 +497,7 @@ fn same_take(a: Answer, out: &[u8; ROOM], i: u32, room: u32) -> bool {
 // ---- a step of the plan
 
 struct Both {
-    receiving: Receiving,
+    incoming: Incoming,
     line: Line,
     differ: u32,
     seen: [bool; 32],
@@ -529,45 +529,45 @@ fn tallied(same: bool, differ: u32) -> u32 {
 
 fn arrive(b: Both, area: &mut [u8], status: &mut [u8], i: u32) -> Both {
     let line = b.line;
-    let r = b.receiving;
+    let r = b.incoming;
     let x = byte(i);
     let p = [x, x, x, x, x];
     let n = size(i) as usize;
-    let a = r.arrive(area, chunk(i), &p[0..n], 2);
+    let a = incoming::arrive(r, area, chunk(i), &p[0..n], 2);
     let should = judge(status, line, i);
     let verdict = a.verdict;
     let number = number_of(verdict);
     let same = number == should;
-    let receiving = a.receiving;
+    let incoming = a.incoming;
     let seen = b.seen;
     Both {
-        receiving,
+        incoming,
         line: arrived(status, line, i, should),
         differ: tallied(same, b.differ),
         seen: noted(seen, number),
     }
 }
 
-fn take_into(r: Receiving, area: &[u8], out: &mut [u8], room: usize) -> Taken
+fn take_into(r: Incoming, area: &[u8], out: &mut [u8], room: usize) -> Took
     requires { ⌜ room ≤ length (now out) ⌝ }
 {
-    r.take(area, &mut out[0..room])
+    incoming::take(r, area, &mut out[0..room])
 }
 
 fn take(b: Both, area: &[u8], status: &mut [u8], room: usize) -> Both
     requires { ⌜ room ≤ 24 ⌝ }
 {
     let line = b.line;
-    let r = b.receiving;
+    let r = b.incoming;
     let mut out = [255u8; ROOM];
     let t = take_into(r, area, &mut out, room);
     let i = choose(status, line);
     let answer = t.answer;
     let same = same_take(answer, &out, i, room as u32);
-    let receiving = t.receiving;
+    let incoming = t.incoming;
     let seen = b.seen;
     Both {
-        receiving,
+        incoming,
         line: taken(status, line, i, room as u32),
         differ: tallied(same, b.differ),
         seen: noted(seen, number_taken(answer)),
@@ -581,14 +581,14 @@ fn told(mut l: Line) -> Line {
 
 fn sack(b: Both, status: &[u8]) -> Both {
     let line = b.line;
-    let r = b.receiving;
-    let a = r.sack();
+    let r = b.incoming;
+    let a = incoming::sack(r);
     let s = a.sack;
     let same = same_sack(status, line, s);
-    let receiving = a.receiving;
+    let incoming = a.incoming;
     let seen = b.seen;
     Both {
-        receiving,
+        incoming,
         line: told(line),
         differ: tallied(same, b.differ),
         seen,
@@ -644,11 +644,11 @@ fn step(b: Both, area: &mut [u8; 65536], status: &mut [u8; 512], x: u64) -> Both
 }
 
 fn fresh() -> Both {
-    let mut receiving = Receiving::fresh(tsn(0));
-    receiving.next[0] = Ssn((TAKEN % 65536) as u16);
-    receiving.next[1] = Ssn((TAKEN % 65536) as u16);
+    let mut incoming = Incoming::fresh(tsn(0));
+    incoming.next[0] = (TAKEN % 65536) as u16;
+    incoming.next[1] = (TAKEN % 65536) as u16;
     Both {
-        receiving,
+        incoming,
         line: Line {
             point: 0,
             next0: TAKEN,

@@ -13,11 +13,11 @@ ghost use lib.Dec.{eqb};
 ghost use Rattle.scans.specs.Scan.{pick};
 ghost use Rattle.path.specs.Sizes.{railSizes};
 ghost use Rattle.numbers.specs.Profile.{rail};
-ghost use Rattle.sending.specs.Sending.{roomOf};
+ghost use Rattle.sending.specs.Sending.{fresh, roomOf, sampled, doubled, heard};
 ghost use Rattle.sending.specs.Bounds.{hasGap, isWithin};
 ghost use Rattle.sending.specs.Survey.{Surveyed};
 ghost use Rattle.tables.specs.Place.{placesOf};
-ghost use Rattle.sender.specs.Seen.{seen};
+ghost use Rattle.sender.specs.Seen.{seen, headOf};
 
 // Our point, the TSN that is next, the window last advertised, the order of the chunk that waits longest, and the path.
 pub struct Sender {
@@ -29,6 +29,21 @@ pub struct Sender {
 }
 
 impl Sender {
+    // Nothing waits, and nothing was sent from `start` on.
+    pub fn fresh(start: Tsn, advertised: u32) -> Sender
+        ensures { λ r. ⌜ r ≡ headOf (fresh railSizes rail start advertised) ⌝ }
+    {
+        let point = start.after(4294967295);
+        let path = Path::fresh();
+        Sender {
+            acked: point,
+            next_tsn: start,
+            advertised: advertised,
+            oldest: 0,
+            path: path,
+        }
+    }
+
     // How many TSNs above our point were sent.
     pub fn room(self) -> u32
         ensures { λ r. ⌜ r ≡ roomOf (seen rail self [] []) ⌝ }
@@ -38,6 +53,36 @@ impl Sender {
             return 0;
         }
         d - 1
+    }
+
+    // A round trip of so many milliseconds was measured.
+    pub fn sampled(mut self, sample: u32) -> Sender
+        ensures { λ r. ⌜ r ≡ headOf (sampled railSizes (seen rail self [] []) sample) ⌝ }
+    {
+        let p = self.path;
+        let q = p.sampled(sample);
+        self.path = q;
+        self
+    }
+
+    // T1 or T2 expired: RTO doubled.
+    pub fn doubled(mut self) -> Sender
+        ensures { λ r. ⌜ r ≡ headOf (doubled railSizes (seen rail self [] [])) ⌝ }
+    {
+        let p = self.path;
+        let q = p.doubled();
+        self.path = q;
+        self
+    }
+
+    // A HEARTBEAT ACK: T3's tries begin anew.
+    pub fn heard(mut self) -> Sender
+        ensures { λ r. ⌜ r ≡ headOf (heard (seen rail self [] [])) ⌝ }
+    {
+        let p = self.path;
+        let q = p.heard();
+        self.path = q;
+        self
     }
 }
 

@@ -20,7 +20,7 @@ use Rattle.path.specs.Path as way
 use Rattle.places.specs.declared.place.Chunk.{Chunk}
 use Rattle.places.specs.declared.place.Place.{Place}
 use Rattle.places.specs.declared.sack.Sack.{Sack}
-use Rattle.places.specs.Places.{aheadOf, being, hasStatus, weightOf, tallied, missedAll, marked}
+use Rattle.places.specs.Places.{aheadOf, being, hasStatus, weightOf, tallied, missedAll, marked, isEmpty}
 use Rattle.places.specs.Blocks.{held, lastEnd}
 use Rattle.places.specs.Sack.{takenIn}
 use Rattle.sending.specs.declared.sending.Sending.{Sending}
@@ -30,13 +30,43 @@ use Rattle.sending.specs.declared.choosing.Best.{Best}
 use Rattle.sending.specs.declared.choosing.Chosen.{Chosen}
 use Rattle.sending.specs.declared.cutting.Message.{Message}
 use Rattle.sending.specs.declared.cutting.Handed.{Handed}
-use Rattle.sending.specs.Sending.{noPlace, roomOf, hasOutstanding, withFlight, withPath}
+use Rattle.sending.specs.Sending.{noPlace, fresh, roomOf, isBare, hasOutstanding, withFlight, withPath, sampled, doubled, heard}
 use Rattle.sending.specs.Acknowledge.{judgedBlocks, judgedBy, judgedPoint, isMoved, limitOf, answeredBy, pathAfter, accepted, acknowledged, shutOf, shutdownPoint}
 use Rattle.sending.specs.Expiry.{overdue, expired}
 use Rattle.sending.specs.Bounds.{isOdd, isGap, hasGap, isSuccessive, isWithin}
 use Rattle.sending.specs.Carry.{carried}
 use Rattle.sending.specs.HandIn.{chunksOf, isRefused, refusal, partLen, chunkAt, waitingAt, takes, after, laidOut, stored, storedIn, waited, handedIn, areaAfter}
 use Rattle.sending.specs.Choose.{rankOf, better, bestOf, sizeOf, goes, nextSsn, counted, numbered, put, again, first, sent, tsnOf, Going, going, filling, begun, filled}
+
+-- ---- a record that begins, whether anything is left, and what bears on the path alone
+
+pub fresh-is : (z : Sizes) (P : Profile) (t : Tsn) (window : ℕ) → fresh z P t window ≡ record {
+  acked = record { 0 = on (ring (2 ^ 32)) (t .0) (2 ^ 32 - 1) };
+  «next_tsn» = t;
+  advertised = window;
+  oldest = 0;
+  places = replicate (P .places) noPlace;
+  next = replicate (P .streams) ssn0;
+  path = way.fresh z;
+}
+unfolding fresh
+fresh-is z P t window = refl
+
+pub bare-is : (s : Sending) → isBare s ≡ isEmpty (s .places)
+unfolding isBare
+bare-is s = refl
+
+pub sampled-is : (z : Sizes) (s : Sending) (sample : ℕ) → sampled z s sample ≡ withPath s (way.sampledBy z (s .path) sample)
+unfolding sampled
+sampled-is z s sample = refl
+
+pub doubled-is : (z : Sizes) (s : Sending) → doubled z s ≡ withPath s (way.backedOff z (s .path))
+unfolding doubled
+doubled-is z s = refl
+
+pub heard-is : (s : Sending) → heard s ≡ withPath s (way.heard (s .path))
+unfolding heard
+heard-is s = refl
 
 -- ---- a SACK, a SHUTDOWN's point
 

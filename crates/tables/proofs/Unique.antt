@@ -11,6 +11,7 @@ use Rattle.tables.proofs.held.clear.Reads as held-clear-reads
 use Rattle.tables.proofs.ssns.ssn_at.Reads as ssn-at-reads
 use Rattle.tables.proofs.ssns.put_ssn.Reads as put-ssn-reads
 use Rattle.tables.proofs.ssns.clear.Reads as ssns-clear-reads
+use Rattle.tables.proofs.place.clear.Reads as place-clear-reads
 
 pub held-at-unique : (κs : _) (a : _) (r q : _) (s t : _) → held-at-reads.Post κs a r s → held-at-reads.Post κs a q t → r ≡ q
 held-at-unique κs a r q s t x y = x ∙ sym y
@@ -38,3 +39,6 @@ held-clear-unique κs a r q s t x y = x ∙ sym y
 
 pub ssns-clear-unique : (κs : _) (a : _) (r q : _) (s t : _) → ssns-clear-reads.Post κs a r s → ssns-clear-reads.Post κs a q t → now (s .0) ≡ now (t .0)
 ssns-clear-unique κs a r q s t x y = x ∙ sym y
+
+pub place-clear-unique : (κs : _) (a : _) (r q : _) (s t : _) → place-clear-reads.Post κs a r s → place-clear-reads.Post κs a q t → now (s .0) ≡ now (t .0)
+place-clear-unique κs a r q s t x y = x ∙ sym y

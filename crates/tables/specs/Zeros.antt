@@ -9,6 +9,7 @@ use Rattle.holding.specs.Held.{noHeld}
 use Rattle.tables.specs.Words.{shownFrom}
 use Rattle.tables.specs.Held.{decoded, heldAt, heldOf}
 use Rattle.tables.specs.Ssns.{ssnAt, ssnsOf}
+use Rattle.tables.specs.Place as place
 
 pub zeros-at : (n i : ℕ) → _≡_ {A = ℕ} (getD (replicate n 0) i 0) 0
 zeros-at zero i = refl
@@ -28,3 +29,9 @@ held-zeros P n =
 pub ssns-zeros : (P : Profile) (n : ℕ) → ssnsOf P (replicate n 0) ≡ replicate (P .streams) ssn0
 unfolding ssnsOf
 ssns-zeros P n = shown-alike ssnAt (replicate n 0) ssn0 (λ i. rw (zeros-at n i)) 0 (P .streams)
+
+pub places-zeros : (P : Profile) (n : ℕ) → place.placesOf P (replicate n 0) ≡ replicate (P .places) place.vacant
+unfolding place.placesOf place.decoded
+places-zeros P n =
+    shown-alike place.placeIn (replicate n 0) place.vacant
+    (λ i. rw (zeros-at n (8 * i), zeros-at n (8 * i + 1), zeros-at n (8 * i + 2), zeros-at n (8 * i + 3), zeros-at n (8 * i + 4), zeros-at n (8 * i + 5))) 0 (P .places)

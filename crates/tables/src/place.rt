@@ -7,6 +7,7 @@ use places::Chunk;
 use places::Place;
 ghost use mathlib.Core.Path.{_≡_};
 ghost use Prim.Native.Nat.{_≤_, _%_};
+ghost use lib.ListN.{replicate};
 ghost use mir.Val.{boolByte as bit};
 ghost use Rattle.numbers.specs.Profile.{rail};
 ghost use Rattle.tables.specs.Place.{decoded, shapeOf, stateOf, placeAt, placePut, statePut};
@@ -114,4 +115,11 @@ pub fn put_state(t: &mut [u32; WORDS], i: usize, p: Place)
         let at = 8 * i;
         t[at + 5] = state_of(p);
     }
+}
+
+// Every place is free, and nothing is left in one.
+pub fn clear(t: &mut [u32; WORDS])
+    ensures { λ _. ⌜ now (t .exit) ≡ replicate 1024 0 ⌝ }
+{
+    *t = [0; WORDS];
 }

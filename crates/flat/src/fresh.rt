@@ -1,0 +1,68 @@
+// Records to start from: a head, and tables of zeros.
+use crate::head::Association;
+use crate::head::Head;
+use association::Ends;
+use numbers::Keeping;
+use numbers::Rail;
+use numbers::Tsn;
+use sender::Sender;
+use states::State;
+ghost use mathlib.Core.Path.{_≡_};
+ghost use lib.ListN.{replicate};
+ghost use Rattle.association.specs.Fresh.{started, closedAt};
+ghost use Rattle.flat.specs.Shown.{headOf, zeroed};
+
+impl Head {
+    // Nothing has come from a peer whose first number is `theirs`, and nothing was sent from `ours` on.
+    pub fn started(state: State, ends: Ends, ours: Tsn, advertised: u32, theirs: Tsn) -> Head
+        ensures { λ r. ⌜ r ≡ headOf (started state ends ours advertised theirs) ⌝ }
+    {
+        let keeping = Keeping::fresh(theirs);
+        let sender = Sender::fresh(ours, advertised);
+        Head {
+            state,
+            ends,
+            keeping,
+            sender,
+            cookie_len: 0,
+        }
+    }
+
+    // A closed record at one of the host's ports.
+    pub fn closed(port: u16) -> Head
+        ensures { λ r. ⌜ r ≡ headOf (closedAt port) ⌝ }
+    {
+        let ends = Ends {
+            local_port: port,
+            peer_port: 0,
+            my_tag: 0,
+            peer_tag: 0,
+            streams_in: 0,
+            streams_out: 0,
+        };
+        Head::started(State::Closed, ends, Tsn(1), 0, Tsn(1))
+    }
+}
+
+// No cookie is kept.
+pub fn clear_cookie(t: &mut [u8; 256])
+    ensures { λ _. ⌜ now (t .exit) ≡ replicate 256 0 ⌝ }
+{
+    *t = [0; 256];
+}
+
+impl Association {
+    pub fn closed(port: u16) -> Association
+        ensures { λ r. ⌜ r ≡ zeroed (headOf (closedAt port)) ⌝ }
+    {
+        let head = Head::closed(port);
+        Association {
+            head,
+            held: [0; 512],
+            next_in: [0; Rail::STREAMS],
+            places: [0; 1024],
+            next_out: [0; Rail::STREAMS],
+            cookie: [0; 256],
+        }
+    }
+}

@@ -1,0 +1,2 @@
+-- The receiving side by value, with its tables.
+pub mod Incoming

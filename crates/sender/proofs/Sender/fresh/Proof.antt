@@ -1,0 +1,27 @@
+use Rattle.path.specs.Sizes.{railSizes}
+use Rattle.numbers.specs.Profile.{rail}
+use mathlib.Core.List.{[]}
+use Rattle.sending.specs.TableLaws.{fresh-is, sampled-is, doubled-is, heard-is}
+use Rattle.sender.specs.Seen.{seen}
+use borrow.Author.Needs.{needs}
+use Rattle.sender.proofs.Sender.fresh.Statement.{statement}
+use Rattle.sender.proofs.Sender.fresh.Tie as tie
+use Rattle.sender.proofs.Sender.fresh.Reads as reads
+use Rattle.sender.proofs.Sender.fresh.Lts as lts
+use Rattle.numbers.proofs.circle.Tsn.after.Reads as after-reads
+use Rattle.path.proofs.path.Path.fresh.Reads as fresh-reads
+
+-- src/lib.rt:36:13
+after-requires : tie.Need-after-requires
+after-requires c κs = search needs
+
+-- src/lib.rt:37:13
+fresh-requires : tie.Need-fresh-requires
+fresh-requires c κs = search needs
+
+-- src/lib.rt:33:5
+returns : tie.Need-returns
+returns c = rw (c .fresh .ensures, c .before .after .ensures, fresh-is railSizes rail _ _)
+
+pub fresh-spec : {M : Type 1} → statement M
+fresh-spec = tie.close (tie.spec after-requires fresh-requires returns)
