@@ -1,7 +1,7 @@
 //! The core behind safe calls. It adds no test of its own: whatever a call is handed, the core answers.
 
 use crate::calls::{
-    Acknowledged, Answer, Arrived, Cause, Echoed, Expired, Fate, Init, Lent, Made, Named, NotTaken, Peeked, Refusal, Standing, State, Taken,
+    Acknowledged, Answer, Arrived, Cause, Echoed, Expired, Fate, Init, Lent, Made, Named, NotTaken, Peeked, Refusal, Shelf, Standing, State, Taken,
     Transmitted, Turn, Verdict, AREA, PAYLOAD,
 };
 use crate::ffi;
@@ -47,6 +47,18 @@ impl<L: Library> Association<L> {
         &self.record
     }
 
+    pub fn is_closed(&self) -> bool {
+        state_of(self.record.state) == State::Closed
+    }
+
+    pub fn peer_tag(&self) -> u32 {
+        self.record.ends.peer_tag
+    }
+
+    pub fn peer_port(&self) -> u16 {
+        self.record.ends.peer_port
+    }
+
     pub fn standing(&self) -> Standing {
         let receiving = &self.record.receiving;
         let sending = &self.record.sending;
@@ -61,6 +73,16 @@ impl<L: Library> Association<L> {
             has_gap: receiving.keeping.come.contains(&1),
             window: (free * PAYLOAD) as u32,
             peer_window: sending.advertised,
+        }
+    }
+
+    pub fn shelf(&self) -> Shelf {
+        let receiving = &self.record.receiving;
+        let in_order = receiving.held.iter().filter(|place| place.used && !place.unordered);
+        let ahead = |stream: u16, ssn: u16| receiving.next.get(usize::from(stream)).map(|next| (stream, ssn.wrapping_sub(*next)));
+        Shelf {
+            missing: receiving.keeping.come.contains(&1).then(|| receiving.keeping.point.wrapping_add(1)),
+            held: in_order.filter_map(|place| ahead(place.stream, place.ssn)).collect(),
         }
     }
 
