@@ -21,14 +21,16 @@ use Rattle.reception.specs.declared.arrival.Arrived.{Arrived}
 use Rattle.reception.specs.Reception as receiver
 use Rattle.sending.specs.declared.acknowledging.Answer.{Answer}
 use Rattle.sending.specs.Acknowledge as sending
+use Rattle.sender.specs.declared.Sender.{Sender}
 use Rattle.sender.specs.Seen as sender
 use Rattle.acks.specs.declared.Acked.{Acked}
 use Rattle.acks.specs.Acks.{ackedHead, ackedWords, shutHead, shutWords}
 use Rattle.states.specs.declared.state.State.{State}
-use Rattle.states.specs.declared.state.State.the-variants.{Established, ShutdownReceived, ShutdownAckSent}
+use Rattle.states.specs.declared.state.State.the-variants.{Established, ShutdownAckSent}
 use Rattle.states.specs.declared.rows.Row.{Row}
 use Rattle.states.specs.declared.rows.Row.the-variants.{Refused, ReadData, ReadLateData, AnswerInit, TakeInitAck, ReadSack, ReadSackPending, ReadSackReceived, EchoHeartbeat, ClearTries, BecomeClosed, ReadShutdown, CrossShutdown, RepeatShutdownAck, ReflectComplete, SendComplete, PassError, ReadError, ReadEcho, BecomeEstablished, BecomeComplete, PassUnknown, TellUnknown}
-use Rattle.association.specs.Fresh.{withState, withReceiving, withSending}
+use Rattle.association.specs.declared.ends.Association.{Association}
+use Rattle.association.specs.Fresh.{withState}
 use Rattle.steps.specs.declared.chunk.Beside.{Beside}
 use Rattle.steps.specs.declared.lent.Echoed.{Echoed}
 use Rattle.steps.specs.declared.lent.Echoed.the-variants.{Bad, Stale, Good}
@@ -36,8 +38,8 @@ use Rattle.steps.specs.declared.verdict.Event.the-variants.{NoEvent, Up}
 use Rattle.steps.specs.declared.verdict.Named.the-variants.{NoCall}
 use Rattle.steps.specs.Verdict.{Step, accepted, refused}
 use Rattle.steps.specs.Opening as opening
-use Rattle.steps.specs.Carrying.{chunkOf, payloadOf, blocksOf, isKept, dataRead, shutdownOwed, shutdownAcked, areaIn, sackRead, isLast, sackReadThen, echoHeartbeat, clearTries}
-use Rattle.steps.specs.Closing.{becomeClosed, readError, shutdownRead, reflectComplete, sendComplete, becomeComplete}
+use Rattle.steps.specs.Carrying.{chunkOf, payloadOf, blocksOf, dataRead, lateDataRead, shutdownOwed, shutdownAcked, areaIn, sackRead, sackReadThen, echoHeartbeat, clearTries}
+use Rattle.steps.specs.Closing.{becomeClosed, readError, shutdownTaken, shutdownAnswered, reflectComplete, sendComplete, becomeComplete}
 use Rattle.steps.specs.Unknown.{passUnknown, tellUnknown}
 use Rattle.steps.specs.Steps.{rowMet}
 use Rattle.flat.specs.declared.head.Head.{Head}
@@ -54,24 +56,32 @@ heardData r streams s = receiver.told (ring (2 ^ 32)) rail r (asHeld (chunkOf s)
 unfoldable pub heldHeard : Receiving → ℕ → List ℕ → List ℕ → List ℕ
 heldHeard r streams held s = receiver.wordsAfter (ring (2 ^ 32)) rail r held (asHeld (chunkOf s) (length (payloadOf s))) streams
 
--- the answer as `steps` has it, with the words beside it
+-- an answer as `steps` has it, with the words beside it
 abbrev pub arrivalWith : Arrived → List ℕ → List ℕ → Arrival
 arrivalWith o held next = record { verdict = o .verdict; receiving = receiver.seen rail (o .keeping) held next }
 
--- the same, with no tables beside it
-abbrev pub arrivalBare : Head → List ℕ → List ℕ → List ℕ → Arrival
-arrivalBare h held next s = arrivalWith (heardData (receiver.seen rail (h .keeping) held next) (h .ends .«streams_in») s) [] []
+module _ (h : Head) (held next : List ℕ) where
+  -- the receiving side that is asked
+  abbrev pub side : Receiving
+  side = receiver.seen rail (h .keeping) held next
 
--- in ESTABLISHED and SHUTDOWN-PENDING
-unfoldable pub readDataBy : Head → List ℕ → List ℕ → List ℕ → Step
-readDataBy h held next s = dataRead (bare h) s (arrivalBare h held next s)
+  abbrev pub heldBy : List ℕ → List ℕ
+  heldBy s = heldHeard side (h .ends .«streams_in») held s
 
--- in SHUTDOWN-SENT
-unfoldable pub readLateDataBy : Head → List ℕ → List ℕ → List ℕ → Step
-readLateDataBy h held next s =
-    pick (isKept (arrivalBare h held next s .verdict))
-    (shutdownOwed (withReceiving (bare h) (arrivalBare h held next s .receiving)))
-    (dataRead (bare h) s (arrivalBare h held next s))
+  abbrev pub areaBy : List ℕ → List ℕ → List ℕ
+  areaBy area s = areaIn side (h .ends .«streams_in») area s
+
+  -- what is told of it, in which the words have no part
+  abbrev pub arrivalBy : List ℕ → Arrival
+  arrivalBy s = arrivalWith (heardData side (h .ends .«streams_in») s) [] []
+
+  -- in ESTABLISHED and SHUTDOWN-PENDING
+  unfoldable pub readDataBy : List ℕ → Step
+  readDataBy s = dataRead (bare h) s (arrivalBy s)
+
+  -- in SHUTDOWN-SENT
+  unfoldable pub readLateDataBy : List ℕ → Step
+  readLateDataBy s = lateDataRead (bare h) s (arrivalBy s)
 
 -- ---- SACK
 
@@ -79,54 +89,53 @@ abbrev pub sackIn : List ℕ → Sack
 sackIn s = sending.sackOf (sackOf s .point) (sackOf s .window) (blocksOf s)
 
 -- the sender's answer, and the words of the places then
-unfoldable pub heardSack : Head → List ℕ → List ℕ → Acked
-heardSack h places s = ackedHead railSizes rail (h .sender) places (sackIn s)
+unfoldable pub heardSack : Sender → List ℕ → List ℕ → Acked
+heardSack q places s = ackedHead railSizes rail q places (sackIn s)
 
-unfoldable pub placesSacked : Head → List ℕ → List ℕ → List ℕ
-placesSacked h places s = ackedWords rail (h .sender) places (sackIn s)
+unfoldable pub placesSacked : Sender → List ℕ → List ℕ → List ℕ
+placesSacked q places s = ackedWords rail q places (sackIn s)
 
 -- an answer as `steps` has it, with the words beside it
 abbrev pub answerWith : Acked → List ℕ → List ℕ → Answer
 answerWith o places nextOut = record { number = o .number; sending = sender.seen rail (o .head) places nextOut }
 
-abbrev pub sackAnswer : Head → List ℕ → List ℕ → Answer
-sackAnswer h places s = answerWith (heardSack h places s) (placesSacked h places s) []
+module _ (h : Head) (places : List ℕ) where
+  -- the next SSNs have no part in it
+  abbrev pub sackAnswer : List ℕ → Answer
+  sackAnswer s = answerWith (heardSack (h .sender) places s) (placesSacked (h .sender) places s) []
 
--- in ESTABLISHED
-unfoldable pub readSackBy : Head → List ℕ → List ℕ → Step
-readSackBy h places s = sackRead (bare h) (sackAnswer h places s)
+  -- in ESTABLISHED
+  unfoldable pub readSackBy : List ℕ → Step
+  readSackBy s = sackRead (bare h) (sackAnswer s)
 
--- in SHUTDOWN-PENDING
-unfoldable pub readSackPendingBy : Head → List ℕ → List ℕ → Step
-readSackPendingBy h places s = sackReadThen shutdownOwed (bare h) (sackAnswer h places s)
+  -- in SHUTDOWN-PENDING
+  unfoldable pub readSackPendingBy : List ℕ → Step
+  readSackPendingBy s = sackReadThen shutdownOwed (bare h) (sackAnswer s)
 
--- in SHUTDOWN-RECEIVED
-unfoldable pub readSackReceivedBy : Head → List ℕ → List ℕ → Step
-readSackReceivedBy h places s = sackReadThen (λ q. shutdownAcked q (ShutdownAckSent 0)) (bare h) (sackAnswer h places s)
+  -- in SHUTDOWN-RECEIVED
+  unfoldable pub readSackReceivedBy : List ℕ → Step
+  readSackReceivedBy s = sackReadThen (λ (q : Association). shutdownAcked q (ShutdownAckSent 0)) (bare h) (sackAnswer s)
 
 -- ---- SHUTDOWN
 
 -- the sender's answer to its point, and the words of the places then
-unfoldable pub heardShutdown : Head → List ℕ → List ℕ → Acked
-heardShutdown h places s = shutHead railSizes rail (h .sender) places (pointOf s)
+unfoldable pub heardPoint : Sender → List ℕ → List ℕ → Acked
+heardPoint q places s = shutHead railSizes rail q places (pointOf s)
 
-unfoldable pub placesShut : Head → List ℕ → List ℕ → List ℕ
-placesShut h places s = shutWords rail (h .sender) places (pointOf s)
+unfoldable pub placesShut : Sender → List ℕ → List ℕ → List ℕ
+placesShut q places s = shutWords rail q places (pointOf s)
 
-abbrev pub shutAnswer : Head → List ℕ → List ℕ → Answer
-shutAnswer h places s = answerWith (heardShutdown h places s) (placesShut h places s) []
+module _ (h : Head) (places : List ℕ) where
+  abbrev pub pointAnswer : List ℕ → Answer
+  pointAnswer s = answerWith (heardPoint (h .sender) places s) (placesShut (h .sender) places s) []
 
--- in ESTABLISHED, SHUTDOWN-PENDING and SHUTDOWN-RECEIVED
-unfoldable pub readShutdownBy : Head → List ℕ → List ℕ → Step
-readShutdownBy h places s =
-    pick (isLast (shutAnswer h places s))
-    (shutdownAcked (withSending (bare h) (shutAnswer h places s .sending)) (ShutdownAckSent 0))
-    (shutdownRead (bare h) (shutAnswer h places s) (accepted (withState (withSending (bare h) (shutAnswer h places s .sending)) ShutdownReceived) NoEvent []))
+  -- in ESTABLISHED, SHUTDOWN-PENDING and SHUTDOWN-RECEIVED
+  unfoldable pub readShutdownBy : List ℕ → Step
+  readShutdownBy s = shutdownTaken (bare h) (pointAnswer s)
 
--- in SHUTDOWN-SENT and SHUTDOWN-ACK-SENT, in the state that it leads to
-unfoldable pub answerShutdownBy : Head → State → List ℕ → List ℕ → Step
-answerShutdownBy h state places s =
-    shutdownRead (bare h) (shutAnswer h places s) (shutdownAcked (withSending (bare h) (shutAnswer h places s .sending)) state)
+  -- in SHUTDOWN-SENT and SHUTDOWN-ACK-SENT, in the state that it leads to
+  unfoldable pub answerShutdownBy : State → List ℕ → Step
+  answerShutdownBy state s = shutdownAnswered (bare h) state (pointAnswer s)
 
 -- ---- fresh starts
 
@@ -150,9 +159,9 @@ isStarting e s = pick (opening.isOdd (partFrom 4 s .len)) false (isGood e)
 abbrev pub clearedIf : Bool → ℕ → List ℕ → List ℕ
 clearedIf t n ws = pick t (replicate n 0) ws
 
--- the bytes of the cookie that an INIT ACK brings
-abbrev pub cookieKept : List ℕ → List ℕ
-cookieKept s = opening.kept (bytesIn s (valueOf COOKIE 4 s)) .bytes
+-- the bytes of the cookie that an INIT ACK brings, in place of the kept ones
+abbrev pub keptIf : Bool → List ℕ → List ℕ → List ℕ
+keptIf t s kept = pick t (opening.kept (bytesIn s (valueOf COOKIE 4 s)) .bytes) kept
 
 -- ---- one chunk
 
@@ -174,12 +183,12 @@ module _ (h : Head) (held next places nextOut kept area s : List ℕ) where
   abbrev pub dataLeft : Step → Left
   dataLeft d = record {
     step = d;
-    held = heldHeard (receiver.seen rail (h .keeping) held next) (h .ends .«streams_in») held s;
+    held = heldBy h held next s;
     next = next;
     places = places;
     nextOut = nextOut;
     kept = kept;
-    area = areaIn (receiver.seen rail (h .keeping) held next) (h .ends .«streams_in») area s;
+    area = areaBy h held next area s;
   }
 
   abbrev pub placesLeft : List ℕ → Step → Left
@@ -192,7 +201,7 @@ module _ (h : Head) (held next places nextOut kept area s : List ℕ) where
     next = clearedIf (isTaken s) 128 next;
     places = places;
     nextOut = nextOut;
-    kept = pick (isTaken s) (cookieKept s) kept;
+    kept = keptIf (isTaken s) s kept;
     area = area;
   }
 
@@ -216,22 +225,26 @@ module _ (h : Head) (held next places nextOut kept area s : List ℕ) where
   rowLeft room b cookie BecomeEstablished = headLeft (accepted (withState (bare h) Established) Up [])
   rowLeft room b cookie ReadData = dataLeft (readDataBy h held next s)
   rowLeft room b cookie ReadLateData = dataLeft (readLateDataBy h held next s)
-  rowLeft room b cookie ReadSack = placesLeft (placesSacked h places s) (readSackBy h places s)
-  rowLeft room b cookie ReadSackPending = placesLeft (placesSacked h places s) (readSackPendingBy h places s)
-  rowLeft room b cookie ReadSackReceived = placesLeft (placesSacked h places s) (readSackReceivedBy h places s)
+  rowLeft room b cookie ReadSack = placesLeft (placesSacked (h .sender) places s) (readSackBy h places s)
+  rowLeft room b cookie ReadSackPending = placesLeft (placesSacked (h .sender) places s) (readSackPendingBy h places s)
+  rowLeft room b cookie ReadSackReceived = placesLeft (placesSacked (h .sender) places s) (readSackReceivedBy h places s)
   rowLeft room b cookie EchoHeartbeat = headLeft (echoHeartbeat (bare h) s)
   rowLeft room b cookie ClearTries = headLeft (clearTries (bare h))
   rowLeft room b cookie BecomeClosed = headLeft (becomeClosed (bare h))
   rowLeft room b cookie PassError = headLeft (accepted (bare h) NoEvent [])
   rowLeft room b cookie ReadError = headLeft (readError (bare h) s)
-  rowLeft room b cookie ReadShutdown = placesLeft (placesShut h places s) (readShutdownBy h places s)
-  rowLeft room b cookie CrossShutdown = placesLeft (placesShut h places s) (answerShutdownBy h (ShutdownAckSent 0) places s)
-  rowLeft room b cookie RepeatShutdownAck = placesLeft (placesShut h places s) (answerShutdownBy h (h .state) places s)
+  rowLeft room b cookie ReadShutdown = placesLeft (placesShut (h .sender) places s) (readShutdownBy h places s)
+  rowLeft room b cookie CrossShutdown = placesLeft (placesShut (h .sender) places s) (answerShutdownBy h places (ShutdownAckSent 0) s)
+  rowLeft room b cookie RepeatShutdownAck = placesLeft (placesShut (h .sender) places s) (answerShutdownBy h places (h .state) s)
   rowLeft room b cookie ReflectComplete = headLeft (reflectComplete (bare h))
   rowLeft room b cookie SendComplete = headLeft (sendComplete (bare h))
   rowLeft room b cookie BecomeComplete = headLeft (becomeComplete (bare h))
   rowLeft room b cookie (PassUnknown k) = headLeft (passUnknown (bare h) k)
   rowLeft room b cookie (TellUnknown k) = headLeft (tellUnknown (bare h) k s)
+
+  -- the reply of the row that the chunk meets
+  abbrev pub replyBy : ℕ → Beside → List ℕ → List ℕ
+  replyBy room b cookie = rowLeft room b cookie (rowMet (bare h) b s) .step .reply
 
 -- the result and all that is lent: held chunks, next expected SSNs, places to send, next SSNs, the bytes of the cookie, the area, the output
 pub record Rowed : Type 0 where
