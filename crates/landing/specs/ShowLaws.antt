@@ -6,16 +6,16 @@ use mathlib.Core.List.{List, _++_}
 use native.Mathlib.Decide.{decLt}
 use native.Mathlib.Omega.{arith}
 use lib.Dec.{ltb, eqb}
-use lib.ListN.{length, take, drop, set, replicate, length-append, length-drop, length-replicate}
+use lib.ListN.{length, take, drop, set, replicate, length-append, length-drop, length-replicate, take-append-drop}
 use lib.Seq.{length-take-le}
 use Rattle.scans.specs.Scan.{pick}
+use Rattle.scans.specs.Each.{All}
 use Rattle.octets.specs.BytesLaws.{part-is, kept-part}
 use Rattle.octets.specs.Walk.{size, overItems}
 use Rattle.octets.specs.WalkLaws.{size-least, over-on, over-end}
-use Rattle.octets.specs.Writing.{wroteBytes}
+use Rattle.packets.specs.Header.{headerOf}
 use Rattle.holding.specs.Held.{asHeld}
 use Rattle.reception.specs.ReceptionLaws.{Fitting}
-use Rattle.packets.specs.Header.{headerOf}
 use Rattle.association.specs.declared.ends.Association.{Association}
 use Rattle.association.specs.Heads.{headTo}
 use Rattle.steps.specs.declared.chunk.Beside.{Beside}
@@ -24,18 +24,15 @@ use Rattle.steps.specs.declared.lent.Echoed.{Echoed}
 use Rattle.steps.specs.declared.verdict.Owed.{Owed}
 use Rattle.steps.specs.declared.verdict.Owed.the-variants.{Nothing, Shutdown, Complete, Reflected}
 use Rattle.steps.specs.Lent.{heeded}
-use Rattle.steps.specs.Verdict.{doneIn}
 use Rattle.steps.specs.Carrying.{chunkOf, payloadOf}
-use Rattle.steps.specs.Steps as one
-use Rattle.steps.specs.Steps.{stepOf}
 use Rattle.arriving.specs.declared.arrival.Arrived.{Arrived}
 use Rattle.arriving.specs.declared.verdict.Verdict.{Verdict}
 use Rattle.arriving.specs.declared.walk.Walked.{Walked}
 use Rattle.arriving.specs.Verdict.{unreadAt}
 use Rattle.arriving.specs.Walked as value
+use Rattle.arriving.specs.Walked.{noted, takenIn, besideAt}
 use Rattle.arriving.specs.WalkedLaws as value-laws
 use Rattle.arriving.specs.WalkedLaws.{walkedAs}
-use Rattle.arriving.specs.Walked.{noted, takenIn, besideAt}
 use Rattle.arriving.specs.Reply.{isSilenced, endedBy, closedBy, wholeReply, initiateTag, replyTag, sentLength, sentOut}
 use Rattle.arriving.specs.Arrival as value-arrival
 use Rattle.arriving.specs.Arrival.{refusedWith, answeredLength, answeredOut, acceptedAs, numberOf, arrivedOf, areaOf, outOf}
@@ -43,10 +40,10 @@ use Rattle.flat.specs.declared.head.Head.{Head}
 use Rattle.flat.specs.Shown.{shown}
 use Rattle.rows.specs.Rows.{Rowed, rowed}
 use Rattle.rows.specs.RowsLaws.{Sized, rowed-space, rowed-sized}
-use Rattle.rows.specs.ShowLaws.{doneShown}
+use Rattle.rows.specs.ShowLaws.{doneShown, rows-show}
 use Rattle.landing.specs.declared.walk.Walk.{Walk}
-use Rattle.landing.specs.Verdicts.{verdictAt, wordsOf, countAfter}
-use Rattle.landing.specs.VerdictsLaws.{verdictsNoted, Telling, telling-none, telling-one}
+use Rattle.landing.specs.Verdicts.{verdictAt, wordsOf, verdictsOf, countAfter}
+use Rattle.landing.specs.VerdictsLaws.{Small, words-back, verdictsNoted, Telling, telling-none, telling-one}
 use Rattle.landing.specs.Walk.{Turn, turnOf, begun, bareWalked, unreadTurn, readTurn, rowedAt, turned, inPart, inWhole, turnedIn, walkedOver}
 use Rattle.landing.specs.WalkLaws.{so, not-so}
 use Rattle.landing.specs.Landing.{After, afterOf, refusedAs, gathered, passed, letIn, landed}
@@ -75,19 +72,8 @@ pub record Shows (lent : List ℕ) (t : Turn) (u : value.Turn) : Type 0 where
   pub fit : t .walk .used ≤ 1460
   pub telling : Telling lent (t .verdicts) (t .walk .count) verdicts
 
--- ---- what a row shows
-
-abbrev RowShows : Type 0
-RowShows =
-    (h : Head) (held next places nextOut kept s : List ℕ) → Sized held next places nextOut kept → Fitting (asHeld (chunkOf s) (length (payloadOf s)))
-    → (area : List ℕ) (b : Beside) (cookie space : List ℕ)
-    → (let t : Rowed = rowed b cookie s h held next places nextOut kept area space in
-    (doneShown t ≡ doneIn space (stepOf (length space) (shown h held next places nextOut kept) b cookie s))
-    × (t .area ≡ one.areaOf (shown h held next places nextOut kept) b area s)
-    × (t .space ≡ wroteBytes space (stepOf (length space) (shown h held next places nextOut kept) b cookie s .reply)))
-
 -- the fields of the chunk at the head of s, read as a DATA, are within their types
-abbrev Fielded : List ℕ → Type 0
+abbrev pub Fielded : List ℕ → Type 0
 Fielded s = Fitting (asHeld (chunkOf s) (length (payloadOf s)))
 
 -- ---- one chunk
@@ -102,7 +88,7 @@ noted-as a n vs used unread due o v = go (ltb n 365)
     go true = refl
     go false = refl
 
-module _ (row-shows : RowShows) (at : ℕ) (b : Beside) (cookie s : List ℕ) (fielded : Fielded s) where
+module _ (at : ℕ) (b : Beside) (cookie s : List ℕ) (fielded : Fielded s) where
   module _ (lent : List ℕ) (t : Turn) (vs : List Verdict) (sized : TurnSized t) (long : length (t .space) ≡ 1460) (fit : t .walk .used ≤ 1460)
       (telling : Telling lent (t .verdicts) (t .walk .count) vs) where
     abbrev then : value.Turn
@@ -156,7 +142,7 @@ module _ (row-shows : RowShows) (at : ℕ) (b : Beside) (cookie s : List ℕ) (f
 
     read-shows : t .walk .unread ≡ false → Shows lent (turnedIn at b cookie s t) then
     read-shows h =
-        let w = row-shows (t .walk .head) (t .held) (t .next) (t .places) (t .nextOut) (t .kept) s sized fielded (t .area) (besideAt at b) cookie (inPart t .space) in
+        let w = rows-show (t .walk .head) (t .held) (t .next) (t .places) (t .nextOut) (t .kept) s sized fielded (t .area) (besideAt at b) cookie (inPart t .space) in
         let r = value-laws.turn-read at b cookie s (walkedWith t vs) (t .area) (t .space) long fit (w .0) (w .2) h (w .1) taken-as in
         subst (λ (x : Turn). Shows lent x then) (read-turned h)
         (record {
@@ -191,7 +177,7 @@ over-both {R} {S} P f g s k (suc n) r q at h p =
     go (yes l) w = rw (over-on f r s at l, over-on g q s at l) w
     go (no l) w = rw (over-end f r s at (omega arith), over-end g q s at (omega arith)) p
 
-module _ (row-shows : RowShows) (packet : List ℕ) (fielded : (at : ℕ) → Fielded (drop at packet)) (lent : Lent) (cookie : List ℕ) (h : Head) (held next places nextOut kept area verdicts : List ℕ)
+module _ (packet : List ℕ) (fielded : (at : ℕ) → Fielded (drop at packet)) (lent : Lent) (cookie : List ℕ) (h : Head) (held next places nextOut kept area verdicts : List ℕ)
     (sized : Sized held next places nextOut kept) (words : length verdicts ≡ 1460) where
   abbrev before : Association
   before = shown h held next places nextOut kept
@@ -211,7 +197,7 @@ module _ (row-shows : RowShows) (packet : List ℕ) (fielded : (at : ℕ) → Fi
   unfolding passed value-arrival.passed walkedOver value.walkedOver
   passed-shows e =
       over-both (Shows verdicts) _ _ packet
-      (λ t u at w. turn-shows row-shows (length packet - length (drop at packet)) _ cookie (drop at packet) (fielded at) verdicts t u w) (length packet) _ _ 12 (omega arith) begun-shows
+      (λ t u at w. turn-shows (length packet - length (drop at packet)) _ cookie (drop at packet) (fielded at) verdicts t u w) (length packet) _ _ 12 (omega arith) begun-shows
 
 -- ---- the answer
 
@@ -260,6 +246,7 @@ pub record Arriving (x : After) (r : Arrived) (area' out' lent : List ℕ) : Typ
   pub rest : drop (4 * r .count) (x .verdicts) ≡ drop (4 * r .count) lent
   pub sized : Sized (x .held) (x .next) (x .places) (x .nextOut) (x .kept)
   pub words : length (x .verdicts) ≡ 1460
+  pub few : r .count ≤ length (r .verdicts)
 
 let-in-shows : (lent : List ℕ) (t : Turn) (u : value.Turn) (packet out : List ℕ) → Shows lent t u
     → Arriving (letIn t packet out) (acceptedAs (u .walked) (answeredLength (u .walked) packet (u .reply) out)) (u .area) (answeredOut (u .walked) packet (u .reply) out) lent
@@ -277,9 +264,10 @@ let-in-shows lent t u packet out w =
       rest = w .telling .rest;
       sized = w .sized;
       words = w .telling .long;
+      few = omega (arith, w .telling .few, w .telling .room);
     })
 
-module _ (row-shows : RowShows) (packet : List ℕ) (fielded : (at : ℕ) → Fielded (drop at packet)) (lent : Lent) (cookie : List ℕ) (e : Echoed) (h : Head)
+module _ (packet : List ℕ) (fielded : (at : ℕ) → Fielded (drop at packet)) (lent : Lent) (cookie : List ℕ) (e : Echoed) (h : Head)
     (held next places nextOut kept area verdicts out : List ℕ) (sized : Sized held next places nextOut kept) (words : length verdicts ≡ 1460) where
   abbrev a : Association
   a = shown h held next places nextOut kept
@@ -303,6 +291,7 @@ module _ (row-shows : RowShows) (packet : List ℕ) (fielded : (at : ℕ) → Fi
     rest = refl;
     sized = sized;
     words = words;
+    few = omega arith;
   }
 
   pub arrived-shows : Arriving (landed packet lent cookie e h held next places nextOut kept area verdicts out) (arrivedOf a area packet lent cookie e out) (areaOf a area packet lent cookie e out) (outOf a area packet lent cookie e out) verdicts
@@ -318,5 +307,13 @@ module _ (row-shows : RowShows) (packet : List ℕ) (fielded : (at : ℕ) → Fi
           verdicts
       go true =
           let-in-shows verdicts turns turnsOf packet out
-          (passed-shows row-shows packet fielded lent cookie h held next places nextOut kept area verdicts sized words (heeded e))
+          (passed-shows packet fielded lent cookie h held next places nextOut kept area verdicts sized words (heeded e))
       go false = refused-shows (numberOf a area packet e out)
+
+-- read back, the words are the verdicts, where each is within its words: a packet has no more than 1,472 bytes, and each number its type
+pub verdicts-show : {x : After} {r : Arrived} {area' out' lent : List ℕ} → Arriving x r area' out' lent → All Small (take (r .count) (r .verdicts)) → verdictsOf (x .landed .count) (x .verdicts) ≡ take (r .count) (r .verdicts)
+verdicts-show {x} {r} a s =
+    let n : length (take (r .count) (r .verdicts)) ≡ r .count = length-take-le (r .count) (r .verdicts) (a .few) in
+    let e : x .verdicts ≡ wordsOf (take (r .count) (r .verdicts)) ++ drop (4 * r .count) (x .verdicts) =
+    sym (take-append-drop (4 * r .count) (x .verdicts)) ∙ ap (λ (l : List ℕ). l ++ drop (4 * r .count) (x .verdicts)) (a .told) in
+    (λ i. verdictsOf ((a .count ∙ sym n) i) (e i)) ∙ words-back (take (r .count) (r .verdicts)) (drop (4 * r .count) (x .verdicts)) s

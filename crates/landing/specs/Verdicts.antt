@@ -1,7 +1,8 @@
 -- The verdicts of a packet's chunks as words that the host lends: four for each chunk, in the packet's order.
-use Prim.Native.Nat.{ℕ, _+_, _*_, _%_}
+use Prim.Native.Nat.{ℕ, zero, suc, _+_, _*_, _/_, _%_}
 use mathlib.Core.List.{List, [], _∷_, _++_}
 use lib.Dec.{ltb}
+use lib.ListN.{getD, drop}
 use Rattle.scans.specs.Scan.{pick}
 use Rattle.octets.specs.Bytes.{laid}
 use Rattle.arriving.specs.declared.verdict.Verdict.{Verdict}
@@ -16,6 +17,21 @@ verdictWords v = (v .at % 65536) ∷ v .value ∷ (v .fate * 256 + v .number) �
 abbrev pub wordsOf : List Verdict → List ℕ
 wordsOf [] = []
 wordsOf (v ∷ vs) = verdictWords v ++ wordsOf vs
+
+-- the verdict that four words tell, and so many of them one behind the other
+abbrev pub verdictOf : List ℕ → Verdict
+verdictOf ws = record {
+  at = getD ws 0 0;
+  value = getD ws 1 0;
+  fate = getD ws 2 0 / 256;
+  number = getD ws 2 0 % 256;
+  cause = getD ws 3 0 / 256;
+  event = getD ws 3 0 % 256;
+}
+
+abbrev pub verdictsOf : ℕ → List ℕ → List Verdict
+verdictsOf zero ws = []
+verdictsOf (suc n) ws = verdictOf ws ∷ verdictsOf n (drop 4 ws)
 
 -- the verdict of what became of the chunk at `at`
 abbrev pub verdictAt : ℕ → Stepped → Verdict
