@@ -6,7 +6,6 @@ use mathlib.Core.List.{List, []}
 use lib.ListN.{length, replicate, length-replicate}
 use lib.Dec.{ltb}
 use borrow.Author.Tests.{ltb-true, ltb-false}
-use Rattle.scans.specs.Scan.{pick}
 use Rattle.scans.specs.Upto.{pick-keeps}
 use Rattle.numbers.specs.Numbering.{ring}
 use Rattle.numbers.specs.Profile.{rail}

@@ -30,7 +30,11 @@ pub fn read_error(head: Head, s: &[u8]) -> Stepped
     ensures { λ r. ⌜ r ≡ steppedWith 0 (readError (bare head) (now (s .entry))) ⌝ }
 {
     if parameters::stale::is_stale(s) {
-        return Stepped::accepted(head.moved(State::Closed), Event::Down(Reason::StaleCookie), 0);
+        return Stepped::accepted(
+            head.moved(State::Closed),
+            Event::Down(Reason::StaleCookie),
+            0,
+        );
     }
     Stepped::accepted(head, Event::NoEvent, 0)
 }
@@ -90,12 +94,7 @@ fn answer_shutdown(
 }
 
 // A SHUTDOWN that crosses ours.
-pub fn cross_shutdown(
-    head: Head,
-    places: &mut [u32; 1024],
-    s: &[u8],
-    space: &mut [u8],
-) -> Stepped
+pub fn cross_shutdown(head: Head, places: &mut [u32; 1024], s: &[u8], space: &mut [u8]) -> Stepped
     ensures { λ r. ⌜ (r ≡ steppedIn (now (space .entry)) (answerShutdownBy head (now (places .entry)) (ShutdownAckSent 0) (now (s .entry))))
         × (now (places .exit) ≡ placesShut (head .sender) (now (places .entry)) (now (s .entry)))
         × (now (space .exit) ≡ wroteBytes (now (space .entry)) (answerShutdownBy head (now (places .entry)) (ShutdownAckSent 0) (now (s .entry)) .reply)) ⌝ }

@@ -1,4 +1,4 @@
-use mathlib.Core.Path.{refl, sym, ap, _∙_}
+use mathlib.Core.Path.{refl}
 use mathlib.Core.List.{[]}
 use Rattle.steps.specs.Carrying.{sackRead}
 use Rattle.flat.specs.Shown.{bare}

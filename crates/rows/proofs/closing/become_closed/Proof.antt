@@ -1,4 +1,4 @@
-use mathlib.Core.Path.{refl, sym, ap, _∙_}
+use mathlib.Core.Path.{ap, _∙_}
 use Rattle.rows.specs.Stepped.{unreadOf}
 use borrow.Author.Needs.{needs}
 use Rattle.rows.proofs.closing.become_closed.Statement.{statement}

@@ -1,4 +1,4 @@
-use mathlib.Core.Path.{refl, sym, ap, _∙_}
+use mathlib.Core.Path.{refl}
 use Rattle.steps.specs.VerdictLaws.{part-bytes}
 use Rattle.steps.specs.declared.verdict.Named.the-variants.{NoCall}
 use Rattle.steps.specs.Verdict.{refused}

@@ -1,6 +1,6 @@
 use Prim.Native.Nat.{ℕ}
 use mathlib.Core.List.{List}
-use mathlib.Core.Path.{refl, sym, ap, _∙_}
+use mathlib.Core.Path.{refl, ap, _∙_}
 use Rattle.octets.specs.Bytes.{laid}
 use borrow.Author.Needs.{needs}
 use Rattle.rows.proofs.opening.keep.Statement.{statement}

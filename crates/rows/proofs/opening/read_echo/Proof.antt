@@ -1,4 +1,4 @@
-use mathlib.Core.Path.{refl, sym, ap, _∙_}
+use mathlib.Core.Path.{refl, ap, _∙_}
 use Rattle.steps.specs.declared.verdict.Named.the-variants.{NoCall, ErrorStale}
 use Rattle.steps.specs.Verdict.{refused, ending}
 use Rattle.steps.specs.Opening.{established, readEcho}

@@ -1,4 +1,4 @@
-use mathlib.Core.Path.{refl, sym, ap, _∙_}
+use mathlib.Core.Path.{refl, sym, _∙_}
 use Rattle.states.specs.declared.state.State.the-variants.{Closed}
 use Rattle.association.specs.Fresh.{withState}
 use Rattle.steps.specs.declared.verdict.Named.the-variants.{NoCall}

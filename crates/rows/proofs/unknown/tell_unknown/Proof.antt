@@ -1,4 +1,4 @@
-use mathlib.Core.Path.{refl, sym, ap, _∙_}
+use mathlib.Core.Path.{refl}
 use mathlib.Core.List.{[]}
 use mathlib.Core.Bool.{true, false}
 use Rattle.steps.specs.declared.verdict.Fate.the-variants.{Skipped, SkippedAndReported, Stopped, StoppedAndReported}
