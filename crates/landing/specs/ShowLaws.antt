@@ -14,8 +14,7 @@ use Rattle.octets.specs.BytesLaws.{part-is, kept-part}
 use Rattle.octets.specs.Walk.{size, overItems}
 use Rattle.octets.specs.WalkLaws.{size-least, over-on, over-end}
 use Rattle.packets.specs.Header.{headerOf}
-use Rattle.holding.specs.Held.{asHeld}
-use Rattle.reception.specs.ReceptionLaws.{Fitting}
+use Rattle.chunks.specs.Again.{Octet}
 use Rattle.association.specs.declared.ends.Association.{Association}
 use Rattle.association.specs.Heads.{headTo}
 use Rattle.steps.specs.declared.chunk.Beside.{Beside}
@@ -24,7 +23,6 @@ use Rattle.steps.specs.declared.lent.Echoed.{Echoed}
 use Rattle.steps.specs.declared.verdict.Owed.{Owed}
 use Rattle.steps.specs.declared.verdict.Owed.the-variants.{Nothing, Shutdown, Complete, Reflected}
 use Rattle.steps.specs.Lent.{heeded}
-use Rattle.steps.specs.Carrying.{chunkOf, payloadOf}
 use Rattle.arriving.specs.declared.arrival.Arrived.{Arrived}
 use Rattle.arriving.specs.declared.verdict.Verdict.{Verdict}
 use Rattle.arriving.specs.declared.walk.Walked.{Walked}
@@ -33,6 +31,7 @@ use Rattle.arriving.specs.Walked as value
 use Rattle.arriving.specs.Walked.{noted, takenIn, besideAt}
 use Rattle.arriving.specs.WalkedLaws as value-laws
 use Rattle.arriving.specs.WalkedLaws.{walkedAs}
+use Rattle.arriving.specs.KeptLaws.{all-drop}
 use Rattle.arriving.specs.Reply.{isSilenced, endedBy, closedBy, wholeReply, initiateTag, replyTag, sentLength, sentOut}
 use Rattle.arriving.specs.Arrival as value-arrival
 use Rattle.arriving.specs.Arrival.{refusedWith, answeredLength, answeredOut, acceptedAs, numberOf, arrivedOf, areaOf, outOf}
@@ -40,7 +39,7 @@ use Rattle.flat.specs.declared.head.Head.{Head}
 use Rattle.flat.specs.Shown.{shown}
 use Rattle.rows.specs.Rows.{Rowed, rowed}
 use Rattle.rows.specs.RowsLaws.{Sized, rowed-space, rowed-sized}
-use Rattle.rows.specs.ShowLaws.{doneShown, rows-show}
+use Rattle.rows.specs.ShowLaws.{doneShown, octets-fit, rows-show}
 use Rattle.landing.specs.declared.walk.Walk.{Walk}
 use Rattle.landing.specs.Verdicts.{verdictAt, wordsOf, verdictsOf, countAfter}
 use Rattle.landing.specs.VerdictsLaws.{Small, words-back, verdictsNoted, Telling, telling-none, telling-one}
@@ -72,10 +71,6 @@ pub record Shows (lent : List ℕ) (t : Turn) (u : value.Turn) : Type 0 where
   pub fit : t .walk .used ≤ 1460
   pub telling : Telling lent (t .verdicts) (t .walk .count) verdicts
 
--- the fields of the chunk at the head of s, read as a DATA, are within their types
-abbrev pub Fielded : List ℕ → Type 0
-Fielded s = Fitting (asHeld (chunkOf s) (length (payloadOf s)))
-
 -- ---- one chunk
 
 noted-as : (a : Association) (n : ℕ) (vs : List Verdict) (used : ℕ) (unread due : Bool) (o : Owed) (v : Verdict)
@@ -88,7 +83,7 @@ noted-as a n vs used unread due o v = go (ltb n 365)
     go true = refl
     go false = refl
 
-module _ (at : ℕ) (b : Beside) (cookie s : List ℕ) (fielded : Fielded s) where
+module _ (at : ℕ) (b : Beside) (cookie s : List ℕ) (octets : All Octet s) where
   module _ (lent : List ℕ) (t : Turn) (vs : List Verdict) (sized : TurnSized t) (long : length (t .space) ≡ 1460) (fit : t .walk .used ≤ 1460)
       (telling : Telling lent (t .verdicts) (t .walk .count) vs) where
     abbrev then : value.Turn
@@ -142,7 +137,7 @@ module _ (at : ℕ) (b : Beside) (cookie s : List ℕ) (fielded : Fielded s) whe
 
     read-shows : t .walk .unread ≡ false → Shows lent (turnedIn at b cookie s t) then
     read-shows h =
-        let w = rows-show (t .walk .head) (t .held) (t .next) (t .places) (t .nextOut) (t .kept) s sized fielded (t .area) (besideAt at b) cookie (inPart t .space) in
+        let w = rows-show (t .walk .head) (t .held) (t .next) (t .places) (t .nextOut) (t .kept) s sized (octets-fit s octets) (t .area) (besideAt at b) cookie (inPart t .space) in
         let r = value-laws.turn-read at b cookie s (walkedWith t vs) (t .area) (t .space) long fit (w .0) (w .2) h (w .1) taken-as in
         subst (λ (x : Turn). Shows lent x then) (read-turned h)
         (record {
@@ -177,7 +172,7 @@ over-both {R} {S} P f g s k (suc n) r q at h p =
     go (yes l) w = rw (over-on f r s at l, over-on g q s at l) w
     go (no l) w = rw (over-end f r s at (omega arith), over-end g q s at (omega arith)) p
 
-module _ (packet : List ℕ) (fielded : (at : ℕ) → Fielded (drop at packet)) (lent : Lent) (cookie : List ℕ) (h : Head) (held next places nextOut kept area verdicts : List ℕ)
+module _ (packet : List ℕ) (octets : All Octet packet) (lent : Lent) (cookie : List ℕ) (h : Head) (held next places nextOut kept area verdicts : List ℕ)
     (sized : Sized held next places nextOut kept) (words : length verdicts ≡ 1460) where
   abbrev before : Association
   before = shown h held next places nextOut kept
@@ -197,7 +192,7 @@ module _ (packet : List ℕ) (fielded : (at : ℕ) → Fielded (drop at packet))
   unfolding passed value-arrival.passed walkedOver value.walkedOver
   passed-shows e =
       over-both (Shows verdicts) _ _ packet
-      (λ t u at w. turn-shows (length packet - length (drop at packet)) _ cookie (drop at packet) (fielded at) verdicts t u w) (length packet) _ _ 12 (omega arith) begun-shows
+      (λ t u at w. turn-shows (length packet - length (drop at packet)) _ cookie (drop at packet) (all-drop Octet at packet octets) verdicts t u w) (length packet) _ _ 12 (omega arith) begun-shows
 
 -- ---- the answer
 
@@ -267,7 +262,7 @@ let-in-shows lent t u packet out w =
       few = omega (arith, w .telling .few, w .telling .room);
     })
 
-module _ (packet : List ℕ) (fielded : (at : ℕ) → Fielded (drop at packet)) (lent : Lent) (cookie : List ℕ) (e : Echoed) (h : Head)
+module _ (packet : List ℕ) (octets : All Octet packet) (lent : Lent) (cookie : List ℕ) (e : Echoed) (h : Head)
     (held next places nextOut kept area verdicts out : List ℕ) (sized : Sized held next places nextOut kept) (words : length verdicts ≡ 1460) where
   abbrev a : Association
   a = shown h held next places nextOut kept
@@ -307,7 +302,7 @@ module _ (packet : List ℕ) (fielded : (at : ℕ) → Fielded (drop at packet))
           verdicts
       go true =
           let-in-shows verdicts turns turnsOf packet out
-          (passed-shows packet fielded lent cookie h held next places nextOut kept area verdicts sized words (heeded e))
+          (passed-shows packet octets lent cookie h held next places nextOut kept area verdicts sized words (heeded e))
       go false = refused-shows (numberOf a area packet e out)
 
 -- read back, the words are the verdicts, where each is within its words: a packet has no more than 1,472 bytes, and each number its type
