@@ -1,0 +1,2 @@
+-- What crate `lending` asks for.
+pub mod Outcomes
