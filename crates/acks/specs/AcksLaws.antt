@@ -97,3 +97,13 @@ module _ (z : Sizes) (P : Profile) (h : Sender) (ws ns : List ℕ) (l : 8 * P .p
       go true true = refl
       go true false = ap (λ (s : Sending). record { number = 0; over = false; sending = s }) overdue-shows
       go false t = refl
+
+-- T3 leaves the table as long as it was
+pub expired-long : (z : Sizes) (P : Profile) (h : Sender) (ws : List ℕ) → length (expiredWords z P h ws) ≡ length ws
+unfolding expiredWords overdueWords
+expired-long z P h ws = go (hasOutstanding (seen P h ws [])) (way.isOver z (h .path))
+  where
+    go : (s t : Bool) → length (pick s (pick t ws (overdueWords P ws)) ws) ≡ length ws
+    go true true = refl
+    go true false = states-long P _ marked ws
+    go false t = refl

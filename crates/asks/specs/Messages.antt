@@ -28,16 +28,20 @@ pub record Handover : Type 0 where
   pub places : List ℕ
   pub area : List ℕ
 
--- 19 and 20 are the sending side's, where the number that bars the call is 0
+-- 19 and 20 are the sending side's
+abbrev pub handedBy : Head → List ℕ → List ℕ → List ℕ → StreamId → Bool → ℕ → Handover
+handedBy h places area message stream unordered ppid = record {
+  answer = sender.handing rail (h .sender) places (length message) stream (h .ends .«streams_out»);
+  places = sender.handedWords rail (h .sender) places (length message) stream unordered ppid (h .ends .«streams_out»);
+  area = sender.handedArea rail (h .sender) places area message stream (h .ends .«streams_out»);
+}
+
+abbrev pub notHanded : ℕ → List ℕ → List ℕ → Handover
+notHanded n places area = record { answer = record { number = n; chunks = 0 }; places = places; area = area }
+
+-- by the number that bars the call
 unfoldable pub handedOver : ℕ → Head → List ℕ → List ℕ → List ℕ → StreamId → Bool → ℕ → Handover
-handedOver n h places area message stream unordered ppid =
-    pick (eqb n 0)
-    (record {
-      answer = sender.handing rail (h .sender) places (length message) stream (h .ends .«streams_out»);
-      places = sender.handedWords rail (h .sender) places (length message) stream unordered ppid (h .ends .«streams_out»);
-      area = sender.handedArea rail (h .sender) places area message stream (h .ends .«streams_out»);
-    })
-    (record { answer = record { number = n; chunks = 0 }; places = places; area = area })
+handedOver n h places area message stream unordered ppid = pick (eqb n 0) (handedBy h places area message stream unordered ppid) (notHanded n places area)
 
 -- ---- taking
 
@@ -52,14 +56,18 @@ pub record Delivery : Type 0 where
 abbrev pub given : whole.Delivered → Delivered
 given d = record { number = d .number; message = d .message }
 
--- 17, and 18 for the output, where the number that bars the call is 0
+-- 17, and 18 for the output
+abbrev pub deliveredBy : Head → List ℕ → List ℕ → List ℕ → List ℕ → Delivery
+deliveredBy h held next area out = record {
+  answer = given (deliveredAs (took (ring (2 ^ 32)) (ring (2 ^ 16)) rail (heldOf rail held) (ssnsOf rail next) (h .keeping .point .0) (length out) .answer) (bare h));
+  held = wordsTaken (ring (2 ^ 32)) rail held next (h .keeping .point .0) (length out);
+  next = ssnsTaken (ring (2 ^ 32)) (ring (2 ^ 16)) rail held next (h .keeping .point .0) (length out);
+  out = written (ring (2 ^ 32)) rail (heldOf rail held) (ssnsOf rail next) (h .keeping .point .0) area out;
+}
+
+abbrev pub notDelivered : ℕ → Head → List ℕ → List ℕ → List ℕ → Delivery
+notDelivered n h held next out = record { answer = given (undelivered (bare h) n 0); held = held; next = next; out = out }
+
+-- by the number that bars the call
 unfoldable pub deliveredFrom : ℕ → Head → List ℕ → List ℕ → List ℕ → List ℕ → Delivery
-deliveredFrom n h held next area out =
-    pick (eqb n 0)
-    (record {
-      answer = given (deliveredAs (took (ring (2 ^ 32)) (ring (2 ^ 16)) rail (heldOf rail held) (ssnsOf rail next) (h .keeping .point .0) (length out) .answer) (bare h));
-      held = wordsTaken (ring (2 ^ 32)) rail held next (h .keeping .point .0) (length out);
-      next = ssnsTaken (ring (2 ^ 32)) (ring (2 ^ 16)) rail held next (h .keeping .point .0) (length out);
-      out = written (ring (2 ^ 32)) rail (heldOf rail held) (ssnsOf rail next) (h .keeping .point .0) area out;
-    })
-    (record { answer = given (undelivered (bare h) n 0); held = held; next = next; out = out })
+deliveredFrom n h held next area out = pick (eqb n 0) (deliveredBy h held next area out) (notDelivered n h held next out)

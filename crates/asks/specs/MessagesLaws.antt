@@ -8,6 +8,7 @@ use borrow.Author.Tests.{lt-ltb, le-ltb, eq-eqb, ne-eqb}
 use lib.Dec.{eqb}
 use lib.ListN.{length}
 use Rattle.scans.specs.Scan.{pick}
+use Rattle.scans.specs.Upto.{pick-keeps}
 use Rattle.numbers.specs.declared.circle.StreamId.{StreamId}
 use Rattle.numbers.specs.Numbering.{ring}
 use Rattle.numbers.specs.Profile.{rail}
@@ -24,7 +25,7 @@ use Rattle.taking.specs.TakingLaws.{words-long, ssns-long}
 use Rattle.reception.specs.ReceptionLaws.{words-taken}
 use Rattle.messages.specs.declared.Handing.{Handing}
 use Rattle.messages.specs.Messages as sender
-use Rattle.messages.specs.MessagesLaws.{handed-shows, area-shows}
+use Rattle.messages.specs.MessagesLaws.{handed-shows, area-shows, handed-long}
 use Rattle.states.specs.declared.call.Call.the-variants.{HandIn}
 use Rattle.association.specs.declared.ends.Association.{Association}
 use Rattle.association.specs.Bounds.{isSound}
@@ -37,7 +38,7 @@ use Rattle.calls.specs.Messages.{handedAs, handedIn, undelivered, deliveredAs, 
 use Rattle.flat.specs.declared.head.Head.{Head}
 use Rattle.flat.specs.Shown.{shown, bare}
 use Rattle.asks.specs.declared.delivering.Delivered.{Delivered}
-use Rattle.asks.specs.Messages.{Handover, handedOver, Delivery, given, deliveredFrom}
+use Rattle.asks.specs.Messages.{Handover, handedBy, notHanded, handedOver, Delivery, given, deliveredBy, notDelivered, deliveredFrom}
 
 -- ---- handing in
 
@@ -55,19 +56,23 @@ module _ (h : Head) (places area message : List ℕ) (stream : StreamId) (unorde
 
 -- what is shown after a message was handed in
 module _ (h : Head) (held ns places ms cs area message : List ℕ) (stream : StreamId) (unordered : Bool) (ppid : ℕ) where
+  -- the number that bars it, and what it leaves
+  abbrev handBar : ℕ
+  handBar = barred (shown h held ns places ms cs) (isShortArea area) HandIn
+
   abbrev handing : Handover
-  handing = handedOver (barred (shown h held ns places ms cs) (isShortArea area) HandIn) h places area message stream unordered ppid
+  handing = handedOver handBar h places area message stream unordered ppid
 
   pub handover-shows : length places ≡ 1024 → stream .0 < 65536 → ppid < 4294967296
       → _≡_ {A = HandedIn} (record { number = handing .answer .number; chunks = handing .answer .chunks; association = shown h held ns (handing .places) ms cs })
       (handedIn (shown h held ns places ms cs) area (length message) stream unordered ppid)
   unfolding handedOver handedIn
-  handover-shows l s p = go (eqb (barred (shown h held ns places ms cs) (isShortArea area) HandIn) 0)
+  handover-shows l s p = go (eqb handBar 0)
     where
       go : (t : Bool)
-          → (let x : Handover = pick t (record { answer = sender.handing rail (h .sender) places (length message) stream (h .ends .«streams_out»); places = sender.handedWords rail (h .sender) places (length message) stream unordered ppid (h .ends .«streams_out»); area = sender.handedArea rail (h .sender) places area message stream (h .ends .«streams_out») }) (record { answer = record { number = barred (shown h held ns places ms cs) (isShortArea area) HandIn; chunks = 0 }; places = places; area = area }) in
+          → (let x : Handover = pick t (handedBy h places area message stream unordered ppid) (notHanded handBar places area) in
           _≡_ {A = HandedIn} (record { number = x .answer .number; chunks = x .answer .chunks; association = shown h held ns (x .places) ms cs })
-          (pick t (handedAs (shown h held ns places ms cs) (call.handing (shown h held ns places ms cs) (length message) stream unordered ppid)) (record { number = barred (shown h held ns places ms cs) (isShortArea area) HandIn; chunks = 0; association = shown h held ns places ms cs })))
+          (pick t (handedAs (shown h held ns places ms cs) (call.handing (shown h held ns places ms cs) (length message) stream unordered ppid)) (record { number = handBar; chunks = 0; association = shown h held ns places ms cs })))
       go true =
           ap (λ (x : Handed). handedAs (shown h held ns places ms cs) x)
           (handed-shows rail (h .sender) places ms (length message) stream unordered ppid (h .ends .«streams_out») (omega (arith, l)) (omega arith) s p)
@@ -75,13 +80,20 @@ module _ (h : Head) (held ns places ms cs area message : List ℕ) (stream : Str
 
   pub area-handed : handing .area ≡ call.handedArea (shown h held ns places ms cs) area message stream
   unfolding handedOver call.handedArea
-  area-handed = go (eqb (barred (shown h held ns places ms cs) (isShortArea area) HandIn) 0)
+  area-handed = go (eqb handBar 0)
     where
-      go : (t : Bool)
-          → (pick {A = Handover} t (record { answer = sender.handing rail (h .sender) places (length message) stream (h .ends .«streams_out»); places = sender.handedWords rail (h .sender) places (length message) stream unordered ppid (h .ends .«streams_out»); area = sender.handedArea rail (h .sender) places area message stream (h .ends .«streams_out») }) (record { answer = record { number = barred (shown h held ns places ms cs) (isShortArea area) HandIn; chunks = 0 }; places = places; area = area })) .area
+      go : (t : Bool) → pick t (handedBy h places area message stream unordered ppid) (notHanded handBar places area) .area
           ≡ pick t (areaAfter rail (shown h held ns places ms cs .sending) area message stream (h .ends .«streams_out»)) area
       go true = area-shows rail (h .sender) places ms area message stream (h .ends .«streams_out»)
       go false = refl
+
+-- the table stays as long as it was
+pub handover-long : (n : ℕ) (h : Head) (places area message : List ℕ) (stream : StreamId) (unordered : Bool) (ppid : ℕ)
+    → length (handedOver n h places area message stream unordered ppid .places) ≡ length places
+unfolding handedOver
+handover-long n h places area message stream unordered ppid =
+    pick-keeps (λ (x : Handover). length (x .places) ≡ length places) (eqb n 0) (handedBy h places area message stream unordered ppid) (notHanded n places area)
+    (handed-long rail (h .sender) places (length message) stream unordered ppid (h .ends .«streams_out»)) refl
 
 -- ---- taking
 
@@ -120,60 +132,44 @@ given-beside (Short n) b c = refl
 
 -- what is shown after a take
 module _ (h : Head) (held next places ms cs area out : List ℕ) where
+  -- the number that bars it, and what it leaves
+  abbrev barring : ℕ
+  barring = takeBar (shown h held next places ms cs) area
+
   abbrev delivery : Delivery
-  delivery = deliveredFrom (takeBar (shown h held next places ms cs) area) h held next area out
-
-  abbrev point : ℕ
-  point = h .keeping .point .0
-
-  abbrev taken : Delivery
-  taken = record {
-    answer = given (deliveredAs (tookFrom (ring (2 ^ 32)) (ring (2 ^ 16)) rail (heldOf rail held) (ssnsOf rail next) point (length out) .answer) (bare h));
-    held = wordsTaken (ring (2 ^ 32)) rail held next point (length out);
-    next = ssnsTaken (ring (2 ^ 32)) (ring (2 ^ 16)) rail held next point (length out);
-    out = written (ring (2 ^ 32)) rail (heldOf rail held) (ssnsOf rail next) point area out;
-  }
-
-  abbrev refused : Delivery
-  refused = record { answer = given (undelivered (bare h) (takeBar (shown h held next places ms cs) area) 0); held = held; next = next; out = out }
+  delivery = deliveredFrom barring h held next area out
 
   pub delivery-shows : length held ≡ 512 → length next ≡ 128
       → _≡_ {A = whole.Delivered} (record { number = delivery .answer .number; message = delivery .answer .message; association = shown h (delivery .held) (delivery .next) places ms cs })
       (delivered (shown h held next places ms cs) area (length out))
   unfolding deliveredFrom delivered
-  delivery-shows l m = go (eqb (takeBar (shown h held next places ms cs) area) 0)
+  delivery-shows l m = go (eqb barring 0)
     where
       go : (t : Bool)
-          → (let x : Delivery = pick t taken refused in
+          → (let x : Delivery = pick t (deliveredBy h held next area out) (notDelivered barring h held next out) in
           _≡_ {A = whole.Delivered} (record { number = x .answer .number; message = x .answer .message; association = shown h (x .held) (x .next) places ms cs })
-          (pick t (deliveredAs (call.taking (shown h held next places ms cs) (length out) .answer) (withReceiving (shown h held next places ms cs) (call.taking (shown h held next places ms cs) (length out) .receiving))) (undelivered (shown h held next places ms cs) (takeBar (shown h held next places ms cs) area) 0)))
+          (pick t (deliveredAs (call.taking (shown h held next places ms cs) (length out) .answer) (withReceiving (shown h held next places ms cs) (call.taking (shown h held next places ms cs) (length out) .receiving))) (undelivered (shown h held next places ms cs) barring 0)))
       go true =
-          given-beside (tookFrom (ring (2 ^ 32)) (ring (2 ^ 16)) rail (heldOf rail held) (ssnsOf rail next) point (length out) .answer) (bare h) (shown h (taken .held) (taken .next) places ms cs)
+          given-beside (tookFrom (ring (2 ^ 32)) (ring (2 ^ 16)) rail (heldOf rail held) (ssnsOf rail next) (h .keeping .point .0) (length out) .answer) (bare h)
+          (shown h (deliveredBy h held next area out .held) (deliveredBy h held next area out .next) places ms cs)
           ∙ ap (λ (x : receiver.Taken). deliveredAs (x .answer) (withReceiving (shown h held next places ms cs) (x .receiving)))
           (words-taken (ring (2 ^ 32)) rail (h .keeping) held next (length out) (omega (arith, l)) (omega (arith, m)))
       go false = refl
 
   pub out-delivered : delivery .out ≡ deliveredOut (shown h held next places ms cs) area out
   unfolding deliveredFrom deliveredOut
-  out-delivered = go (eqb (takeBar (shown h held next places ms cs) area) 0)
+  out-delivered = go (eqb barring 0)
     where
-      go : (t : Bool) → pick t taken refused .out ≡ pick t (written (ring (2 ^ 32)) rail (heldOf rail held) (ssnsOf rail next) point area out) out
+      go : (t : Bool) → pick t (deliveredBy h held next area out) (notDelivered barring h held next out) .out
+          ≡ pick t (written (ring (2 ^ 32)) rail (heldOf rail held) (ssnsOf rail next) (h .keeping .point .0) area out) out
       go true = refl
       go false = refl
 
-  -- the tables stay as long as they were
-  pub held-stays : length (delivery .held) ≡ length held
-  unfolding deliveredFrom
-  held-stays = go (eqb (takeBar (shown h held next places ms cs) area) 0)
-    where
-      go : (t : Bool) → length (pick t taken refused .held) ≡ length held
-      go true = words-long (ring (2 ^ 32)) rail held next point (length out)
-      go false = refl
-
-  pub next-stays : length (delivery .next) ≡ length next
-  unfolding deliveredFrom
-  next-stays = go (eqb (takeBar (shown h held next places ms cs) area) 0)
-    where
-      go : (t : Bool) → length (pick t taken refused .next) ≡ length next
-      go true = ssns-long (ring (2 ^ 32)) rail held next point (length out) (ring (2 ^ 16))
-      go false = refl
+-- the tables stay as long as they were
+pub delivery-long : (n : ℕ) (h : Head) (held next area out : List ℕ)
+    → (length (deliveredFrom n h held next area out .held) ≡ length held) × (length (deliveredFrom n h held next area out .next) ≡ length next)
+unfolding deliveredFrom
+delivery-long n h held next area out =
+    pick-keeps (λ (x : Delivery). (length (x .held) ≡ length held) × (length (x .next) ≡ length next)) (eqb n 0) (deliveredBy h held next area out) (notDelivered n h held next out)
+    (words-long (ring (2 ^ 32)) rail held next (h .keeping .point .0) (length out), ssns-long (ring (2 ^ 32)) rail held next (h .keeping .point .0) (length out) (ring (2 ^ 16)))
+    (refl, refl)

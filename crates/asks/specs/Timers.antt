@@ -20,7 +20,7 @@ pub record Lapse : Type 0 where
 abbrev pub lapsedBy : Head → Expired → Answered
 lapsedBy h e = pick (eqb (e .number) 0) (pick (e .over) (overWith h) (toldWith (withSender h (e .head)) 0)) (refusedWith h (e .number))
 
--- "all outstanding marked", where the number that bars the call is 0
+-- "all outstanding marked", by the number that bars the call
 unfoldable pub lapsed : ℕ → Head → List ℕ → Lapse
 lapsed n h places =
     pick (eqb n 0)

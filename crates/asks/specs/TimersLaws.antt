@@ -9,6 +9,7 @@ use borrow.Author.Tests.{eq-eqb, ne-eqb}
 use lib.Dec.{eqb}
 use lib.ListN.{length}
 use Rattle.scans.specs.Scan.{pick}
+use Rattle.scans.specs.Upto.{pick-keeps}
 use Rattle.scans.specs.Each.{clash}
 use Rattle.numbers.specs.Profile.{rail}
 use Rattle.path.specs.Sizes.{Sizes, railSizes}
@@ -22,7 +23,7 @@ use Rattle.tables.specs.Place.{placesOf}
 use Rattle.sender.specs.Seen.{seen}
 use Rattle.acks.specs.declared.Expired.{Expired}
 use Rattle.acks.specs.Acks.{expiredHead, expiredWords}
-use Rattle.acks.specs.AcksLaws.{expired-shows}
+use Rattle.acks.specs.AcksLaws.{expired-shows, expired-long}
 use Rattle.states.specs.declared.call.Call.the-variants.{ThirdTimer}
 use Rattle.association.specs.Fresh.{withSending}
 use Rattle.calls.specs.Answer.{barred, refusing, quietly, ending, answerOf, Kept}
@@ -96,3 +97,12 @@ module _ (h : Head) (held ns places ms cs : List ℕ) (l : length places ≡ 102
           (answerIn (x .answer) held ns (x .places) ms cs))
       go true = record { answer = lapse-shows }
       go false = record { answer = refl }
+
+-- the table stays as long as it was
+pub lapsed-long : (n : ℕ) (h : Head) (places : List ℕ) → length (lapsed n h places .places) ≡ length places
+unfolding lapsed
+lapsed-long n h places =
+    pick-keeps (λ (x : Lapse). length (x .places) ≡ length places) (eqb n 0)
+    (record { answer = lapsedBy h (expiredHead railSizes rail (h .sender) places); places = expiredWords railSizes rail (h .sender) places })
+    (record { answer = refusedWith h n; places = places })
+    (expired-long railSizes rail (h .sender) places) refl

@@ -38,9 +38,14 @@ dispatchedBy h area out f = record {
   out = bundleOut (toPeer (h .ends)) (bundled area (chosenOf rail f) out);
 }
 
--- where the number that bars the call is 0
+abbrev pub notDispatched : ℕ → Head → List ℕ → List ℕ → List ℕ → Dispatch
+notDispatched n h places next out = record {
+  answer = record { number = n; length = 0; resent = false; first = tsn0; last = tsn0; head = h };
+  places = places;
+  next = next;
+  out = out;
+}
+
+-- by the number that bars the call
 unfoldable pub dispatched : ℕ → Head → List ℕ → List ℕ → List ℕ → List ℕ → Dispatch
-dispatched n h places next area out =
-    pick (eqb n 0)
-    (dispatchedBy h area out (filledIn railSizes rail (h .sender) places next))
-    (record { answer = record { number = n; length = 0; resent = false; first = tsn0; last = tsn0; head = h }; places = places; next = next; out = out })
+dispatched n h places next area out = pick (eqb n 0) (dispatchedBy h area out (filledIn railSizes rail (h .sender) places next)) (notDispatched n h places next out)

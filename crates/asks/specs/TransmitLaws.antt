@@ -8,6 +8,7 @@ use borrow.Author.Tests.{lt-ltb, eq-eqb, ne-eqb}
 use lib.Dec.{eqb}
 use lib.ListN.{length}
 use Rattle.scans.specs.Scan.{pick}
+use Rattle.scans.specs.Upto.{pick-keeps}
 use Rattle.numbers.specs.Circle.{tsn0}
 use Rattle.numbers.specs.Profile.{rail}
 use Rattle.packets.specs.declared.header.Header.{Header}
@@ -21,7 +22,7 @@ use Rattle.tables.specs.Place.{placesOf, placeAt}
 use Rattle.sender.specs.declared.Sender.{Sender}
 use Rattle.sender.specs.Seen.{seen}
 use Rattle.choice.specs.Fill.{Fill, filledIn}
-use Rattle.choice.specs.FillLaws.{chosenOf, filled-shows}
+use Rattle.choice.specs.FillLaws.{chosenOf, filled-shows, filled-long}
 use Rattle.calls.specs.declared.transmitting.Transmitted as whole
 use Rattle.calls.specs.Packet.{toPeer}
 use Rattle.calls.specs.Transmit.{Bundle, added, turned, bundled, bundleLength, bundleOut, transmitBar, transmittedAs, transmitted, transmittedOut}
@@ -29,7 +30,7 @@ use Rattle.flat.specs.declared.head.Head.{Head}
 use Rattle.flat.specs.Shown.{shown}
 use Rattle.asks.specs.declared.transmitting.Transmitted.{Transmitted}
 use Rattle.asks.specs.Answer.{withSender}
-use Rattle.asks.specs.Transmit.{Dispatch, dispatchedBy, dispatched}
+use Rattle.asks.specs.Transmit.{Dispatch, dispatchedBy, notDispatched, dispatched}
 
 -- a place chosen, with its chunk behind those before
 pub turned-at : (area : List ℕ) (count : ℕ) (words : List ℕ) (t : Bundle) (k i : ℕ) {p : Place} {b : Bundle} → k < count → p ≡ placeAt rail words i → b ≡ added area p i t
@@ -69,9 +70,6 @@ module _ (h : Head) (held ns places next cs area out : List ℕ) (l : length pla
   abbrev dispatch : Dispatch
   dispatch = dispatched (transmitBar (shown h held ns places next cs) area out) h places next area out
 
-  abbrev none : Dispatch
-  none = record { answer = record { number = transmitBar (shown h held ns places next cs) area out; length = 0; resent = false; first = tsn0; last = tsn0; head = h }; places = places; next = next; out = out }
-
   shows : chosenOf rail (full h places next) ≡ filled railSizes rail (seen rail (h .sender) places next)
   shows = filled-shows railSizes rail (h .sender) places next (omega (arith, l)) (omega (arith, m)) t
 
@@ -88,7 +86,7 @@ module _ (h : Head) (held ns places next cs area out : List ℕ) (l : length pla
   dispatch-shows = go (eqb (transmitBar (shown h held ns places next cs) area out) 0)
     where
       go : (b : Bool)
-          → (let x : Dispatch = pick b (dispatchedBy h area out (full h places next)) none in
+          → (let x : Dispatch = pick b (dispatchedBy h area out (full h places next)) (notDispatched (transmitBar (shown h held ns places next cs) area out) h places next out) in
           _≡_ {A = whole.Transmitted} (record {
             number = x .answer .number;
             length = x .answer .length;
@@ -106,7 +104,15 @@ module _ (h : Head) (held ns places next cs area out : List ℕ) (l : length pla
   unfolding dispatched transmittedOut
   out-dispatched = go (eqb (transmitBar (shown h held ns places next cs) area out) 0)
     where
-      go : (b : Bool) → pick b (dispatchedBy h area out (full h places next)) none .out
+      go : (b : Bool) → pick b (dispatchedBy h area out (full h places next)) (notDispatched (transmitBar (shown h held ns places next cs) area out) h places next out) .out
           ≡ pick b (bundleOut (toPeer (h .ends)) (bundled area (filled railSizes rail (seen rail (h .sender) places next)) out)) out
       go true = ap (λ (x : Chosen). bundleOut (toPeer (h .ends)) (bundled area x out)) shows
       go false = refl
+
+-- the tables stay as long as they were
+pub dispatch-long : (n : ℕ) (h : Head) (places next area out : List ℕ)
+    → (length (dispatched n h places next area out .places) ≡ length places) × (length (dispatched n h places next area out .next) ≡ length next)
+unfolding dispatched
+dispatch-long n h places next area out =
+    pick-keeps (λ (x : Dispatch). (length (x .places) ≡ length places) × (length (x .next) ≡ length next)) (eqb n 0) (dispatchedBy h area out (full h places next)) (notDispatched n h places next out)
+    (filled-long railSizes rail (h .sender) places next) (refl, refl)
