@@ -1,5 +1,5 @@
 -- What a call over what C lends has to show. Assumes nothing.
-use mathlib.Core.Path.{_≡_, ap, _∙_}
+use mathlib.Core.Path.{_≡_, ap, sym, _∙_}
 use mathlib.Core.Bool.{Bool, true, false}
 use Rattle.kept.specs.declared.head.Kept.{Kept}
 use Rattle.kept.specs.Kept.{isNamed, named}
@@ -20,3 +20,7 @@ module _ (k : Kept) {t : Bool} (e : t ≡ isNamed k) where
   -- the head is named, and of what the call gave all is told
   pub serves : {C X : Type 0} (tell : C → Left X) {c d : C} {l : Left X} (m : Left X) → t ≡ true → c ≡ d → l ≡ tell c → l ≡ named k (tell d) m
   serves tell m h d w = is-so m h (w ∙ ap tell d)
+
+-- two outcomes that a promise allows are one
+pub left-one : {X : Type 0} {t u : Told} {x y : X} {l : Left X} → left t x ≡ l → left u y ≡ l → (t ≡ u) × (x ≡ y)
+left-one {X} d e = (ap (λ (l : Left X). l .told) (d ∙ sym e), ap (λ (l : Left X). l .lent) (d ∙ sym e))
