@@ -1,0 +1,668 @@
+/*
+ * Oilwhisper: an SCTP core (RFC 9260), one path, without a heap.
+ *
+ * The host keeps one `struct ow_association` for each association and two areas of OW_AREA bytes beside it, one for receiving and one for sending.
+ * A call is lent the record and changes it where it lies. A record has no pointer: between calls it may be copied, moved and kept anywhere. The library
+ * keeps nothing between calls, calls only C's memcpy and memset, and may be used from any number of threads: what one call may write, no other has meanwhile.
+ *
+ * Every call answers for every record, number and buffer, and has no rule that the host must keep but C's own:
+ *   - a record is lent by a pointer, which is not null and has a whole record behind it;
+ *   - a slice is two parameters, a pointer and a count of bytes. The pointer is not null, not even for a count of 0, and so many bytes are there;
+ *   - what a call may write (the record, each `uint8_t *`, and the verdicts) overlaps nothing else that it was lent.
+ * Every byte and word that is lent means something, whatever it is: there is no `bool` in a record.
+ * Addresses and counts have 64 bits, and numbers of more than a byte lie as the processor has them.
+ *
+ * Every answer begins with `number`: 0, or one of the numbers below. A refused call leaves the record as it came and writes no byte; a packet that is
+ * let in may have refused chunks, each of which leaves all but what is said at OW_DUPLICATE and OW_STRAY. A call that is not refused writes the bytes of its
+ * packet to `out`, exactly `length` of them, and no other. What goes to the peer is a whole SCTP packet, header and checksum in it.
+ *
+ * The calls are inline functions over those of the library, `ow_lent_...`, which take pointers and numbers alone and so have one form on every processor.
+ * Each returns the number and tells the rest in the words `told`. ow_is_at_hand says whether the library that is linked is the one that this header is for.
+ */
+#ifndef OILWHISPER_H
+#define OILWHISPER_H
+
+#include <stdbool.h>
+#include <stddef.h>
+#include <stdint.h>
+#include <string.h>
+
+#ifdef __cplusplus
+extern "C" {
+#endif
+
+/* ---- Sizes ------------------------------------------------------------------------------------------------------------------------------ */
+
+#define OW_PLACES 128         /* chunks held for receiving, and as many for sending */
+#define OW_STREAMS 128        /* streams each way, at most: 0 to 127 */
+#define OW_PAYLOAD 512        /* bytes of a DATA chunk's payload, at most; the bytes of a place in an area */
+#define OW_AREA 65536         /* bytes of a lent area, at least: place i is the OW_PAYLOAD bytes from OW_PAYLOAD * i on */
+#define OW_OUTPUT 1472        /* bytes of a lent output, at least; of ow_take, the bytes of the message */
+#define OW_PACKET_LEAST 16    /* bytes of a received packet */
+#define OW_PACKET_MOST 1472
+#define OW_SENT_MOST 548      /* bytes of a packet that ow_transmit writes, at most; a reply has at most OW_OUTPUT */
+#define OW_MESSAGE_MOST 65536 /* bytes of a message; the least is 1 */
+#define OW_COOKIE_MOST 256    /* bytes of a cookie; the least is 1 */
+#define OW_WINDOW_LEAST 1500  /* the window that a peer must offer */
+#define OW_LISTED 16          /* duplicates that a SACK lists, at most */
+#define OW_BLOCKS 64          /* gap blocks of a SACK, at most */
+#define OW_VERDICTS 365       /* chunks of a packet, at most */
+#define OW_OPENING_TRIES 8    /* expiries of T1 that try again; the next one closes */
+#define OW_TRIES 10           /* the same of T2 and of T3 */
+#define OW_HELD_WORDS 4       /* words of a place for receiving */
+#define OW_PLACE_WORDS 8      /* words of a place for sending */
+#define OW_VERDICT_WORDS 4    /* words of a verdict */
+
+/* ---- Numbers answered -------------------------------------------------------------------------------------------------------------------- */
+
+/* Order: for a packet 1, 18, 2, 3, 4, 5, 6, then chunk by chunk 7, 8, 27 and the rest; for other calls 1, 18, 7, 19, 20. "Leaves all" but for 11 and 14. */
+#define OW_DONE 0       /* not refused */
+#define OW_RECORD 1     /* record outside its bounds, its `state` and `tries` name no state, or a flag is neither 0 nor 1 */
+#define OW_SIZE 2       /* a packet under 16 bytes, over 1,472, or not a multiple of 4 */
+#define OW_CHECKSUM 3   /* the packet's CRC32c */
+#define OW_HEAD 4       /* port or tag; of ow_associate: port 0 */
+#define OW_LENGTH 5     /* a chunk's length: under its least, past the packet, or not filled by its parameters or SACK counts */
+#define OW_BUNDLED 6    /* bundled where it must stand alone */
+#define OW_STATE 7      /* chunk or call not for this state; of ow_t3 also: nothing outstanding */
+#define OW_OPENING 8    /* INIT or INIT ACK: tag 0, no streams, window under 1,500; INIT ACK or COOKIE ECHO: cookie of 0 or over 256 bytes */
+#define OW_EMPTY 9      /* DATA without payload; calls for ow_abort with OW_CAUSE_NO_DATA and the TSN */
+#define OW_LONG 10      /* DATA with a payload over 512 */
+#define OW_DUPLICATE 11 /* DATA that has come before; its TSN is listed for the next SACK if there is room */
+#define OW_WEDGED 12    /* every place holds a low chunk and no message can be taken; calls for ow_abort with OW_CAUSE_VIOLATION */
+#define OW_FAR 13       /* DATA too far ahead */
+#define OW_STRAY 14     /* DATA for a stream that is not agreed: its TSN comes, nothing is held; calls for ow_error_stream */
+#define OW_STALE 15     /* SACK with a point behind ours */
+#define OW_FALSE 16     /* SACK that names what was never sent, or with ill blocks; calls for ow_abort with OW_CAUSE_VIOLATION */
+#define OW_NOTHING 17   /* no message can be taken */
+#define OW_SHORT 18     /* lent output or area too short; of ow_take's output: `message.length` is the length needed */
+#define OW_MESSAGE 19   /* message of 0 or over 65,536 bytes, or stream not agreed */
+#define OW_FULL 20      /* no room to send: the message needs more places than are free, and none of it was taken */
+#define OW_CLASHING 21  /* DATA whose B or E contradicts the chunk held one TSN before or after it; calls for ow_abort with OW_CAUSE_VIOLATION */
+#define OW_OPPOSITE 24  /* DATA exactly half the circle of TSNs from the point; told before OW_DUPLICATE, and not listed */
+#define OW_COOKIE 27    /* echoed cookie bad or stale; a stale one calls for ow_error_stale */
+
+/* ---- Numbers that never stand in for each other ------------------------------------------------------------------------------------------ */
+
+typedef uint32_t ow_tsn;    /* transmission sequence number, on the circle of 2^32 */
+typedef uint16_t ow_stream; /* stream identifier, no circle */
+typedef uint16_t ow_ssn;    /* stream sequence number, on the circle of 2^16 */
+
+/* ---- The record -------------------------------------------------------------------------------------------------------------------------- */
+
+/* Made by ow_closed and changed by the calls alone. A host may read it; what it writes there is tested at the next call (OW_RECORD). */
+
+/* `state`. Those marked * wait for the peer, and `tries` counts the expiries of their timer; in the others `tries` is 0. */
+#define OW_CLOSED 0
+#define OW_COOKIE_WAIT 1   /* * T1 runs */
+#define OW_COOKIE_ECHOED 2 /* * T1 runs */
+#define OW_ESTABLISHED 3
+#define OW_SHUTDOWN_PENDING 4
+#define OW_SHUTDOWN_SENT 5 /* * T2 runs */
+#define OW_SHUTDOWN_RECEIVED 6
+#define OW_SHUTDOWN_ACK_SENT 7 /* * T2 runs */
+
+/* Ports, verification tags, and the streams agreed each way; in OW_COOKIE_WAIT those wanted. */
+struct ow_ends {
+    uint16_t local_port;
+    uint16_t peer_port;
+    uint32_t my_tag;
+    uint32_t peer_tag;
+    uint16_t streams_in;
+    uint16_t streams_out;
+};
+
+/* Which TSNs have come: all up to `point`, and point + 1 + i where `come[i]` is 1; the first `listed` of `dups` came again since the last SACK. */
+struct ow_keeping {
+    ow_tsn point;
+    uint8_t come[OW_PLACES]; /* each 0 or 1 */
+    ow_tsn dups[OW_LISTED];
+    size_t listed;
+};
+
+/* Congestion, in bytes. */
+struct ow_control {
+    uint32_t cwnd;
+    uint32_t ssthresh;
+    uint32_t partial;
+};
+
+/* Round trips, in milliseconds; `rto` is how long T1, T2 and T3 run. */
+struct ow_clock {
+    uint8_t sampled; /* 0 or 1 */
+    uint32_t srtt;
+    uint32_t rttvar;
+    uint32_t rto;
+};
+
+/* The one path. `running`: fast recovery runs, until the point reaches `until`. `tries`: expiries of T3 since a chunk was newly acknowledged. */
+struct ow_path {
+    struct ow_control control;
+    struct ow_clock clock;
+    uint32_t flight;
+    uint8_t running; /* 0 or 1 */
+    ow_tsn until;
+    uint8_t tries;
+};
+
+/* The sending side: all up to `acked` is acknowledged, `next_tsn` is the next to give, `advertised` the peer's last window. */
+struct ow_sender {
+    ow_tsn acked;
+    ow_tsn next_tsn;
+    uint32_t advertised;
+    uint32_t oldest;
+    struct ow_path path;
+};
+
+/* All that is no table; `cookie_len`: bytes of the cookie of the peer's INIT ACK, kept for T1. */
+struct ow_head {
+    uint8_t state;
+    uint8_t tries;
+    uint16_t cookie_len;
+    struct ow_ends ends;
+    struct ow_keeping keeping;
+    struct ow_sender sender;
+};
+
+/*
+ * Places for receiving, of OW_HELD_WORDS each: TSN; SSN; payload protocol identifier; stream * 2^16 + bytes * 16 + 1 if a chunk is held there + 2 if its message
+ * begins + 4 if it ends + 8 if it is out of order. Places for sending, of OW_PLACE_WORDS each: TSN; turn, while it waits; SSN; payload protocol identifier;
+ * stream * 2^16 + bytes * 16 + 1 if its message begins + 2 if it ends + 4 if it is out of order; misses * 2^8 + 0 free, 1 not sent yet, 2 sent, 3 to be sent
+ * again, 4 acknowledged by a gap block; two words that stay. `next_in` and `next_out`: the SSN of the next message of each stream. `cookie`: the first
+ * head.cookie_len bytes.
+ */
+struct ow_association {
+    struct ow_head head;
+    uint32_t held[OW_HELD_WORDS * OW_PLACES];
+    ow_ssn next_in[OW_STREAMS];
+    uint32_t places[OW_PLACE_WORDS * OW_PLACES];
+    ow_ssn next_out[OW_STREAMS];
+    uint8_t cookie[OW_COOKIE_MOST];
+};
+
+/* ---- The library at hand ----------------------------------------------------------------------------------------------------------------- */
+
+#define OW_VERSION 1 /* it grows by one with each change of what crosses */
+
+uint32_t ow_version(void);
+
+/* Bytes of head, held, next_in, places, next_out and cookie, and of the verdicts of a packet. */
+void ow_sizes(size_t told[7]);
+
+static inline bool ow_is_at_hand(void) {
+    size_t told[7];
+    if (ow_version() != OW_VERSION) {
+        return false;
+    }
+    ow_sizes(told);
+    return told[0] == sizeof(struct ow_head) && told[1] == sizeof(uint32_t) * OW_HELD_WORDS * OW_PLACES && told[2] == sizeof(ow_ssn) * OW_STREAMS &&
+           told[3] == sizeof(uint32_t) * OW_PLACE_WORDS * OW_PLACES && told[4] == sizeof(ow_ssn) * OW_STREAMS && told[5] == OW_COOKIE_MOST &&
+           told[6] == sizeof(uint32_t) * OW_VERDICT_WORDS * OW_VERDICTS;
+}
+
+/* ---- Opening ----------------------------------------------------------------------------------------------------------------------------- */
+
+/* A closed record at one of the host's ports. Messages that are still to be taken stay in a record that was closed; this one is empty. */
+uint32_t ow_lent_close(struct ow_head *head, uint32_t *held, ow_ssn *next_in, uint32_t *places, ow_ssn *next_out, uint8_t *kept_cookie, uint16_t port);
+
+static inline struct ow_association ow_closed(uint16_t port) {
+    struct ow_association a;
+    memset(&a, 0, sizeof a);
+    ow_lent_close(&a.head, a.held, a.next_in, a.places, a.next_out, a.cookie, port);
+    return a;
+}
+
+/* The answer of most calls. `length`: bytes of the packet in `out`, 0 where none goes out. `over`: an expiry closed the association. */
+struct ow_answer {
+    uint8_t number;
+    size_t length;
+    bool over;
+};
+
+/*
+ * Asks the peer at `port` for an association: an INIT goes out and T1 runs. In OW_CLOSED; the record starts afresh, and what was not taken is dropped.
+ * `tag`: our tag, not 0, and `tsn`: our first TSN, both random. `streams`: those wanted for sending, at least 1; over 128 are used as 128.
+ * Refused 1, 18, 7, 4 (port 0), 8 (tag 0 or no streams).
+ */
+uint32_t ow_lent_associate(struct ow_head *head, uint32_t *held, ow_ssn *next_in, uint32_t *places, ow_ssn *next_out, uint8_t *kept_cookie, uint32_t tag,
+                           ow_tsn tsn, uint16_t port, uint16_t streams, uint8_t *out, size_t out_len, size_t told[2]);
+
+static inline struct ow_answer ow_associate(struct ow_association *association, uint32_t tag, ow_tsn tsn, uint16_t port, uint16_t streams, uint8_t *out,
+                                            size_t out_len) {
+    size_t told[2];
+    struct ow_answer r;
+    r.number = (uint8_t)ow_lent_associate(&association->head, association->held, association->next_in, association->places, association->next_out,
+                                          association->cookie, tag, tsn, port, streams, out, out_len, told);
+    r.length = told[0];
+    r.over = told[1] != 0;
+    return r;
+}
+
+/* `kind` of what ow_peek saw. */
+#define OW_SAW_NOTHING 0
+#define OW_SAW_INIT 1
+#define OW_SAW_COOKIE_ECHO 2
+
+/*
+ * The first chunk of a packet. An INIT: the port that the packet came from and the INIT's fields; `outs` and `ins` are the streams that the peer
+ * wants to send on and takes at most. A COOKIE ECHO: the cookie is the `len` bytes of the packet from `at` on. All other fields are 0.
+ */
+struct ow_peeked {
+    uint8_t number;
+    uint8_t kind;
+    uint16_t source;
+    uint32_t tag;
+    uint32_t window;
+    uint16_t outs;
+    uint16_t ins;
+    ow_tsn tsn;
+    size_t at;
+    size_t len;
+};
+
+/*
+ * Looks at a packet before it arrives, so that the host can make a cookie for an INIT, or judge one that is echoed. Needs no record.
+ * Refused 2, 3, 5, 6; ow_arrive answers such a packet likewise.
+ */
+uint32_t ow_lent_peek(const uint8_t *packet, size_t packet_len, size_t told[9]);
+
+static inline struct ow_peeked ow_peek(const uint8_t *packet, size_t packet_len) {
+    size_t told[9];
+    struct ow_peeked r;
+    r.number = (uint8_t)ow_lent_peek(packet, packet_len, told);
+    r.kind = (uint8_t)told[0];
+    r.source = (uint16_t)told[1];
+    r.tag = (uint32_t)told[2];
+    r.window = (uint32_t)told[3];
+    r.outs = (uint16_t)told[4];
+    r.ins = (uint16_t)told[5];
+    r.tsn = (ow_tsn)told[6];
+    r.at = told[7];
+    r.len = told[8];
+    return r;
+}
+
+/* ---- A packet arrives -------------------------------------------------------------------------------------------------------------------- */
+
+/* For the INIT ACK that answers an INIT: our tag, not 0, our first TSN, both random, and the streams wanted for sending. For any other packet 0s will do. */
+struct ow_lent {
+    uint32_t tag;
+    ow_tsn tsn;
+    uint16_t streams;
+};
+
+/* What a cookie was made from: the tags, the streams agreed each way, both first TSNs and the peer's window. */
+struct ow_made {
+    uint32_t my_tag;
+    uint32_t peer_tag;
+    uint16_t streams_in;
+    uint16_t streams_out;
+    ow_tsn my_tsn;
+    ow_tsn peer_tsn;
+    uint32_t window;
+};
+
+/* `word`. Any other number counts as OW_BAD. */
+#define OW_BAD 0   /* not ours, or changed; `made` is not looked at */
+#define OW_LATE 1  /* ours, and past its lifetime */
+#define OW_GOOD 2
+
+/* The host's word on an echoed cookie. For a packet without one OW_BAD will do. */
+struct ow_echoed {
+    uint8_t word;
+    struct ow_made made;
+};
+
+/* `fate` of a chunk. */
+#define OW_ACCEPTED 0
+#define OW_REFUSED 1             /* with `number` */
+#define OW_SKIPPED 2             /* of an unknown type: left aside */
+#define OW_SKIPPED_REPORTED 3    /* and reported to the peer */
+#define OW_STOPPED 4             /* of an unknown type: what follows is unread */
+#define OW_STOPPED_REPORTED 5    /* and reported to the peer */
+#define OW_UNREAD 6              /* behind a chunk that ended the packet */
+
+/* `event` that a chunk caused. */
+#define OW_NO_EVENT 0
+#define OW_UP 1                  /* OW_ESTABLISHED */
+#define OW_DOWN_ABORT 2          /* closed by the peer's ABORT */
+#define OW_DOWN_STALE 3          /* closed: our cookie was stale */
+#define OW_DOWN_HOST_NAME 4      /* closed: the peer's INIT ACK had a host name */
+#define OW_DOWN_SHUT_DOWN 5      /* closed: shut down by both */
+
+/* `cause`: the call that a verdict names, which is the host's to make; ow_abort's causes are among them. */
+#define OW_CAUSE_NONE 0
+#define OW_CAUSE_STREAM 1        /* ow_error_stream with `value` */
+#define OW_CAUSE_STALE 3         /* ow_error_stale */
+#define OW_CAUSE_NO_DATA 9       /* ow_abort with the TSN `value` */
+#define OW_CAUSE_USER 12         /* ow_abort for the host's own reasons; no verdict names it */
+#define OW_CAUSE_VIOLATION 13    /* ow_abort */
+
+/* What became of the chunk that begins at byte `at` of the packet. `value` is the TSN or the stream that the named call takes, else 0. */
+struct ow_verdict {
+    size_t at;
+    uint32_t value;
+    uint8_t fate;
+    uint8_t number;
+    uint8_t cause;
+    uint8_t event;
+};
+
+/* The verdicts as they are lent: of each chunk where it begins; `value`; fate * 2^8 + number; cause * 2^8 + event. */
+static inline struct ow_verdict ow_verdict_of(const uint32_t *verdicts, size_t i) {
+    const uint32_t *words = verdicts + OW_VERDICT_WORDS * i;
+    struct ow_verdict v;
+    v.at = words[0];
+    v.value = words[1];
+    v.fate = (uint8_t)(words[2] >> 8);
+    v.number = (uint8_t)words[2];
+    v.cause = (uint8_t)(words[3] >> 8);
+    v.event = (uint8_t)words[3];
+    return v;
+}
+
+/* The first `count` verdicts are those of the packet's chunks, in their order; the words behind them stay. `length`: bytes of the reply in `out`, 0 for none. */
+struct ow_arrived {
+    uint8_t number;
+    size_t count;
+    size_t length;
+};
+
+/*
+ * A packet arrives, in any state: its chunks are read one by one, payloads go into `area` (the one for receiving), and what is to be answered at once goes
+ * out as one reply. `lent` and `cookie` serve an INIT, `echoed` a COOKIE ECHO; ow_peek says which it is.
+ * `verdicts`: room for OW_VERDICT_WORDS * OW_VERDICTS words.
+ * Refused 1, 18 (`area` or `out`), 2, 3, 4, 5, 6: then there are no verdicts. What refuses a chunk is in its verdict.
+ */
+uint32_t ow_lent_arrive(struct ow_head *head, uint32_t *held, ow_ssn *next_in, uint32_t *places, ow_ssn *next_out, uint8_t *kept_cookie, uint8_t *area,
+                        size_t area_len,
+                        uint32_t *verdicts, const uint8_t *packet, size_t packet_len, uint32_t tag, ow_tsn tsn, uint16_t streams, const uint8_t *cookie,
+                        size_t cookie_len, uint8_t word, uint32_t my_tag, uint32_t peer_tag, uint16_t streams_in, uint16_t streams_out, ow_tsn my_tsn,
+                        ow_tsn peer_tsn, uint32_t window, uint8_t *out, size_t out_len, size_t told[2]);
+
+static inline struct ow_arrived ow_arrive(struct ow_association *association, uint8_t *area, size_t area_len, uint32_t *verdicts, const uint8_t *packet,
+                                          size_t packet_len, struct ow_lent lent, const uint8_t *cookie, size_t cookie_len, struct ow_echoed echoed, uint8_t *out,
+                                          size_t out_len) {
+    size_t told[2];
+    struct ow_arrived r;
+    r.number = (uint8_t)ow_lent_arrive(&association->head, association->held, association->next_in, association->places, association->next_out,
+                                       association->cookie, area, area_len, verdicts, packet, packet_len, lent.tag, lent.tsn, lent.streams, cookie, cookie_len,
+                                       echoed.word, echoed.made.my_tag, echoed.made.peer_tag, echoed.made.streams_in, echoed.made.streams_out,
+                                       echoed.made.my_tsn, echoed.made.peer_tsn, echoed.made.window, out, out_len, told);
+    r.count = told[0];
+    r.length = told[1];
+    return r;
+}
+
+/* ---- Messages ---------------------------------------------------------------------------------------------------------------------------- */
+
+/* `chunks`: into how many the message was cut. */
+struct ow_handed_in {
+    uint8_t number;
+    size_t chunks;
+};
+
+/*
+ * A message for a stream, whole or not at all: its chunks wait in `area` (the one for sending) until ow_transmit sends them. In OW_ESTABLISHED.
+ * `unordered`: 0 for a message in its stream's order, any other number for one out of it. `ppid`: a number that goes with the message to the peer's host, as it is. Refused 1, 18, 7, 19, 20.
+ */
+uint32_t ow_lent_hand_in(struct ow_head *head, const uint32_t *held, uint32_t *places, uint8_t *area, size_t area_len, const uint8_t *message,
+                         size_t message_len,
+                         ow_stream stream, uint8_t unordered, uint32_t ppid, size_t told[1]);
+
+static inline struct ow_handed_in ow_hand_in(struct ow_association *association, uint8_t *area, size_t area_len, const uint8_t *message, size_t message_len,
+                                             ow_stream stream,
+                                             uint8_t unordered, uint32_t ppid) {
+    size_t told[1];
+    struct ow_handed_in r;
+    r.number = (uint8_t)ow_lent_hand_in(&association->head, association->held, association->places, area, area_len, message, message_len, stream, unordered,
+                                        ppid, told);
+    r.chunks = told[0];
+    return r;
+}
+
+/* `resent`: a chunk of the packet was sent before, so its round trip is not to be measured. `first`, `last`: TSNs of its chunks. 0 where nothing goes out. */
+struct ow_transmitted {
+    uint8_t number;
+    size_t length;
+    bool resent;
+    ow_tsn first;
+    ow_tsn last;
+};
+
+/*
+ * One packet of DATA chunks, as far as flight and the peer's window allow, or `length` 0: call it until it answers that. T3 runs while anything is outstanding.
+ * In OW_ESTABLISHED, OW_SHUTDOWN_PENDING, OW_SHUTDOWN_RECEIVED. Refused 1, 18 (`area`, the one for sending, or `out`), 7.
+ */
+uint32_t ow_lent_transmit(struct ow_head *head, const uint32_t *held, uint32_t *places, ow_ssn *next_out, const uint8_t *area, size_t area_len, uint8_t *out,
+                          size_t out_len, size_t told[4]);
+
+static inline struct ow_transmitted ow_transmit(struct ow_association *association, const uint8_t *area, size_t area_len, uint8_t *out, size_t out_len) {
+    size_t told[4];
+    struct ow_transmitted r;
+    r.number = (uint8_t)ow_lent_transmit(&association->head, association->held, association->places, association->next_out, area, area_len, out, out_len, told);
+    r.length = told[0];
+    r.resent = told[1] != 0;
+    r.first = (ow_tsn)told[2];
+    r.last = (ow_tsn)told[3];
+    return r;
+}
+
+struct ow_message {
+    size_t length;
+    ow_stream stream;
+    bool unordered;
+    ow_ssn ssn;
+    uint32_t ppid;
+};
+
+struct ow_delivered {
+    uint8_t number;
+    struct ow_message message;
+};
+
+/*
+ * Takes the next message, in any state: its bytes, `message.length` of them, go to `out`. Refused 1, 18 (`area`, the one for receiving; length 0), 17 (nothing to
+ * take), 18 (`out`, which may have any count: `message.length` is the length needed).
+ */
+uint32_t ow_lent_take(struct ow_head *head, uint32_t *held, ow_ssn *next_in, const uint32_t *places, const uint8_t *area, size_t area_len, uint8_t *out,
+                      size_t out_len, size_t told[5]);
+
+static inline struct ow_delivered ow_take(struct ow_association *association, const uint8_t *area, size_t area_len, uint8_t *out, size_t out_len) {
+    size_t told[5];
+    struct ow_delivered r;
+    r.number = (uint8_t)ow_lent_take(&association->head, association->held, association->next_in, association->places, area, area_len, out, out_len, told);
+    r.message.length = told[0];
+    r.message.stream = (ow_stream)told[1];
+    r.message.unordered = told[2] != 0;
+    r.message.ssn = (ow_ssn)told[3];
+    r.message.ppid = (uint32_t)told[4];
+    return r;
+}
+
+/* The first `count` gap blocks: start and end offsets from the point. Entries behind are 0. */
+struct ow_blocks {
+    size_t count;
+    uint16_t starts[OW_BLOCKS];
+    uint16_t ends[OW_BLOCKS];
+};
+
+/* What a SACK says; the first `listed` of `dups` are duplicates. */
+struct ow_sacked {
+    ow_tsn point;
+    uint32_t window;
+    struct ow_blocks blocks;
+    ow_tsn dups[OW_LISTED];
+    size_t listed;
+};
+
+struct ow_acknowledged {
+    uint8_t number;
+    size_t length;
+    struct ow_sacked sack;
+};
+
+/*
+ * Tells the peer what has come: a SACK, and its values beside it; the duplicates listed are told with it. In OW_ESTABLISHED, OW_SHUTDOWN_PENDING,
+ * OW_SHUTDOWN_SENT. When to call it is the host's (RFC 9260 section 6.2: every second packet with DATA, or 200 ms after one). Refused 1, 18, 7.
+ */
+uint32_t ow_lent_sack(struct ow_head *head, const uint32_t *held, const uint32_t *places, uint8_t *out, size_t out_len, uint16_t *starts, uint16_t *ends,
+                      ow_tsn *dups, size_t told[5]);
+
+static inline struct ow_acknowledged ow_sack(struct ow_association *association, uint8_t *out, size_t out_len) {
+    size_t told[5];
+    struct ow_acknowledged r;
+    r.number = (uint8_t)ow_lent_sack(&association->head, association->held, association->places, out, out_len, r.sack.blocks.starts, r.sack.blocks.ends,
+                                     r.sack.dups, told);
+    r.length = told[0];
+    r.sack.point = (ow_tsn)told[1];
+    r.sack.window = (uint32_t)told[2];
+    r.sack.blocks.count = told[3];
+    r.sack.listed = told[4];
+    return r;
+}
+
+/* ---- Timers ------------------------------------------------------------------------------------------------------------------------------ */
+
+/* They are the host's; each runs for `head.sender.path.clock.rto` milliseconds, which an expiry doubles. */
+
+/* T1 expires: INIT or COOKIE ECHO again, or closed (`over`). In OW_COOKIE_WAIT, OW_COOKIE_ECHOED. Refused 1, 18, 7. */
+uint32_t ow_lent_t1(struct ow_head *head, const uint32_t *held, const uint32_t *places, const uint8_t *kept_cookie, uint8_t *out, size_t out_len,
+                    size_t told[2]);
+
+static inline struct ow_answer ow_t1(struct ow_association *association, uint8_t *out, size_t out_len) {
+    size_t told[2];
+    struct ow_answer r;
+    r.number = (uint8_t)ow_lent_t1(&association->head, association->held, association->places, association->cookie, out, out_len, told);
+    r.length = told[0];
+    r.over = told[1] != 0;
+    return r;
+}
+
+/* T2 expires: SHUTDOWN or SHUTDOWN ACK again, or closed (`over`). In OW_SHUTDOWN_SENT, OW_SHUTDOWN_ACK_SENT. Refused 1, 18, 7. */
+uint32_t ow_lent_t2(struct ow_head *head, const uint32_t *held, const uint32_t *places, const uint8_t *kept_cookie, uint8_t *out, size_t out_len,
+                    size_t told[2]);
+
+static inline struct ow_answer ow_t2(struct ow_association *association, uint8_t *out, size_t out_len) {
+    size_t told[2];
+    struct ow_answer r;
+    r.number = (uint8_t)ow_lent_t2(&association->head, association->held, association->places, association->cookie, out, out_len, told);
+    r.length = told[0];
+    r.over = told[1] != 0;
+    return r;
+}
+
+/*
+ * T3 expires: all that is outstanding is marked, and ow_transmit sends it again; or closed (`over`). Writes nothing. In OW_ESTABLISHED, OW_SHUTDOWN_PENDING,
+ * OW_SHUTDOWN_RECEIVED. Refused 1, 7 (also with nothing outstanding).
+ */
+uint32_t ow_lent_t3(struct ow_head *head, const uint32_t *held, uint32_t *places, size_t told[2]);
+
+static inline struct ow_answer ow_t3(struct ow_association *association) {
+    size_t told[2];
+    struct ow_answer r;
+    r.number = (uint8_t)ow_lent_t3(&association->head, association->held, association->places, told);
+    r.length = told[0];
+    r.over = told[1] != 0;
+    return r;
+}
+
+/*
+ * A round trip of `sample` milliseconds was measured; over 60,000 count as 60,000. Which ones count is the host's to say: none of a chunk that was sent
+ * again (RFC 9260 section 6.3.1 C5). In any state but OW_CLOSED. Refused 1, 7.
+ */
+uint32_t ow_lent_rtt(struct ow_head *head, const uint32_t *held, const uint32_t *places, uint32_t sample, size_t told[2]);
+
+static inline struct ow_answer ow_rtt(struct ow_association *association, uint32_t sample) {
+    size_t told[2];
+    struct ow_answer r;
+    r.number = (uint8_t)ow_lent_rtt(&association->head, association->held, association->places, sample, told);
+    r.length = told[0];
+    r.over = told[1] != 0;
+    return r;
+}
+
+/* ---- Closing and telling ----------------------------------------------------------------------------------------------------------------- */
+
+/*
+ * No more messages: OW_SHUTDOWN_PENDING until all that was handed in is acknowledged, or at once OW_SHUTDOWN_SENT with a SHUTDOWN, and T2 runs.
+ * In OW_ESTABLISHED. Refused 1, 18, 7.
+ */
+uint32_t ow_lent_shutdown(struct ow_head *head, const uint32_t *held, const uint32_t *places, uint8_t *out, size_t out_len, size_t told[2]);
+
+static inline struct ow_answer ow_shutdown(struct ow_association *association, uint8_t *out, size_t out_len) {
+    size_t told[2];
+    struct ow_answer r;
+    r.number = (uint8_t)ow_lent_shutdown(&association->head, association->held, association->places, out, out_len, told);
+    r.length = told[0];
+    r.over = told[1] != 0;
+    return r;
+}
+
+/*
+ * OW_CLOSED at once, and an ABORT goes out (from OW_COOKIE_WAIT none: no tag of the peer is known). `cause`: OW_CAUSE_NO_DATA, which takes the `tsn`,
+ * OW_CAUSE_VIOLATION, or OW_CAUSE_USER, as which any other number counts. In any state but OW_CLOSED. Refused 1, 18, 7.
+ */
+uint32_t ow_lent_abort(struct ow_head *head, const uint32_t *held, const uint32_t *places, uint8_t cause, ow_tsn tsn, uint8_t *out, size_t out_len,
+                       size_t told[2]);
+
+static inline struct ow_answer ow_abort(struct ow_association *association, uint8_t cause, ow_tsn tsn, uint8_t *out, size_t out_len) {
+    size_t told[2];
+    struct ow_answer r;
+    r.number = (uint8_t)ow_lent_abort(&association->head, association->held, association->places, cause, tsn, out, out_len, told);
+    r.length = told[0];
+    r.over = told[1] != 0;
+    return r;
+}
+
+/* Tells the peer that a stream is not agreed: an ERROR with cause 1. In OW_ESTABLISHED, OW_SHUTDOWN_PENDING, OW_SHUTDOWN_SENT. Refused 1, 18, 7. */
+uint32_t ow_lent_error_stream(struct ow_head *head, const uint32_t *held, const uint32_t *places, ow_stream stream, uint8_t *out, size_t out_len,
+                              size_t told[2]);
+
+static inline struct ow_answer ow_error_stream(struct ow_association *association, ow_stream stream, uint8_t *out, size_t out_len) {
+    size_t told[2];
+    struct ow_answer r;
+    r.number = (uint8_t)ow_lent_error_stream(&association->head, association->held, association->places, stream, out, out_len, told);
+    r.length = told[0];
+    r.over = told[1] != 0;
+    return r;
+}
+
+/*
+ * Tells the peer that the cookie it echoed came `late` microseconds past its lifetime: an ERROR with cause 3. `port`: the one that the echo came from. `tag`: the
+ * cookie's `peer_tag`. In OW_CLOSED. Refused 1, 18, 7.
+ */
+uint32_t ow_lent_error_stale(struct ow_head *head, const uint32_t *held, const uint32_t *places, uint16_t port, uint32_t tag, uint32_t late, uint8_t *out,
+                             size_t out_len, size_t told[2]);
+
+static inline struct ow_answer ow_error_stale(struct ow_association *association, uint16_t port, uint32_t tag, uint32_t late, uint8_t *out, size_t out_len) {
+    size_t told[2];
+    struct ow_answer r;
+    r.number = (uint8_t)ow_lent_error_stale(&association->head, association->held, association->places, port, tag, late, out, out_len, told);
+    r.length = told[0];
+    r.over = told[1] != 0;
+    return r;
+}
+
+/* A value of the host, which the peer's HEARTBEAT ACK brings back. */
+struct ow_value {
+    uint8_t bytes[8];
+};
+
+/* A HEARTBEAT. In OW_ESTABLISHED, OW_SHUTDOWN_PENDING, OW_SHUTDOWN_RECEIVED. Refused 1, 18, 7. */
+uint32_t ow_lent_heartbeat(struct ow_head *head, const uint32_t *held, const uint32_t *places, const uint8_t *value, uint8_t *out, size_t out_len,
+                           size_t told[2]);
+
+static inline struct ow_answer ow_heartbeat(struct ow_association *association, struct ow_value value, uint8_t *out, size_t out_len) {
+    size_t told[2];
+    struct ow_answer r;
+    r.number = (uint8_t)ow_lent_heartbeat(&association->head, association->held, association->places, value.bytes, out, out_len, told);
+    r.length = told[0];
+    r.over = told[1] != 0;
+    return r;
+}
+
+#ifdef __cplusplus
+}
+#endif
+
+#endif
