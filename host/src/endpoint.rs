@@ -522,7 +522,7 @@ impl<L: Library> Endpoint<L> {
         if refusal != Refusal::TAG || peek::<L>(packet) != Peeked::Nothing {
             return;
         }
-        let is_of_peer = self.path.is_of_peer(from) && source_port(packet) == Some(self.core.record().ends.peer_port);
+        let is_of_peer = self.path.is_of_peer(from) && source_port(packet) == Some(self.core.record().head.ends.peer_port);
         if state == State::Closed && is_of_peer && self.last_word.is_late(packet) {
             // An ABORT would make a failure of an end that was clean.
             let again = self.last_word.to_late(packet).map(<[u8]>::to_vec);

@@ -42,32 +42,13 @@ fn claims() -> String {
     let claims = &mut text;
     layouts! { claims:
         ow_ends Ends { local_port peer_port my_tag peer_tag streams_in streams_out }
-        ow_cookie Cookie { bytes len }
         ow_keeping Keeping { point come dups listed }
-        ow_held Held { used begin end unordered tsn stream ssn ppid len }
-        ow_receiving Receiving { keeping held next }
-        ow_chunk Chunk { tsn order stream ssn ppid len begin end unordered }
-        ow_place Place { status misses chunk }
         ow_control Control { cwnd ssthresh partial }
         ow_clock Clock { sampled srtt rttvar rto }
         ow_path Path { control clock flight running until tries }
-        ow_sending Sending { acked next_tsn advertised oldest places next path }
-        ow_association Record { state tries ends cookie receiving sending }
-        ow_answer Answer { number length over }
-        ow_peeked Peeked { number kind source tag window outs ins tsn at len }
-        ow_lent Lent { tag tsn streams }
-        ow_made Made { my_tag peer_tag streams_in streams_out my_tsn peer_tsn window }
-        ow_echoed Echoed { word made }
-        ow_verdict Verdict { at value fate number cause event }
-        ow_arrived Arrived { number count verdicts length }
-        ow_handed_in HandedIn { number chunks }
-        ow_transmitted Transmitted { number length resent first last }
-        ow_message Message { length stream unordered ssn ppid }
-        ow_delivered Delivered { number message }
-        ow_blocks Blocks { count starts ends }
-        ow_sacked Sacked { point window blocks dups listed }
-        ow_acknowledged Acknowledged { number length sack }
-        ow_value Value { bytes }
+        ow_sender Sender { acked next_tsn advertised oldest path }
+        ow_head Head { state tries cookie_len ends keeping sender }
+        ow_association Record { head held next_in places next_out cookie }
     }
     numbers! { claims:
         OW_PLACES ffi::PLACES,
