@@ -1,7 +1,6 @@
 //! The model as a library, so that whatever runs on the proved one runs on it too.
 
-#[path = "../alike/mod.rs"]
-mod alike;
+pub mod alike;
 
 use alike::{record_of, shown, store, Alike};
 use model::record::Association;
