@@ -53,7 +53,7 @@ extern "C" {
 #define OW_RECORD 1     /* record outside its bounds, its `state` and `tries` name no state, or a flag is neither 0 nor 1 */
 #define OW_SIZE 2       /* a packet under 16 bytes, over 1,472, or not a multiple of 4 */
 #define OW_CHECKSUM 3   /* the packet's CRC32c */
-#define OW_HEAD 4       /* port or tag; of ow_associate: port 0 */
+#define OW_HEAD 4       /* port or tag; of ow_associate: a port 0; of ow_error_stale: a port 0 or tag 0 */
 #define OW_LENGTH 5     /* a chunk's length: under its least, past the packet, or not filled by its parameters or SACK counts */
 #define OW_BUNDLED 6    /* bundled where it must stand alone */
 #define OW_STATE 7      /* chunk or call not for this state; of ow_t3 also: nothing outstanding */
@@ -179,7 +179,8 @@ struct ow_clock {
     uint32_t rto;
 };
 
-/* The one path. `running`: fast recovery runs, until the point reaches `until`. `tries`: expiries of T3 since a chunk was newly acknowledged. */
+/* The one path. `running`: fast recovery runs, until the point reaches `until`. `tries`: expiries of T3 since the peer
+ * answered: a chunk was newly acknowledged, a SACK told of a window under OW_PAYLOAD, or a HEARTBEAT ACK came. */
 struct ow_path {
     struct ow_control control;
     struct ow_clock clock;
@@ -224,7 +225,7 @@ struct ow_answer {
 /*
  * Asks the peer at `port` for an association: an INIT goes out and T1 runs. In OW_CLOSED; the record starts afresh, and what was not taken is dropped.
  * `tag`: our tag, not 0, and `tsn`: our first TSN, both random. `streams`: those wanted for sending, at least 1; over 128 are used as 128.
- * Refused 1, 18, 7, 4 (port 0), 8 (tag 0 or no streams).
+ * Refused 1, 18, 7, 4 (port 0, the record's own too), 8 (tag 0 or no streams).
  */
 struct ow_answer ow_associate(struct ow_association *association, uint32_t tag, ow_tsn tsn, uint16_t port, uint16_t streams, uint8_t *out, size_t out_len);
 
@@ -291,9 +292,9 @@ struct ow_echoed {
 #define OW_ACCEPTED 0
 #define OW_REFUSED 1             /* with `number` */
 #define OW_SKIPPED 2             /* of an unknown type: left aside */
-#define OW_SKIPPED_REPORTED 3    /* and reported to the peer */
+#define OW_SKIPPED_REPORTED 3    /* and to be reported to the peer: the ERROR is in the reply, if there is room and no other chunk silences or displaces it */
 #define OW_STOPPED 4             /* of an unknown type: what follows is unread */
-#define OW_STOPPED_REPORTED 5    /* and reported to the peer */
+#define OW_STOPPED_REPORTED 5    /* and to be reported to the peer, likewise */
 #define OW_UNREAD 6              /* behind a chunk that ended the packet */
 
 /* `event` that a chunk caused. */
@@ -411,7 +412,8 @@ struct ow_acknowledged {
 
 /*
  * Tells the peer what has come: a SACK, and its values beside it; the duplicates listed are told with it. In OW_ESTABLISHED, OW_SHUTDOWN_PENDING,
- * OW_SHUTDOWN_SENT. When to call it is the host's (RFC 9260 section 6.2: every second packet with DATA, or 200 ms after one). Refused 1, 18, 7.
+ * OW_SHUTDOWN_SENT. When to call it is the host's (RFC 9260 section 6.2: every second packet with DATA, or 200 ms after one; section 5.1: the
+ * first DATA at once). Refused 1, 18, 7.
  */
 struct ow_acknowledged ow_sack(struct ow_association *association, uint8_t *out, size_t out_len);
 
@@ -456,7 +458,7 @@ struct ow_answer ow_error_stream(struct ow_association *association, ow_stream s
 
 /*
  * Tells the peer that the cookie it echoed came `late` microseconds past its lifetime: an ERROR with cause 3. `port`: the one that the echo came from. `tag`: the
- * cookie's `peer_tag`. In OW_CLOSED. Refused 1, 18, 7.
+ * cookie's `peer_tag`. In OW_CLOSED. Refused 1, 18, 7, 4 (port 0, the record's own too, or tag 0).
  */
 struct ow_answer ow_error_stale(struct ow_association *association, uint16_t port, uint32_t tag, uint32_t late, uint8_t *out, size_t out_len);
 

@@ -30,8 +30,8 @@ impl<L: Library> Line<L> {
         self.socket.local_addr()
     }
 
-    /// Why the last packet that could not be sent was not, or did not arrive, if none has come since. It counts as lost, so that no peer can stop this end by
-    /// an address that nothing can be sent to.
+    /// Why the last packet could not be sent, or did not arrive, if none has come since. It counts as lost, so that no peer can stop this end by an address
+    /// that nothing can be sent to.
     pub fn trouble(&self) -> Option<&io::Error> {
         self.trouble.as_ref()
     }
@@ -62,9 +62,7 @@ impl<L: Library> Line<L> {
             if let Some(tap) = &self.tap {
                 tap.sent(datagram.to, &datagram.packet);
             }
-            if let Err(e) = self.socket.send_to(&datagram.packet, datagram.to) {
-                self.trouble = Some(e);
-            }
+            self.trouble = self.socket.send_to(&datagram.packet, datagram.to).err();
         }
     }
 
@@ -111,6 +109,15 @@ fn is_trouble(e: &io::Error) -> bool {
 #[cfg(test)]
 mod tests {
     use super::*;
+
+    #[test]
+    fn a_network_that_is_down_or_a_closed_port_does_not_end_a_line() {
+        let is_told = |number: i32| is_trouble(&io::Error::from_raw_os_error(number));
+        // A network that is down or unreachable, a port that is closed, a host that is down or unreachable.
+        assert!([100, 101, 111, 112, 113].into_iter().all(is_told));
+        // No such socket.
+        assert!(!is_told(9));
+    }
 
     #[test]
     fn a_wait_is_whole_grains_and_never_for_ever() {

@@ -231,6 +231,23 @@ fn restarts_t3_when_the_first_chunk_is_resent_fast<L: Library>() {
     assert_eq!((pair.ends[0].endpoint.counts().resent, pair.ends[0].endpoint.counts().expiries), (1, 0));
 }
 
+/// What shows whether the peer is there is DATA that goes out for the first time.
+fn a_resent_chunk_does_not_put_off_the_heartbeat<L: Library>() {
+    let config = |end| Config { heartbeat: Duration::from_secs(2), ..config(end) };
+    for seed in 0..8 {
+        let mut pair = Pair::<L>::with(slow(300), seed, [config(0), config(1)]);
+        pair.associate();
+        assert!(pair.run_until(MINUTE, |pair| pair.are(State::Established)));
+        pair.ends[0].loses = loses_first(DATA, 1);
+        for _ in 0..4 {
+            pair.ends[0].endpoint.hand_in(&[3; 512], 0, false, 0).expect("there is room");
+        }
+        // Sent at 0 and resent at 600 ms: from the first moment on it is 2 s, and 1.5 RTO of 1,000 ms at most, to the heartbeat.
+        pair.run_for(Duration::from_millis(3500));
+        assert_eq!((pair.ends[0].endpoint.counts().resent, sent(&pair, 0, HEARTBEAT)), (1, 1), "seed {}", seed);
+    }
+}
+
 fn sends_four_packets_at_a_time<L: Library>() {
     let mut pair = Pair::<L>::up(slow(20), 20);
     let all = 400;
@@ -430,6 +447,7 @@ on_both! {
     acknowledges_every_second_packet_or_after_200_ms
     acknowledges_at_once_where_the_sender_asks_for_it
     restarts_t3_when_the_first_chunk_is_resent_fast
+    a_resent_chunk_does_not_put_off_the_heartbeat
     sends_four_packets_at_a_time
     acknowledges_a_gap_at_once_and_resends_without_waiting_for_t3
     an_opposite_chunk_asks_for_no_sack

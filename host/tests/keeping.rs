@@ -5,7 +5,7 @@ mod modelled;
 mod pair;
 
 use modelled::Modelled;
-use oilwhisper::calls::State;
+use oilwhisper::calls::{Refusal, State};
 use oilwhisper::endpoint::{Config, Event, Why};
 use oilwhisper::library::Library;
 use pair::*;
@@ -52,6 +52,29 @@ fn a_third_association_waits_until_the_first_was_taken<L: Library>() {
     send_and_close(&mut pair, 2, 2);
     let taken: Vec<Vec<u8>> = pair.ends[1].taken.iter().map(|(_, _, message)| message.clone()).collect();
     assert_eq!(taken, [[0, 0], [0, 1], [1, 0], [1, 1], [2, 0], [2, 1]]);
+}
+
+fn who_asks_again_keeps_what_it_has_not_taken<L: Library>() {
+    let mut pair = Pair::<L>::up(slow(1), 36);
+    pair.ends[0].takes = false;
+    for round in 0..2u8 {
+        if round > 0 {
+            pair.associate();
+            assert!(pair.run_until(MINUTE, |pair| pair.are(State::Established)));
+        }
+        for n in 0..3 {
+            pair.ends[1].endpoint.hand_in(&[round, n], 0, false, 0).expect("there is room");
+        }
+        let now = pair.now;
+        pair.ends[1].endpoint.shutdown(now).expect("an established association shuts down");
+        assert!(pair.run_until(MINUTE, |pair| pair.are(State::Closed)));
+    }
+    let (to, now) = (pair.ends[1].address, pair.now);
+    assert_eq!(pair.ends[0].endpoint.associate(to, PORTS[1], now), Err(Refusal::STATE));
+    pair.ends[0].takes = true;
+    pair.run_for(SECOND);
+    let taken: Vec<Vec<u8>> = pair.ends[0].taken.iter().map(|(_, _, message)| message.clone()).collect();
+    assert_eq!(taken, [[0, 0], [0, 1], [0, 2], [1, 0], [1, 1], [1, 2]]);
 }
 
 fn hand_in_up_to<L: Library>(pair: &mut Pair<L>, handed_in: &mut u8, all: u8) {
@@ -142,6 +165,7 @@ fn silence_shows_with_data_outstanding_too<L: Library>() {
 on_both! {
     acknowledged_messages_outlive_their_association
     a_third_association_waits_until_the_first_was_taken
+    who_asks_again_keeps_what_it_has_not_taken
     a_window_closed_for_an_hour_keeps_the_association_up
     a_peer_that_vanished_behind_a_closed_window_ends_it_at_the_eleventh_expiry
     a_peer_that_is_lost_shows_after_five_seconds

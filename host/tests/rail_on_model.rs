@@ -175,6 +175,22 @@ fn a_head_says_where_nobody_listens_and_can_be_stopped() {
 }
 
 #[test]
+fn a_head_no_longer_says_that_nobody_listens_where_somebody_does() {
+    let stop = Stop::default();
+    let asked = stop.clone();
+    let address = format!("127.0.0.1:{}", free_port());
+    let line = format!("head {}", address);
+    let head = thread::spawn(move || run_until(&line, &asked).unwrap_or_else(|failure| panic!("{}", failure)));
+    // The head asks again a second after its first INIT found nobody.
+    thread::sleep(Duration::from_millis(500));
+    let _mute = UdpSocket::bind(&address).expect("the port is still free");
+    thread::sleep(Duration::from_millis(2000));
+    stop.ask();
+    let (_, said) = head.join().expect("the head ends");
+    assert!(said.contains(&format!("  no answer from {} yet\n", address)), "{}", said);
+}
+
+#[test]
 fn a_head_says_why_the_answer_is_refused() {
     let peer = UdpSocket::bind("127.0.0.1:0").expect("there is a free port");
     let address = peer.local_addr().expect("it has an address");

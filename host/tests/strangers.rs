@@ -5,7 +5,7 @@ mod modelled;
 mod pair;
 
 use modelled::Modelled;
-use oilwhisper::calls::State;
+use oilwhisper::calls::{Refusal, State};
 use oilwhisper::endpoint::{Config, Endpoint, Event, Why};
 use oilwhisper::library::Library;
 use oilwhisper::random::Random;
@@ -49,6 +49,21 @@ fn another_port_of_the_peer_is_followed_at_once<L: Library>() {
     assert_eq!(pair.ends[1].taken.len(), 1);
     assert_eq!(pair.ends[1].astray, []);
     assert_eq!(pair.ends[0].endpoint.counts().expiries, 0);
+}
+
+/// With our tag and a duplicate, and then with the peer's own tag, which an ABORT may show (RFC 9260 section 8.5.1 B).
+fn what_is_refused_or_shows_no_tag_of_ours_moves_nothing<L: Library>() {
+    let mut pair = with_strangers::<L>(slow(5), 31);
+    let [theirs, ours] = [0, 1].map(|end: usize| pair.ends[end].endpoint.standing().my_tag);
+    let (peer, other_port) = (pair.ends[0].address, SocketAddr::new(pair.ends[0].address.ip(), 40_000));
+    let mut duplicate = vec![DATA, 3, 0, 20];
+    duplicate.extend_from_slice(&(u32::MAX - 100).to_be_bytes());
+    duplicate.extend_from_slice(&[0, 0, 0, 0, 0, 0, 0, 0, 1, 2, 3, 4]);
+    pair.arrive(1, &sealed(1, ours, &duplicate), other_port);
+    assert_eq!(pair.ends[1].endpoint.counts().refusals().collect::<Vec<_>>(), [(Refusal::DUPLICATE, 1)]);
+    assert_eq!(pair.ends[1].endpoint.peer(), Some(peer));
+    pair.arrive(1, &sealed(1, theirs, &[ABORT, 1, 0, 4]), other_port);
+    assert_eq!((pair.state(1), pair.ends[1].endpoint.peer()), (State::Closed, Some(peer)));
 }
 
 fn another_address_is_believed_when_it_has_answered<L: Library>() {
@@ -255,6 +270,7 @@ fn over_real_sockets_a_stranger_gets_nothing<L: Library>() {
 on_both! {
     inits_from_forged_addresses_change_nothing_for_an_hour
     another_port_of_the_peer_is_followed_at_once
+    what_is_refused_or_shows_no_tag_of_ours_moves_nothing
     another_address_is_believed_when_it_has_answered
     an_address_that_does_not_answer_gets_one_heartbeat_a_second
     a_client_takes_no_stranger

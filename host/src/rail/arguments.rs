@@ -78,11 +78,13 @@ pub fn parse(words: &[String]) -> Result<Command, Failure> {
     if words.iter().any(|word| word == "--help" || word == "-h") || name == "help" {
         return Ok(Command::Help);
     }
+    if words.iter().any(|word| word == "--version") {
+        return Ok(Command::Version);
+    }
     match name {
         "demo" => demo(Options::of(rest, 0)?).map(Command::Demo),
         "head" => head(Options::of(rest, 1)?).map(Command::Head),
         "field" => field(Options::of(rest, 1)?).map(Command::Field),
-        "--version" => Ok(Command::Version),
         other => Err(Failure(format!("'{}' is no command: there are demo, head, field, help and --version", other))),
     }
 }
@@ -354,11 +356,13 @@ mod tests {
     }
 
     #[test]
-    fn no_command_asks_for_help() {
+    fn every_command_tells_its_help_and_its_version() {
         assert_eq!(parsed(""), Ok(Command::Help));
         for line in ["help", "--help", "-h", "demo --help", "head --help", "field 127.0.0.1:1 -h"] {
             assert_eq!(parsed(line), Ok(Command::Help), "{}", line);
         }
-        assert_eq!(parsed("--version"), Ok(Command::Version));
+        for line in ["--version", "demo --version", "head 127.0.0.1:9899 --version", "field --version"] {
+            assert_eq!(parsed(line), Ok(Command::Version), "{}", line);
+        }
     }
 }
