@@ -230,33 +230,27 @@ impl Record {
     }
 }
 
-/// Lent tables, each whole.
-pub type HeldTable = [u32; HELD_WORDS];
-pub type PlaceTable = [u32; PLACE_WORDS];
-pub type SsnTable = [u16; STREAMS];
-pub type CookieBytes = [u8; COOKIE_MOST];
-
 #[cfg(feature = "proved")]
 extern "C" {
     pub fn ow_lent_close(
-        k: *mut Head,
-        held: *mut HeldTable,
-        next_in: *mut SsnTable,
-        places: *mut PlaceTable,
-        next_out: *mut SsnTable,
-        kept_cookie: *mut CookieBytes,
+        head: *mut Head,
+        held: *mut [u32; HELD_WORDS],
+        next_in: *mut [u16; STREAMS],
+        places: *mut [u32; PLACE_WORDS],
+        next_out: *mut [u16; STREAMS],
+        kept_cookie: *mut [u8; COOKIE_MOST],
         port: u16,
     ) -> u32;
     pub fn ow_version() -> u32;
     pub fn ow_sizes(told: *mut [usize; 7]);
     pub fn ow_lent_peek(packet: *const u8, packet_len: usize, told: *mut [usize; 9]) -> u32;
     pub fn ow_lent_arrive(
-        k: *mut Head,
-        held: *mut HeldTable,
-        next_in: *mut SsnTable,
-        places: *mut PlaceTable,
-        next_out: *mut SsnTable,
-        kept_cookie: *mut CookieBytes,
+        head: *mut Head,
+        held: *mut [u32; HELD_WORDS],
+        next_in: *mut [u16; STREAMS],
+        places: *mut [u32; PLACE_WORDS],
+        next_out: *mut [u16; STREAMS],
+        kept_cookie: *mut [u8; COOKIE_MOST],
         area: *mut u8,
         area_len: usize,
         verdicts: *mut [u32; VERDICT_WORDS],
@@ -280,12 +274,12 @@ extern "C" {
         told: *mut [usize; 2],
     ) -> u32;
     pub fn ow_lent_associate(
-        k: *mut Head,
-        held: *mut HeldTable,
-        next_in: *mut SsnTable,
-        places: *mut PlaceTable,
-        next_out: *mut SsnTable,
-        kept_cookie: *mut CookieBytes,
+        head: *mut Head,
+        held: *mut [u32; HELD_WORDS],
+        next_in: *mut [u16; STREAMS],
+        places: *mut [u32; PLACE_WORDS],
+        next_out: *mut [u16; STREAMS],
+        kept_cookie: *mut [u8; COOKIE_MOST],
         tag: u32,
         tsn: u32,
         port: u16,
@@ -295,9 +289,9 @@ extern "C" {
         told: *mut [usize; 2],
     ) -> u32;
     pub fn ow_lent_hand_in(
-        k: *mut Head,
-        held: *const HeldTable,
-        places: *mut PlaceTable,
+        head: *mut Head,
+        held: *const [u32; HELD_WORDS],
+        places: *mut [u32; PLACE_WORDS],
         area: *mut u8,
         area_len: usize,
         message: *const u8,
@@ -308,10 +302,10 @@ extern "C" {
         told: *mut [usize; 1],
     ) -> u32;
     pub fn ow_lent_transmit(
-        k: *mut Head,
-        held: *const HeldTable,
-        places: *mut PlaceTable,
-        next_out: *mut SsnTable,
+        head: *mut Head,
+        held: *const [u32; HELD_WORDS],
+        places: *mut [u32; PLACE_WORDS],
+        next_out: *mut [u16; STREAMS],
         area: *const u8,
         area_len: usize,
         out: *mut u8,
@@ -319,10 +313,10 @@ extern "C" {
         told: *mut [usize; 4],
     ) -> u32;
     pub fn ow_lent_take(
-        k: *mut Head,
-        held: *mut HeldTable,
-        next_in: *mut SsnTable,
-        places: *const PlaceTable,
+        head: *mut Head,
+        held: *mut [u32; HELD_WORDS],
+        next_in: *mut [u16; STREAMS],
+        places: *const [u32; PLACE_WORDS],
         area: *const u8,
         area_len: usize,
         out: *mut u8,
@@ -330,9 +324,9 @@ extern "C" {
         told: *mut [usize; 5],
     ) -> u32;
     pub fn ow_lent_sack(
-        k: *mut Head,
-        held: *const HeldTable,
-        places: *const PlaceTable,
+        head: *mut Head,
+        held: *const [u32; HELD_WORDS],
+        places: *const [u32; PLACE_WORDS],
         out: *mut u8,
         out_len: usize,
         starts: *mut [u16; BLOCKS],
@@ -341,37 +335,37 @@ extern "C" {
         told: *mut [usize; 5],
     ) -> u32;
     pub fn ow_lent_t1(
-        k: *mut Head,
-        held: *const HeldTable,
-        places: *const PlaceTable,
-        kept_cookie: *const CookieBytes,
+        head: *mut Head,
+        held: *const [u32; HELD_WORDS],
+        places: *const [u32; PLACE_WORDS],
+        kept_cookie: *const [u8; COOKIE_MOST],
         out: *mut u8,
         out_len: usize,
         told: *mut [usize; 2],
     ) -> u32;
     pub fn ow_lent_t2(
-        k: *mut Head,
-        held: *const HeldTable,
-        places: *const PlaceTable,
-        kept_cookie: *const CookieBytes,
+        head: *mut Head,
+        held: *const [u32; HELD_WORDS],
+        places: *const [u32; PLACE_WORDS],
+        kept_cookie: *const [u8; COOKIE_MOST],
         out: *mut u8,
         out_len: usize,
         told: *mut [usize; 2],
     ) -> u32;
-    pub fn ow_lent_t3(k: *mut Head, held: *const HeldTable, places: *mut PlaceTable, told: *mut [usize; 2]) -> u32;
-    pub fn ow_lent_rtt(k: *mut Head, held: *const HeldTable, places: *const PlaceTable, sample: u32, told: *mut [usize; 2]) -> u32;
+    pub fn ow_lent_t3(head: *mut Head, held: *const [u32; HELD_WORDS], places: *mut [u32; PLACE_WORDS], told: *mut [usize; 2]) -> u32;
+    pub fn ow_lent_rtt(head: *mut Head, held: *const [u32; HELD_WORDS], places: *const [u32; PLACE_WORDS], sample: u32, told: *mut [usize; 2]) -> u32;
     pub fn ow_lent_shutdown(
-        k: *mut Head,
-        held: *const HeldTable,
-        places: *const PlaceTable,
+        head: *mut Head,
+        held: *const [u32; HELD_WORDS],
+        places: *const [u32; PLACE_WORDS],
         out: *mut u8,
         out_len: usize,
         told: *mut [usize; 2],
     ) -> u32;
     pub fn ow_lent_abort(
-        k: *mut Head,
-        held: *const HeldTable,
-        places: *const PlaceTable,
+        head: *mut Head,
+        held: *const [u32; HELD_WORDS],
+        places: *const [u32; PLACE_WORDS],
         cause: u8,
         tsn: u32,
         out: *mut u8,
@@ -379,18 +373,18 @@ extern "C" {
         told: *mut [usize; 2],
     ) -> u32;
     pub fn ow_lent_error_stream(
-        k: *mut Head,
-        held: *const HeldTable,
-        places: *const PlaceTable,
+        head: *mut Head,
+        held: *const [u32; HELD_WORDS],
+        places: *const [u32; PLACE_WORDS],
         stream: u16,
         out: *mut u8,
         out_len: usize,
         told: *mut [usize; 2],
     ) -> u32;
     pub fn ow_lent_error_stale(
-        k: *mut Head,
-        held: *const HeldTable,
-        places: *const PlaceTable,
+        head: *mut Head,
+        held: *const [u32; HELD_WORDS],
+        places: *const [u32; PLACE_WORDS],
         port: u16,
         tag: u32,
         late: u32,
@@ -399,9 +393,9 @@ extern "C" {
         told: *mut [usize; 2],
     ) -> u32;
     pub fn ow_lent_heartbeat(
-        k: *mut Head,
-        held: *const HeldTable,
-        places: *const PlaceTable,
+        head: *mut Head,
+        held: *const [u32; HELD_WORDS],
+        places: *const [u32; PLACE_WORDS],
         value: *const [u8; 8],
         out: *mut u8,
         out_len: usize,
