@@ -45,9 +45,9 @@ extern "C" {
 #define OW_LISTED 16          /* duplicates that a SACK lists, at most */
 #define OW_BLOCKS 64          /* gap blocks of a SACK, at most */
 #define OW_VERDICTS 365       /* chunks of a packet, at most */
-#define OW_HELD_WORDS 512     /* words of the places for receiving: 4 for each */
-#define OW_PLACE_WORDS 1024   /* words of the places for sending: 8 for each */
-#define OW_VERDICT_WORDS 1460 /* words of the verdicts: 4 for each */
+#define OW_HELD_WORDS 4       /* words of a place for receiving */
+#define OW_PLACE_WORDS 8      /* words of a place for sending */
+#define OW_VERDICT_WORDS 4    /* words of a verdict */
 #define OW_OPENING_TRIES 8    /* expiries of T1 that try again; the next one closes */
 #define OW_TRIES 10           /* the same of T2 and of T3 */
 
@@ -164,9 +164,9 @@ struct ow_head {
 /* `next_in` is the SSN expected next on each stream, `next_out` the next to give. */
 struct ow_association {
     struct ow_head head;
-    uint32_t held[OW_HELD_WORDS];    /* read by ow_held_at */
+    uint32_t held[OW_HELD_WORDS * OW_PLACES];    /* ow_held_of reads it */
     ow_ssn next_in[OW_STREAMS];
-    uint32_t places[OW_PLACE_WORDS]; /* read by ow_place_at */
+    uint32_t places[OW_PLACE_WORDS * OW_PLACES]; /* ow_place_of reads it */
     ow_ssn next_out[OW_STREAMS];
     uint8_t cookie[OW_COOKIE_MOST];
 };
@@ -185,8 +185,8 @@ struct ow_held {
 };
 
 /* The place i, under OW_PLACES, from its words: TSN; SSN; PPID; stream times 2^16, length times 16, and the flags 1, 2, 4, 8. */
-static inline struct ow_held ow_held_at(const struct ow_association *association, size_t i) {
-    const uint32_t *words = association->held + 4 * i;
+static inline struct ow_held ow_held_of(const struct ow_association *association, size_t i) {
+    const uint32_t *words = association->held + OW_HELD_WORDS * i;
     struct ow_held held;
     held.used = words[3] & 1;
     held.begin = words[3] >> 1 & 1;
@@ -226,8 +226,8 @@ struct ow_place {
  * The place i, under OW_PLACES, from its words: TSN; order; SSN; PPID; stream times 2^16, length times 16, and the flags 1, 2, 4; misses times 2^8 and `status`; the
  * last two are nobody's, and stay.
  */
-static inline struct ow_place ow_place_at(const struct ow_association *association, size_t i) {
-    const uint32_t *words = association->places + 8 * i;
+static inline struct ow_place ow_place_of(const struct ow_association *association, size_t i) {
+    const uint32_t *words = association->places + OW_PLACE_WORDS * i;
     struct ow_place place;
     place.status = (uint8_t)words[5];
     place.misses = (uint8_t)(words[5] >> 8);
@@ -245,8 +245,8 @@ static inline struct ow_place ow_place_at(const struct ow_association *associati
 
 /* ---- Opening ----------------------------------------------------------------------------------------------------------------------------- */
 
-/* Whether the library that is linked is this header's: ask it once, before any other call. */
-static inline bool ow_fits(void);
+/* Whether the library that is linked is the one that this header is for: ask once, before any other call. */
+static inline bool ow_is_at_hand(void);
 
 /* A closed record at one of the host's ports. Messages that are still to be taken stay in a record that was closed; this one is empty. */
 static inline struct ow_association ow_closed(uint16_t port);
@@ -361,8 +361,8 @@ struct ow_verdict {
 };
 
 /* The verdict of the packet's chunk i, under `count`, from its words: `at`; `value`; `fate` times 2^8 and `number`; `cause` times 2^8 and `event`. */
-static inline struct ow_verdict ow_verdict_at(const uint32_t *verdicts, size_t i) {
-    const uint32_t *words = verdicts + 4 * i;
+static inline struct ow_verdict ow_verdict_of(const uint32_t *verdicts, size_t i) {
+    const uint32_t *words = verdicts + OW_VERDICT_WORDS * i;
     struct ow_verdict verdict;
     verdict.at = words[0];
     verdict.value = words[1];
@@ -386,7 +386,7 @@ struct ow_arrived {
  * The verdicts stand in the order of the chunks; words behind the last one stay.
  * Refused 1, 18 (`area` or `out`), 2, 3, 4, 5, 6: then there are no verdicts. What refuses a chunk is in its verdict.
  */
-static inline struct ow_arrived ow_arrive(struct ow_association *association, uint8_t *area, size_t area_len, uint32_t verdicts[OW_VERDICT_WORDS],
+static inline struct ow_arrived ow_arrive(struct ow_association *association, uint8_t *area, size_t area_len, uint32_t verdicts[OW_VERDICT_WORDS * OW_VERDICTS],
     const uint8_t *packet, size_t packet_len, struct ow_lent lent, const uint8_t *cookie, size_t cookie_len, struct ow_echoed echoed, uint8_t *out, size_t out_len);
 
 /* ---- Messages ---------------------------------------------------------------------------------------------------------------------------- */
@@ -535,52 +535,53 @@ uint32_t ow_version(void);
 /* Bytes of a head, held chunks, next SSNs in, places, next SSNs out, a cookie, verdicts. */
 void ow_sizes(size_t told[7]);
 
-uint32_t ow_lent_close(struct ow_head *head, uint32_t held[OW_HELD_WORDS], ow_ssn next_in[OW_STREAMS], uint32_t places[OW_PLACE_WORDS],
-    ow_ssn next_out[OW_STREAMS], uint8_t kept_cookie[OW_COOKIE_MOST], uint16_t port);
-uint32_t ow_lent_associate(struct ow_head *head, uint32_t held[OW_HELD_WORDS], ow_ssn next_in[OW_STREAMS], uint32_t places[OW_PLACE_WORDS],
-    ow_ssn next_out[OW_STREAMS], uint8_t kept_cookie[OW_COOKIE_MOST], uint32_t tag, ow_tsn tsn, uint16_t port, uint16_t streams, uint8_t *out,
-    size_t out_len, size_t told[2]);
+uint32_t ow_lent_close(struct ow_head *head, uint32_t held[OW_HELD_WORDS * OW_PLACES], ow_ssn next_in[OW_STREAMS],
+    uint32_t places[OW_PLACE_WORDS * OW_PLACES], ow_ssn next_out[OW_STREAMS], uint8_t kept_cookie[OW_COOKIE_MOST], uint16_t port);
+uint32_t ow_lent_associate(struct ow_head *head, uint32_t held[OW_HELD_WORDS * OW_PLACES], ow_ssn next_in[OW_STREAMS],
+    uint32_t places[OW_PLACE_WORDS * OW_PLACES], ow_ssn next_out[OW_STREAMS], uint8_t kept_cookie[OW_COOKIE_MOST], uint32_t tag, ow_tsn tsn,
+    uint16_t port, uint16_t streams, uint8_t *out, size_t out_len, size_t told[2]);
 uint32_t ow_lent_peek(const uint8_t *packet, size_t packet_len, size_t told[9]);
-uint32_t ow_lent_arrive(struct ow_head *head, uint32_t held[OW_HELD_WORDS], ow_ssn next_in[OW_STREAMS], uint32_t places[OW_PLACE_WORDS],
-    ow_ssn next_out[OW_STREAMS], uint8_t kept_cookie[OW_COOKIE_MOST], uint8_t *area, size_t area_len, uint32_t verdicts[OW_VERDICT_WORDS],
-    const uint8_t *packet, size_t packet_len, uint32_t tag, ow_tsn tsn, uint16_t streams, const uint8_t *cookie, size_t cookie_len, uint8_t word,
-    uint32_t my_tag, uint32_t peer_tag, uint16_t streams_in, uint16_t streams_out, ow_tsn my_tsn, ow_tsn peer_tsn, uint32_t window, uint8_t *out,
-    size_t out_len, size_t told[2]);
-uint32_t ow_lent_hand_in(struct ow_head *head, const uint32_t held[OW_HELD_WORDS], uint32_t places[OW_PLACE_WORDS], uint8_t *area, size_t area_len,
-    const uint8_t *message, size_t message_len, ow_stream stream, uint8_t unordered, uint32_t ppid, size_t told[1]);
-uint32_t ow_lent_transmit(struct ow_head *head, const uint32_t held[OW_HELD_WORDS], uint32_t places[OW_PLACE_WORDS], ow_ssn next_out[OW_STREAMS],
-    const uint8_t *area, size_t area_len, uint8_t *out, size_t out_len, size_t told[4]);
-uint32_t ow_lent_take(struct ow_head *head, uint32_t held[OW_HELD_WORDS], ow_ssn next_in[OW_STREAMS], const uint32_t places[OW_PLACE_WORDS],
-    const uint8_t *area, size_t area_len, uint8_t *out, size_t out_len, size_t told[5]);
-uint32_t ow_lent_sack(struct ow_head *head, const uint32_t held[OW_HELD_WORDS], const uint32_t places[OW_PLACE_WORDS], uint8_t *out, size_t out_len,
-    uint16_t starts[OW_BLOCKS], uint16_t ends[OW_BLOCKS], ow_tsn dups[OW_LISTED], size_t told[5]);
-uint32_t ow_lent_t1(struct ow_head *head, const uint32_t held[OW_HELD_WORDS], const uint32_t places[OW_PLACE_WORDS],
+uint32_t ow_lent_arrive(struct ow_head *head, uint32_t held[OW_HELD_WORDS * OW_PLACES], ow_ssn next_in[OW_STREAMS],
+    uint32_t places[OW_PLACE_WORDS * OW_PLACES], ow_ssn next_out[OW_STREAMS], uint8_t kept_cookie[OW_COOKIE_MOST], uint8_t *area, size_t area_len,
+    uint32_t verdicts[OW_VERDICT_WORDS * OW_VERDICTS], const uint8_t *packet, size_t packet_len, uint32_t tag, ow_tsn tsn, uint16_t streams,
+    const uint8_t *cookie, size_t cookie_len, uint8_t word, uint32_t my_tag, uint32_t peer_tag, uint16_t streams_in, uint16_t streams_out,
+    ow_tsn my_tsn, ow_tsn peer_tsn, uint32_t window, uint8_t *out, size_t out_len, size_t told[2]);
+uint32_t ow_lent_hand_in(struct ow_head *head, const uint32_t held[OW_HELD_WORDS * OW_PLACES], uint32_t places[OW_PLACE_WORDS * OW_PLACES],
+    uint8_t *area, size_t area_len, const uint8_t *message, size_t message_len, ow_stream stream, uint8_t unordered, uint32_t ppid, size_t told[1]);
+uint32_t ow_lent_transmit(struct ow_head *head, const uint32_t held[OW_HELD_WORDS * OW_PLACES], uint32_t places[OW_PLACE_WORDS * OW_PLACES],
+    ow_ssn next_out[OW_STREAMS], const uint8_t *area, size_t area_len, uint8_t *out, size_t out_len, size_t told[4]);
+uint32_t ow_lent_take(struct ow_head *head, uint32_t held[OW_HELD_WORDS * OW_PLACES], ow_ssn next_in[OW_STREAMS],
+    const uint32_t places[OW_PLACE_WORDS * OW_PLACES], const uint8_t *area, size_t area_len, uint8_t *out, size_t out_len, size_t told[5]);
+uint32_t ow_lent_sack(struct ow_head *head, const uint32_t held[OW_HELD_WORDS * OW_PLACES], const uint32_t places[OW_PLACE_WORDS * OW_PLACES],
+    uint8_t *out, size_t out_len, uint16_t starts[OW_BLOCKS], uint16_t ends[OW_BLOCKS], ow_tsn dups[OW_LISTED], size_t told[5]);
+uint32_t ow_lent_t1(struct ow_head *head, const uint32_t held[OW_HELD_WORDS * OW_PLACES], const uint32_t places[OW_PLACE_WORDS * OW_PLACES],
     const uint8_t kept_cookie[OW_COOKIE_MOST], uint8_t *out, size_t out_len, size_t told[2]);
-uint32_t ow_lent_t2(struct ow_head *head, const uint32_t held[OW_HELD_WORDS], const uint32_t places[OW_PLACE_WORDS],
+uint32_t ow_lent_t2(struct ow_head *head, const uint32_t held[OW_HELD_WORDS * OW_PLACES], const uint32_t places[OW_PLACE_WORDS * OW_PLACES],
     const uint8_t kept_cookie[OW_COOKIE_MOST], uint8_t *out, size_t out_len, size_t told[2]);
-uint32_t ow_lent_t3(struct ow_head *head, const uint32_t held[OW_HELD_WORDS], uint32_t places[OW_PLACE_WORDS], size_t told[2]);
-uint32_t ow_lent_rtt(struct ow_head *head, const uint32_t held[OW_HELD_WORDS], const uint32_t places[OW_PLACE_WORDS], uint32_t sample,
+uint32_t ow_lent_t3(struct ow_head *head, const uint32_t held[OW_HELD_WORDS * OW_PLACES], uint32_t places[OW_PLACE_WORDS * OW_PLACES],
     size_t told[2]);
-uint32_t ow_lent_shutdown(struct ow_head *head, const uint32_t held[OW_HELD_WORDS], const uint32_t places[OW_PLACE_WORDS], uint8_t *out,
-    size_t out_len, size_t told[2]);
-uint32_t ow_lent_abort(struct ow_head *head, const uint32_t held[OW_HELD_WORDS], const uint32_t places[OW_PLACE_WORDS], uint8_t cause, ow_tsn tsn,
+uint32_t ow_lent_rtt(struct ow_head *head, const uint32_t held[OW_HELD_WORDS * OW_PLACES], const uint32_t places[OW_PLACE_WORDS * OW_PLACES],
+    uint32_t sample, size_t told[2]);
+uint32_t ow_lent_shutdown(struct ow_head *head, const uint32_t held[OW_HELD_WORDS * OW_PLACES], const uint32_t places[OW_PLACE_WORDS * OW_PLACES],
     uint8_t *out, size_t out_len, size_t told[2]);
-uint32_t ow_lent_error_stream(struct ow_head *head, const uint32_t held[OW_HELD_WORDS], const uint32_t places[OW_PLACE_WORDS], ow_stream stream,
-    uint8_t *out, size_t out_len, size_t told[2]);
-uint32_t ow_lent_error_stale(struct ow_head *head, const uint32_t held[OW_HELD_WORDS], const uint32_t places[OW_PLACE_WORDS], uint16_t port,
-    uint32_t tag, uint32_t late, uint8_t *out, size_t out_len, size_t told[2]);
-uint32_t ow_lent_heartbeat(struct ow_head *head, const uint32_t held[OW_HELD_WORDS], const uint32_t places[OW_PLACE_WORDS], const uint8_t value[8],
-    uint8_t *out, size_t out_len, size_t told[2]);
+uint32_t ow_lent_abort(struct ow_head *head, const uint32_t held[OW_HELD_WORDS * OW_PLACES], const uint32_t places[OW_PLACE_WORDS * OW_PLACES],
+    uint8_t cause, ow_tsn tsn, uint8_t *out, size_t out_len, size_t told[2]);
+uint32_t ow_lent_error_stream(struct ow_head *head, const uint32_t held[OW_HELD_WORDS * OW_PLACES],
+    const uint32_t places[OW_PLACE_WORDS * OW_PLACES], ow_stream stream, uint8_t *out, size_t out_len, size_t told[2]);
+uint32_t ow_lent_error_stale(struct ow_head *head, const uint32_t held[OW_HELD_WORDS * OW_PLACES], const uint32_t places[OW_PLACE_WORDS * OW_PLACES],
+    uint16_t port, uint32_t tag, uint32_t late, uint8_t *out, size_t out_len, size_t told[2]);
+uint32_t ow_lent_heartbeat(struct ow_head *head, const uint32_t held[OW_HELD_WORDS * OW_PLACES], const uint32_t places[OW_PLACE_WORDS * OW_PLACES],
+    const uint8_t value[8], uint8_t *out, size_t out_len, size_t told[2]);
 
 /* ---- The calls over them ----------------------------------------------------------------------------------------------------------------- */
 
-static inline bool ow_fits(void) {
+static inline bool ow_is_at_hand(void) {
     size_t sizes[7];
     struct ow_association *lent = NULL;
     ow_sizes(sizes);
     return ow_version() == OW_VERSION && sizes[0] == sizeof lent->head && sizes[1] == sizeof lent->held && sizes[2] == sizeof lent->next_in &&
            sizes[3] == sizeof lent->places && sizes[4] == sizeof lent->next_out && sizes[5] == sizeof lent->cookie &&
-           sizes[6] == OW_VERDICT_WORDS * sizeof(uint32_t);
+           sizes[6] == sizeof(uint32_t) * OW_VERDICT_WORDS * OW_VERDICTS;
 }
 
 static inline struct ow_answer ow_answered(uint32_t number, const size_t *told) {
@@ -620,7 +621,7 @@ static inline struct ow_peeked ow_peek(const uint8_t *packet, size_t packet_len)
     return peeked;
 }
 
-static inline struct ow_arrived ow_arrive(struct ow_association *a, uint8_t *area, size_t area_len, uint32_t verdicts[OW_VERDICT_WORDS],
+static inline struct ow_arrived ow_arrive(struct ow_association *a, uint8_t *area, size_t area_len, uint32_t verdicts[OW_VERDICT_WORDS * OW_VERDICTS],
     const uint8_t *packet, size_t packet_len, struct ow_lent lent, const uint8_t *cookie, size_t cookie_len, struct ow_echoed echoed, uint8_t *out, size_t out_len) {
     size_t told[2];
     struct ow_made made = echoed.made;

@@ -7,13 +7,10 @@ pub const LISTED: usize = 16;
 pub const BLOCKS: usize = 64;
 pub const VERDICTS: usize = 365;
 
-/// Words of a table: so many for each of its places.
-pub const HELD_STRIDE: usize = 4;
-pub const PLACE_STRIDE: usize = 8;
-pub const VERDICT_STRIDE: usize = 4;
-pub const HELD_WORDS: usize = HELD_STRIDE * PLACES;
-pub const PLACE_WORDS: usize = PLACE_STRIDE * PLACES;
-pub const VERDICT_WORDS: usize = VERDICT_STRIDE * VERDICTS;
+/// Words of one place for receiving, one for sending, and of a verdict.
+pub const HELD_WORDS: usize = 4;
+pub const PLACE_WORDS: usize = 8;
+pub const VERDICT_WORDS: usize = 4;
 
 /// What `ow_version` answers.
 pub const VERSION: u32 = 1;
@@ -133,9 +130,9 @@ pub struct Head {
 #[repr(C)]
 pub struct Record {
     pub head: Head,
-    pub held: [u32; HELD_WORDS],
+    pub held: [u32; HELD_WORDS * PLACES],
     pub next_in: [u16; STREAMS],
-    pub places: [u32; PLACE_WORDS],
+    pub places: [u32; PLACE_WORDS * PLACES],
     pub next_out: [u16; STREAMS],
     pub cookie: [u8; COOKIE_MOST],
 }
@@ -221,12 +218,12 @@ fn len_of(shape: u32) -> u16 {
 impl Record {
     /// The places for receiving, in their order.
     pub fn chunks_held(&self) -> impl Iterator<Item = Held> + '_ {
-        self.held.chunks_exact(HELD_STRIDE).map(Held::of)
+        self.held.chunks_exact(HELD_WORDS).map(Held::of)
     }
 
     /// The places for sending, in their order.
     pub fn chunks_to_send(&self) -> impl Iterator<Item = Place> + '_ {
-        self.places.chunks_exact(PLACE_STRIDE).map(Place::of)
+        self.places.chunks_exact(PLACE_WORDS).map(Place::of)
     }
 }
 
@@ -234,9 +231,9 @@ impl Record {
 extern "C" {
     pub fn ow_lent_close(
         head: *mut Head,
-        held: *mut [u32; HELD_WORDS],
+        held: *mut [u32; HELD_WORDS * PLACES],
         next_in: *mut [u16; STREAMS],
-        places: *mut [u32; PLACE_WORDS],
+        places: *mut [u32; PLACE_WORDS * PLACES],
         next_out: *mut [u16; STREAMS],
         kept_cookie: *mut [u8; COOKIE_MOST],
         port: u16,
@@ -246,14 +243,14 @@ extern "C" {
     pub fn ow_lent_peek(packet: *const u8, packet_len: usize, told: *mut [usize; 9]) -> u32;
     pub fn ow_lent_arrive(
         head: *mut Head,
-        held: *mut [u32; HELD_WORDS],
+        held: *mut [u32; HELD_WORDS * PLACES],
         next_in: *mut [u16; STREAMS],
-        places: *mut [u32; PLACE_WORDS],
+        places: *mut [u32; PLACE_WORDS * PLACES],
         next_out: *mut [u16; STREAMS],
         kept_cookie: *mut [u8; COOKIE_MOST],
         area: *mut u8,
         area_len: usize,
-        verdicts: *mut [u32; VERDICT_WORDS],
+        verdicts: *mut [u32; VERDICT_WORDS * VERDICTS],
         packet: *const u8,
         packet_len: usize,
         tag: u32,
@@ -275,9 +272,9 @@ extern "C" {
     ) -> u32;
     pub fn ow_lent_associate(
         head: *mut Head,
-        held: *mut [u32; HELD_WORDS],
+        held: *mut [u32; HELD_WORDS * PLACES],
         next_in: *mut [u16; STREAMS],
-        places: *mut [u32; PLACE_WORDS],
+        places: *mut [u32; PLACE_WORDS * PLACES],
         next_out: *mut [u16; STREAMS],
         kept_cookie: *mut [u8; COOKIE_MOST],
         tag: u32,
@@ -290,8 +287,8 @@ extern "C" {
     ) -> u32;
     pub fn ow_lent_hand_in(
         head: *mut Head,
-        held: *const [u32; HELD_WORDS],
-        places: *mut [u32; PLACE_WORDS],
+        held: *const [u32; HELD_WORDS * PLACES],
+        places: *mut [u32; PLACE_WORDS * PLACES],
         area: *mut u8,
         area_len: usize,
         message: *const u8,
@@ -303,8 +300,8 @@ extern "C" {
     ) -> u32;
     pub fn ow_lent_transmit(
         head: *mut Head,
-        held: *const [u32; HELD_WORDS],
-        places: *mut [u32; PLACE_WORDS],
+        held: *const [u32; HELD_WORDS * PLACES],
+        places: *mut [u32; PLACE_WORDS * PLACES],
         next_out: *mut [u16; STREAMS],
         area: *const u8,
         area_len: usize,
@@ -314,9 +311,9 @@ extern "C" {
     ) -> u32;
     pub fn ow_lent_take(
         head: *mut Head,
-        held: *mut [u32; HELD_WORDS],
+        held: *mut [u32; HELD_WORDS * PLACES],
         next_in: *mut [u16; STREAMS],
-        places: *const [u32; PLACE_WORDS],
+        places: *const [u32; PLACE_WORDS * PLACES],
         area: *const u8,
         area_len: usize,
         out: *mut u8,
@@ -325,8 +322,8 @@ extern "C" {
     ) -> u32;
     pub fn ow_lent_sack(
         head: *mut Head,
-        held: *const [u32; HELD_WORDS],
-        places: *const [u32; PLACE_WORDS],
+        held: *const [u32; HELD_WORDS * PLACES],
+        places: *const [u32; PLACE_WORDS * PLACES],
         out: *mut u8,
         out_len: usize,
         starts: *mut [u16; BLOCKS],
@@ -336,8 +333,8 @@ extern "C" {
     ) -> u32;
     pub fn ow_lent_t1(
         head: *mut Head,
-        held: *const [u32; HELD_WORDS],
-        places: *const [u32; PLACE_WORDS],
+        held: *const [u32; HELD_WORDS * PLACES],
+        places: *const [u32; PLACE_WORDS * PLACES],
         kept_cookie: *const [u8; COOKIE_MOST],
         out: *mut u8,
         out_len: usize,
@@ -345,27 +342,38 @@ extern "C" {
     ) -> u32;
     pub fn ow_lent_t2(
         head: *mut Head,
-        held: *const [u32; HELD_WORDS],
-        places: *const [u32; PLACE_WORDS],
+        held: *const [u32; HELD_WORDS * PLACES],
+        places: *const [u32; PLACE_WORDS * PLACES],
         kept_cookie: *const [u8; COOKIE_MOST],
         out: *mut u8,
         out_len: usize,
         told: *mut [usize; 2],
     ) -> u32;
-    pub fn ow_lent_t3(head: *mut Head, held: *const [u32; HELD_WORDS], places: *mut [u32; PLACE_WORDS], told: *mut [usize; 2]) -> u32;
-    pub fn ow_lent_rtt(head: *mut Head, held: *const [u32; HELD_WORDS], places: *const [u32; PLACE_WORDS], sample: u32, told: *mut [usize; 2]) -> u32;
+    pub fn ow_lent_t3(
+        head: *mut Head,
+        held: *const [u32; HELD_WORDS * PLACES],
+        places: *mut [u32; PLACE_WORDS * PLACES],
+        told: *mut [usize; 2],
+    ) -> u32;
+    pub fn ow_lent_rtt(
+        head: *mut Head,
+        held: *const [u32; HELD_WORDS * PLACES],
+        places: *const [u32; PLACE_WORDS * PLACES],
+        sample: u32,
+        told: *mut [usize; 2],
+    ) -> u32;
     pub fn ow_lent_shutdown(
         head: *mut Head,
-        held: *const [u32; HELD_WORDS],
-        places: *const [u32; PLACE_WORDS],
+        held: *const [u32; HELD_WORDS * PLACES],
+        places: *const [u32; PLACE_WORDS * PLACES],
         out: *mut u8,
         out_len: usize,
         told: *mut [usize; 2],
     ) -> u32;
     pub fn ow_lent_abort(
         head: *mut Head,
-        held: *const [u32; HELD_WORDS],
-        places: *const [u32; PLACE_WORDS],
+        held: *const [u32; HELD_WORDS * PLACES],
+        places: *const [u32; PLACE_WORDS * PLACES],
         cause: u8,
         tsn: u32,
         out: *mut u8,
@@ -374,8 +382,8 @@ extern "C" {
     ) -> u32;
     pub fn ow_lent_error_stream(
         head: *mut Head,
-        held: *const [u32; HELD_WORDS],
-        places: *const [u32; PLACE_WORDS],
+        held: *const [u32; HELD_WORDS * PLACES],
+        places: *const [u32; PLACE_WORDS * PLACES],
         stream: u16,
         out: *mut u8,
         out_len: usize,
@@ -383,8 +391,8 @@ extern "C" {
     ) -> u32;
     pub fn ow_lent_error_stale(
         head: *mut Head,
-        held: *const [u32; HELD_WORDS],
-        places: *const [u32; PLACE_WORDS],
+        held: *const [u32; HELD_WORDS * PLACES],
+        places: *const [u32; PLACE_WORDS * PLACES],
         port: u16,
         tag: u32,
         late: u32,
@@ -394,8 +402,8 @@ extern "C" {
     ) -> u32;
     pub fn ow_lent_heartbeat(
         head: *mut Head,
-        held: *const [u32; HELD_WORDS],
-        places: *const [u32; PLACE_WORDS],
+        held: *const [u32; HELD_WORDS * PLACES],
+        places: *const [u32; PLACE_WORDS * PLACES],
         value: *const [u8; 8],
         out: *mut u8,
         out_len: usize,

@@ -142,7 +142,7 @@ pub use proved::Proved;
 #[cfg(feature = "proved")]
 mod proved {
     use super::*;
-    use crate::ffi::{self, Head, COOKIE_MOST, HELD_WORDS, PLACE_WORDS, STREAMS, VERDICT_STRIDE, VERDICT_WORDS};
+    use crate::ffi::{self, Head, COOKIE_MOST, HELD_WORDS, PLACES, PLACE_WORDS, STREAMS, VERDICTS, VERDICT_WORDS};
     use std::mem::{size_of, size_of_val, MaybeUninit};
     use std::sync::Once;
 
@@ -165,7 +165,7 @@ mod proved {
                 size_of_val(places),
                 size_of_val(next_out),
                 size_of_val(cookie),
-                size_of::<[u32; VERDICT_WORDS]>(),
+                size_of::<[u32; VERDICT_WORDS * VERDICTS]>(),
             ];
             assert_eq!(sizes, ours, "bytes of what the library is lent");
         });
@@ -178,7 +178,7 @@ mod proved {
             tries: 0,
             cookie_len: 0,
             ends: ffi::Ends { local_port: 0, peer_port: 0, my_tag: 0, peer_tag: 0, streams_in: 0, streams_out: 0 },
-            keeping: ffi::Keeping { point: 0, come: [0; ffi::PLACES], dups: [0; LISTED], listed: 0 },
+            keeping: ffi::Keeping { point: 0, come: [0; PLACES], dups: [0; LISTED], listed: 0 },
             sender: ffi::Sender {
                 acked: 0,
                 next_tsn: 0,
@@ -194,9 +194,9 @@ mod proved {
                 },
             },
         },
-        held: [0; HELD_WORDS],
+        held: [0; HELD_WORDS * PLACES],
         next_in: [0; STREAMS],
-        places: [0; PLACE_WORDS],
+        places: [0; PLACE_WORDS * PLACES],
         next_out: [0; STREAMS],
         cookie: [0; COOKIE_MOST],
     };
@@ -248,7 +248,7 @@ mod proved {
         fn arrive(record: &mut Record, area: &mut [u8], packet: &[u8], lent: Lent, cookie: &[u8], echoed: Echoed, out: &mut [u8]) -> Arrived {
             let Record { head, held, next_in, places, next_out, cookie: kept_cookie } = record;
             let Echoed { word, made } = echoed;
-            let mut verdicts = MaybeUninit::<[u32; VERDICT_WORDS]>::uninit();
+            let mut verdicts = MaybeUninit::<[u32; VERDICT_WORDS * VERDICTS]>::uninit();
             let mut told = [0; 2];
             let number = unsafe {
                 ffi::ow_lent_arrive(
@@ -283,8 +283,8 @@ mod proved {
             };
             let [count, length] = told;
             // So many verdicts were written, and the words behind them were not.
-            let written = unsafe { std::slice::from_raw_parts(verdicts.as_ptr().cast(), VERDICT_STRIDE * count) };
-            Arrived { number: number as u8, verdicts: written.chunks_exact(VERDICT_STRIDE).map(verdict).collect(), length }
+            let written = unsafe { std::slice::from_raw_parts(verdicts.as_ptr().cast(), VERDICT_WORDS * count) };
+            Arrived { number: number as u8, verdicts: written.chunks_exact(VERDICT_WORDS).map(verdict).collect(), length }
         }
 
         fn associate(record: &mut Record, tag: u32, tsn: u32, port: u16, streams: u16, out: &mut [u8]) -> Answer {

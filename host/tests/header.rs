@@ -239,14 +239,13 @@ fn rust_of_c(declaration: &str) -> String {
 }
 
 fn parameter_of(parameter: &str) -> String {
+    let (parameter, count) = parameter.trim_end_matches(']').split_once('[').map_or((parameter, None), |(before, count)| (before, Some(count)));
     let (of, name) = parameter.rsplit_once(' ').expect("a type stands before the name");
     let (pointer, of) = of.strip_prefix("const ").map_or(("*mut", of), |of| ("*const", of));
-    if let Some(name) = name.strip_prefix('*') {
-        return format!("{}: {} {}", name, pointer, type_of(of));
-    }
-    match name.trim_end_matches(']').split_once('[') {
-        Some((name, count)) => format!("{}: {} [{}; {}]", name, pointer, type_of(of), count.trim_start_matches("OW_")),
-        None => format!("{}: {}", name, type_of(of)),
+    match (name.strip_prefix('*'), count) {
+        (Some(name), _) => format!("{}: {} {}", name, pointer, type_of(of)),
+        (None, Some(count)) => format!("{}: {} [{}; {}]", name, pointer, type_of(of), count.replace("OW_", "")),
+        (None, None) => format!("{}: {}", name, type_of(of)),
     }
 }
 
@@ -264,9 +263,9 @@ fn type_of(of: &str) -> &str {
 /// Counts as numbers in place of names.
 fn in_numbers(declaration: &str) -> String {
     let counts = [
-        ("HELD_WORDS", ffi::HELD_WORDS),
-        ("PLACE_WORDS", ffi::PLACE_WORDS),
-        ("VERDICT_WORDS", ffi::VERDICT_WORDS),
+        ("HELD_WORDS * PLACES", ffi::HELD_WORDS * ffi::PLACES),
+        ("PLACE_WORDS * PLACES", ffi::PLACE_WORDS * ffi::PLACES),
+        ("VERDICT_WORDS * VERDICTS", ffi::VERDICT_WORDS * ffi::VERDICTS),
         ("STREAMS", ffi::STREAMS),
         ("COOKIE_MOST", ffi::COOKIE_MOST),
         ("BLOCKS", ffi::BLOCKS),

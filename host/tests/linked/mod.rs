@@ -5,14 +5,14 @@ use crate::modelled::alike::{record_of, shown, Alike};
 use model::random::Random;
 use model::record::{self, Association};
 use model::Core;
-use oilwhisper::ffi::{Record, HELD_STRIDE, PLACE_STRIDE};
+use oilwhisper::ffi::{Record, HELD_WORDS, PLACE_WORDS};
 use oilwhisper::library::{self, Library};
 use std::marker::PhantomData;
 use std::sync::atomic::{AtomicU64, Ordering};
 
 /// Bits of a place's words that no field has.
-const HELD_NOBODYS: [u32; HELD_STRIDE] = [0, 0xffff_0000, 0, 0];
-const PLACE_NOBODYS: [u32; PLACE_STRIDE] = [0, 0, 0xffff_0000, 0, 0x8, 0xffff_0000, u32::MAX, u32::MAX];
+const HELD_NOBODYS: [u32; HELD_WORDS] = [0, 0xffff_0000, 0, 0];
+const PLACE_NOBODYS: [u32; PLACE_WORDS] = [0, 0, 0xffff_0000, 0, 0x8, 0xffff_0000, u32::MAX, u32::MAX];
 
 pub struct Linked<L> {
     calls: AtomicU64,

@@ -1,7 +1,7 @@
 //! The library's types and the model's, one for the other: the model has a struct for each place of a record, the library words.
 
 use model::record::{self, Association};
-use oilwhisper::ffi::{self, Record, COOKIE_MOST, HELD_STRIDE, HELD_WORDS, PLACE_STRIDE, PLACE_WORDS, STREAMS};
+use oilwhisper::ffi::{self, Record, COOKIE_MOST, HELD_WORDS, PLACES, PLACE_WORDS, STREAMS};
 use oilwhisper::library;
 
 pub trait Alike<Other> {
@@ -144,20 +144,20 @@ pub fn store(a: &Association, record: &mut Record) {
     record.cookie = a.cookie.bytes;
     let shows = shown(record);
     for (i, place) in a.receiving.held.iter().enumerate().filter(|(i, place)| shows.receiving.held[*i] != **place) {
-        record.held[HELD_STRIDE * i..][..HELD_STRIDE].copy_from_slice(&held_words(place));
+        record.held[HELD_WORDS * i..][..HELD_WORDS].copy_from_slice(&held_words(place));
     }
     for (i, place) in a.sending.places.iter().enumerate().filter(|(i, place)| shows.sending.places[*i] != **place) {
         let words = place_words(place);
-        record.places[PLACE_STRIDE * i..][..words.len()].copy_from_slice(&words);
+        record.places[PLACE_WORDS * i..][..words.len()].copy_from_slice(&words);
     }
 }
 
 pub fn record_of(a: &Association) -> Record {
     let mut record = Record {
         head: head_of(a),
-        held: [0; HELD_WORDS],
+        held: [0; HELD_WORDS * PLACES],
         next_in: [0; STREAMS],
-        places: [0; PLACE_WORDS],
+        places: [0; PLACE_WORDS * PLACES],
         next_out: [0; STREAMS],
         cookie: [0; COOKIE_MOST],
     };
@@ -177,13 +177,13 @@ fn head_of(a: &Association) -> ffi::Head {
     }
 }
 
-fn held_words(place: &record::Held) -> [u32; HELD_STRIDE] {
+fn held_words(place: &record::Held) -> [u32; HELD_WORDS] {
     let flags = [place.used, place.begin, place.end, place.unordered];
     [place.tsn, place.ssn.into(), place.ppid, shape_of(place.stream, place.len, &flags)]
 }
 
 /// All but the last two, which are nobody's.
-fn place_words(place: &record::Place) -> [u32; PLACE_STRIDE - 2] {
+fn place_words(place: &record::Place) -> [u32; PLACE_WORDS - 2] {
     let chunk = &place.chunk;
     let shape = shape_of(chunk.stream, chunk.len, &[chunk.begin, chunk.end, chunk.unordered]);
     [chunk.tsn, chunk.order, chunk.ssn.into(), chunk.ppid, shape, u32::from(place.misses) << 8 | u32::from(place.status)]

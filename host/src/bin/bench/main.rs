@@ -9,7 +9,7 @@ mod paths;
 #[cfg(feature = "usrsctp")]
 mod usrsctp;
 
-use oilwhisper::ffi::{Record, VERDICT_WORDS};
+use oilwhisper::ffi::{Record, VERDICTS, VERDICT_WORDS};
 use paths::{Cost, Ours, Pair, MESSAGE};
 use std::mem::size_of;
 
@@ -95,7 +95,7 @@ fn print_filling() {
 
 fn print_needs() {
     println!("\nBytes that a call needs on the stack, with its answer, and bytes that it copies or clears. The record has {},", size_of::<Record>());
-    println!("and the words for verdicts, which the host lends from its stack, {}.", size_of::<[u32; VERDICT_WORDS]>());
+    println!("and the words for verdicts, which the host lends from its stack, {}.", size_of::<[u32; VERDICT_WORDS * VERDICTS]>());
     println!("{:<22} {:>10} {:>10}", "", "stack", "copied");
     for needs in needs::all() {
         println!("{:<22} {:>10} {:>10}", needs.name, needs.stack, needs.copied);
