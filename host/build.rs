@@ -61,10 +61,10 @@ fn repository() -> PathBuf {
 }
 
 fn prove(root: &Path) {
-    match Command::new(root.join("host/archive")).status() {
+    match Command::new(root.join("host/archive")).arg("face").status() {
         Ok(status) if status.success() => {}
-        Ok(_) => give_up("'host/archive' failed: run it to see why"),
-        Err(e) => give_up(&format!("cannot run 'host/archive', which proves and builds the library: {}", e)),
+        Ok(_) => give_up("'host/archive face' failed: run it to see why"),
+        Err(e) => give_up(&format!("cannot run host/archive, which proves and builds the library: {}", e)),
     }
 }
 
