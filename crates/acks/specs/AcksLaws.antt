@@ -8,11 +8,12 @@ use lib.Dec.{eqb}
 use Rattle.numbers.specs.declared.circle.Tsn.{Tsn}
 use Rattle.numbers.specs.Profile.{Profile}
 use Rattle.scans.specs.Scan.{pick}
+use Rattle.scans.specs.Upto.{pick-keeps}
 use Rattle.path.specs.Sizes.{Sizes}
 use Rattle.path.specs.Path as way
 use Rattle.places.specs.declared.place.Place.{Place}
 use Rattle.places.specs.declared.sack.Sack.{Sack}
-use Rattle.places.specs.Places.{hasStatus, marked, missedAll}
+use Rattle.places.specs.Places.{hasStatus, marked, missed, missedAll}
 use Rattle.places.specs.Sack.{settled, takenIn}
 use Rattle.places.specs.Laws.{tallied-flight}
 use Rattle.sending.specs.declared.sending.Sending.{Sending}
@@ -42,6 +43,19 @@ module _ (P : Profile) (h : Sender) (ws ns : List ℕ) where
 
   outstanding-at : hasOutstanding (seen P h ws ns) ≡ hasOutstanding (seen P h ws [])
   outstanding-at = outstanding-is (seen P h ws ns) ∙ sym (outstanding-is (seen P h ws []))
+
+-- the table stays as long as it was
+module _ (P : Profile) (h : Sender) (ws : List ℕ) where
+  pub acked-long : (k : Sack) → length (ackedWords P h ws k) ≡ length ws
+  unfolding ackedWords acceptedWords
+  acked-long k =
+      pick-keeps (λ (xs : List ℕ). length xs ≡ length ws) (eqb (judgedPoint (seen P h [] []) k) 0) _ ws
+      (states-long P (hasStatus 0) (missed (h .acked) (limitIn P h ws k)) (settledWords P ws k) ∙ states-long P (hasStatus 0) (settled k) ws) refl
+
+  pub shut-long : (point : Tsn) → length (shutWords P h ws point) ≡ length ws
+  unfolding shutWords
+  shut-long point =
+      pick-keeps (λ (xs : List ℕ). length xs ≡ length ws) (eqb (judgedPoint (seen P h [] []) (shutOf (seen P h [] []) point)) 15) ws _ refl (acked-long (shutOf (seen P h [] []) point))
 
 module _ (z : Sizes) (P : Profile) (h : Sender) (ws ns : List ℕ) (l : 8 * P .places ≤ length ws) where
   -- the places after a SACK
@@ -97,3 +111,13 @@ module _ (z : Sizes) (P : Profile) (h : Sender) (ws ns : List ℕ) (l : 8 * P .p
       go true true = refl
       go true false = ap (λ (s : Sending). record { number = 0; over = false; sending = s }) overdue-shows
       go false t = refl
+
+-- T3 leaves the table as long as it was
+pub expired-long : (z : Sizes) (P : Profile) (h : Sender) (ws : List ℕ) → length (expiredWords z P h ws) ≡ length ws
+unfolding expiredWords overdueWords
+expired-long z P h ws = go (hasOutstanding (seen P h ws [])) (way.isOver z (h .path))
+  where
+    go : (s t : Bool) → length (pick s (pick t ws (overdueWords P ws)) ws) ≡ length ws
+    go true true = refl
+    go true false = states-long P _ marked ws
+    go false t = refl

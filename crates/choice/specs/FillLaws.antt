@@ -13,7 +13,7 @@ use Rattle.numbers.specs.Circle.{ssn0}
 use Rattle.numbers.specs.Numbering.{ring, line, on, on-law}
 use Rattle.numbers.specs.Profile.{Profile}
 use Rattle.scans.specs.Scan.{pick}
-use Rattle.scans.specs.Upto.{runWhile, pick-keeps}
+use Rattle.scans.specs.Upto.{runWhile, run-keeps, pick-keeps}
 use Rattle.path.specs.Sizes.{Sizes}
 use Rattle.places.specs.declared.place.Chunk.{Chunk}
 use Rattle.places.specs.declared.place.Place.{Place}
@@ -180,3 +180,20 @@ filled-shows z P h ws ns a b t =
     (λ f w. (step-shows P f w (goingIn P f .place) ∙ ap (λ (x : Going). filling P (chosenOf P f) (x .place)) (sym (going-alike P f)), step-fit P f w (goingIn P f .place)))
     (z .bundled) (begunIn z P h ws ns) (record { words = a; ns = b; tsn = t })
     ∙ ap (λ (x : Chosen). runWhile (λ f. going f .go) (λ f. filling P f (going f .place)) x (z .bundled)) (sym (begun-is z (seen P h ws ns))))
+
+-- ---- the tables stay as long as they were
+
+-- as long as some words and SSNs
+abbrev AsLong : List ℕ → List ℕ → Fill → Type 0
+AsLong ws ns f = (length (f .words) ≡ length ws) × (length (f .ns) ≡ length ns)
+
+step-long : (P : Profile) (ws ns : List ℕ) (f : Fill) → goingIn P f .go ≡ true → AsLong ws ns f → AsLong ws ns (fillingIn P f (goingIn P f .place))
+unfolding fillingIn
+step-long P ws ns f e w =
+    let i = goingIn P f .place in
+    (put-long P (f .words) i (sentPlace P (f .head) (f .ns) (placeAt P (f .words) i)) ∙ w .0, counted-long P (f .ns) (placeAt P (f .words) i) ∙ w .1)
+
+pub filled-long : (z : Sizes) (P : Profile) (h : Sender) (ws ns : List ℕ) → (length (filledIn z P h ws ns .words) ≡ length ws) × (length (filledIn z P h ws ns .ns) ≡ length ns)
+unfolding filledIn begunIn
+filled-long z P h ws ns =
+    run-keeps (AsLong ws ns) (λ f. goingIn P f .go) (λ f. fillingIn P f (goingIn P f .place)) (step-long P ws ns) (z .bundled) (begunIn z P h ws ns) (refl, refl)

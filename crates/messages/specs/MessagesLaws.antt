@@ -113,3 +113,22 @@ module _ (P : Profile) (h : Sender) (ws ns : List ℕ) where
           })
       go true = rw (waited-is P (seen P h ws ns) len stream unordered ppid, laid-shows P (messageOf P h ws len stream unordered ppid) (chunksOf P len) ws l p s q)
       go false = refl
+
+-- ---- the table stays as long as it was
+
+laid-long : (P : Profile) (m : Message) (n i r k : ℕ) (ws : List ℕ) → length (laidFrom P m n i r k ws) ≡ length ws
+laid-long P m n i zero k ws = refl
+laid-long P m n i (suc r) k ws =
+    laid-long P m n (i + 1) r (after n k (placeAt P ws i)) (pick (takes n k (placeAt P ws i)) (placePut P ws i (waitingAt P m n k)) ws) ∙ one (takes n k (placeAt P ws i))
+  where
+    one : (t : Bool) → length (pick t (placePut P ws i (waitingAt P m n k)) ws) ≡ length ws
+    one true = put-long P ws i (waitingAt P m n k)
+    one false = refl
+
+pub handed-long : (P : Profile) (h : Sender) (ws : List ℕ) (len : ℕ) (stream : StreamId) (unordered : Bool) (ppid streams : ℕ) → length (handedWords P h ws len stream unordered ppid streams) ≡ length ws
+unfolding handedWords laidWords
+handed-long P h ws len stream unordered ppid streams = go (eqb (refusal P (seen P h ws []) len stream streams) 0)
+  where
+    go : (t : Bool) → length (pick t (laidWords P (messageOf P h ws len stream unordered ppid) (chunksOf P len) ws) ws) ≡ length ws
+    go true = laid-long P (messageOf P h ws len stream unordered ppid) (chunksOf P len) 0 (P .places) 0 ws
+    go false = refl

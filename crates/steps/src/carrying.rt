@@ -21,7 +21,7 @@ ghost use Rattle.octets.specs.Writing.{wroteBytes};
 ghost use Rattle.steps.specs.Verdict.{doneIn, doneWith};
 ghost use Rattle.steps.specs.Carrying.{chunkOf, isKept, fateOf, callOf, arrivalIn, toldData, dataRead, readData, shutdownOwed, shutdownAcked, readLateData, areaData, areaIn, blocksOf, heardBy, sackCall, toldSack, sackRead, readSack, isLast, readSackPending, readSackReceived, echoHeartbeat, clearTries};
 
-fn chunk_of(s: &[u8]) -> Chunk
+pub fn chunk_of(s: &[u8]) -> Chunk
     ensures { λ r. ⌜ r ≡ chunkOf (now (s .entry)) ⌝ }
 {
     let d = chunks::data::read_data(s);
@@ -71,7 +71,7 @@ fn call_of(v: Verdict, tsn: Tsn, stream: StreamId) -> Named
     }
 }
 
-fn is_kept(v: Verdict) -> bool
+pub fn is_kept(v: Verdict) -> bool
     ensures { λ r. ⌜ r ≡ isKept v ⌝ }
 {
     match v {
@@ -166,7 +166,7 @@ pub fn read_late_data(mut a: Association, area: &mut [u8], s: &[u8]) -> Done
 }
 
 // The blocks of a SACK, with the count that it gives: more than 64 are never all valid.
-fn blocks_of(s: &[u8]) -> Blocks
+pub fn blocks_of(s: &[u8]) -> Blocks
     ensures { λ r. ⌜ r ≡ blocksOf (now (s .entry)) ⌝ }
 {
     let h = chunks::sack::read_sack(s);

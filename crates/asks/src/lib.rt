@@ -1,0 +1,30 @@
+// The calls of the host, but the arrival of a packet, over a head by value and tables that are lent. Each gives the head back beside its answer where it may change; what is refused leaves all.
+pub mod acknowledging;
+pub mod answer;
+pub mod closing;
+pub mod delivering;
+pub mod handing;
+pub mod opening;
+mod packet;
+pub mod telling;
+pub mod timers;
+pub mod transmitting;
+
+pub use crate::acknowledging::Acknowledged;
+pub use crate::acknowledging::sack;
+pub use crate::answer::Answered;
+pub use crate::closing::abort;
+pub use crate::closing::shutdown;
+pub use crate::delivering::Delivered;
+pub use crate::delivering::take;
+pub use crate::handing::hand_in;
+pub use crate::opening::associate;
+pub use crate::telling::error_stale;
+pub use crate::telling::error_stream;
+pub use crate::telling::heartbeat;
+pub use crate::timers::rtt;
+pub use crate::timers::t1;
+pub use crate::timers::t2;
+pub use crate::timers::t3;
+pub use crate::transmitting::Transmitted;
+pub use crate::transmitting::transmit;
