@@ -1,7 +1,7 @@
 //! The core behind safe calls. It adds no test of its own: whatever a call is handed, the core answers.
 
 use crate::calls::{
-    Acknowledged, Answer, Arrived, Cause, Echoed, Expired, Fate, Init, Lent, Made, Named, NotTaken, Peeked, Refusal, Standing, State, Taken,
+    Acknowledged, Answer, Arrived, Cause, Echoed, Expired, Fate, Init, Lent, Made, Named, NotTaken, Peeked, Refusal, Shelf, Standing, State, Taken,
     Transmitted, Turn, Verdict, AREA, PAYLOAD,
 };
 use crate::ffi;
@@ -47,6 +47,18 @@ impl<L: Library> Association<L> {
         &self.record
     }
 
+    pub fn is_closed(&self) -> bool {
+        state_of(self.record.head.state) == State::Closed
+    }
+
+    pub fn peer_tag(&self) -> u32 {
+        self.record.head.ends.peer_tag
+    }
+
+    pub fn peer_port(&self) -> u16 {
+        self.record.head.ends.peer_port
+    }
+
     pub fn standing(&self) -> Standing {
         let head = &self.record.head;
         let free = self.record.chunks_held().filter(|place| !place.used).count();
@@ -60,6 +72,16 @@ impl<L: Library> Association<L> {
             has_gap: head.keeping.come.contains(&1),
             window: (free * PAYLOAD) as u32,
             peer_window: head.sender.advertised,
+        }
+    }
+
+    pub fn shelf(&self) -> Shelf {
+        let keeping = &self.record.head.keeping;
+        let in_order = self.record.chunks_held().filter(|place| place.used && !place.unordered);
+        let ahead = |stream: u16, ssn: u16| self.record.next_in.get(usize::from(stream)).map(|next| (stream, ssn.wrapping_sub(*next)));
+        Shelf {
+            missing: keeping.come.contains(&1).then(|| keeping.point.wrapping_add(1)),
+            held: in_order.filter_map(|place| ahead(place.stream, place.ssn)).collect(),
         }
     }
 

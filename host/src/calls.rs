@@ -136,6 +136,15 @@ impl Standing {
     }
 }
 
+/// What came and was not taken, for one who looks on.
+#[derive(Clone, Debug, Default, PartialEq, Eq)]
+pub struct Shelf {
+    /// The first TSN that has not come, where one above it has.
+    pub missing: Option<u32>,
+    /// Of each chunk of a message in its stream's order: the stream, and how many messages of it come before. The same pair stands there for each chunk.
+    pub held: Vec<(u16, u16)>,
+}
+
 #[derive(Clone, Copy, Debug, PartialEq, Eq)]
 pub enum Peeked {
     Refused(Refusal),

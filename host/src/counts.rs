@@ -29,6 +29,27 @@ impl Counts {
         }
     }
 
+    pub fn and(&self, other: &Counts) -> Counts {
+        let mut refused = self.refused;
+        for (sum, more) in refused.iter_mut().zip(other.refused) {
+            *sum += more;
+        }
+        Counts {
+            packets_sent: self.packets_sent + other.packets_sent,
+            packets_received: self.packets_received + other.packets_received,
+            bytes_sent: self.bytes_sent + other.bytes_sent,
+            messages_in: self.messages_in + other.messages_in,
+            messages_out: self.messages_out + other.messages_out,
+            resent: self.resent + other.resent,
+            acknowledgements: self.acknowledgements + other.acknowledgements,
+            expiries: self.expiries + other.expiries,
+            last_words: self.last_words + other.last_words,
+            turned_away: self.turned_away + other.turned_away,
+            strays: self.strays + other.strays,
+            refused,
+        }
+    }
+
     /// How often each number was answered, of those that were.
     pub fn refusals(&self) -> impl Iterator<Item = (Refusal, u64)> + '_ {
         (0u8..).zip(self.refused).filter(|(_, count)| *count > 0).map(|(number, count)| (Refusal(number), count))

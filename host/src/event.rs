@@ -22,6 +22,8 @@ pub enum Why {
     StaleCookie,
     HostName,
     NoAnswer,
+    /// Another association with the same peer has taken its place.
+    BeganAnew,
 }
 
 impl fmt::Display for Why {
@@ -35,6 +37,7 @@ impl fmt::Display for Why {
             Why::StaleCookie => write!(f, "the cookie came back too late"),
             Why::HostName => write!(f, "the peer wants a host name resolved"),
             Why::NoAnswer => write!(f, "the peer does not answer"),
+            Why::BeganAnew => write!(f, "the peer has begun anew"),
         }
     }
 }

@@ -1,14 +1,37 @@
 //! The reply that ended a handshake, kept while the peer may not have it. The core reads a COOKIE ECHO only in CLOSED and a SHUTDOWN ACK never there, so a lost
 //! COOKIE ACK or SHUTDOWN COMPLETE is the host's to repair: asked the same again, it sends the same bytes again (RFC 9260 sections 5.2.4 D and 8.4, rule 5).
 
-use crate::packet::{first_chunk, tag, SHUTDOWN_ACK};
+use crate::packet::{first_chunk, source_port, tag, Incoming, SHUTDOWN_ACK};
+use std::net::IpAddr;
 
 #[derive(Debug, Default)]
 pub struct LastWord {
     /// The COOKIE ECHO that was good, and what answered it.
     opening: Option<(Vec<u8>, Vec<u8>)>,
-    /// The tag that the peer sent to, and the SHUTDOWN COMPLETE.
-    closing: Option<(u32, Vec<u8>)>,
+    closing: Option<Farewell>,
+}
+
+/// The SHUTDOWN COMPLETE that ended an association, and how late packets of it are known.
+#[derive(Debug)]
+pub struct Farewell {
+    pub peer: IpAddr,
+    pub peer_port: u16,
+    pub my_tag: u32,
+    pub reply: Vec<u8>,
+}
+
+impl Farewell {
+    /// Whether a whole packet that came after the end is of this association: held up on its way, or the peer's who waits for the last word.
+    pub fn is_late(&self, incoming: Incoming) -> bool {
+        let is_of_peer = incoming.from.ip() == self.peer && source_port(incoming.packet) == Some(self.peer_port);
+        is_of_peer && tag(incoming.packet) == Some(self.my_tag)
+    }
+
+    /// What answers a late packet. An ABORT would make a failure of an end that was clean.
+    pub fn to_late(&self, incoming: Incoming) -> Option<&[u8]> {
+        let is_shutdown_ack = first_chunk(incoming.packet) == Some(SHUTDOWN_ACK);
+        (is_shutdown_ack && self.is_late(incoming)).then_some(self.reply.as_slice())
+    }
 }
 
 impl LastWord {
@@ -17,9 +40,9 @@ impl LastWord {
         self.closing = None;
     }
 
-    pub fn closed(&mut self, my_tag: u32, reply: &[u8]) {
+    pub fn closed(&mut self, farewell: Farewell) {
         self.opening = None;
-        self.closing = Some((my_tag, reply.to_vec()));
+        self.closing = Some(farewell);
     }
 
     pub fn forget(&mut self) {
@@ -34,16 +57,13 @@ impl LastWord {
         }
     }
 
-    /// Whether a whole packet that came after the end is of the association that was shut down: held up on its way, or the peer's who waits for the last word.
-    pub fn is_late(&self, packet: &[u8]) -> bool {
-        self.closing.as_ref().map_or(false, |(ours, _)| tag(packet) == Some(*ours))
+    pub fn farewell(&self) -> Option<&Farewell> {
+        self.closing.as_ref()
     }
 
-    /// What answers a late packet.
-    pub fn to_late(&self, packet: &[u8]) -> Option<&[u8]> {
-        let (_, reply) = self.closing.as_ref()?;
-        let is_shutdown_ack = first_chunk(packet) == Some(SHUTDOWN_ACK);
-        (is_shutdown_ack && self.is_late(packet)).then_some(reply.as_slice())
+    /// What is left to say when nothing else of the association is kept.
+    pub fn into_farewell(self) -> Option<Farewell> {
+        self.closing
     }
 }
 
@@ -51,6 +71,8 @@ impl LastWord {
 mod tests {
     use super::*;
     use crate::packet::HEADER;
+    use std::net::SocketAddr;
+    use std::time::Instant;
 
     const ECHO: [u8; 8] = [10, 0, 0, 7, 1, 2, 3, 0];
 
@@ -59,6 +81,10 @@ mod tests {
         packet.extend_from_slice(&tag.to_be_bytes());
         packet.extend_from_slice(&[0, 0, 0, 0, SHUTDOWN_ACK, 0, 0, 4]);
         packet
+    }
+
+    fn from(last: u8, packet: &[u8]) -> Incoming<'_> {
+        Incoming { packet, from: SocketAddr::from(([10, 0, 0, last], 9899)), at: Instant::now() }
     }
 
     #[test]
@@ -74,16 +100,27 @@ mod tests {
 
     #[test]
     fn a_late_shutdown_ack_to_our_tag_gets_the_last_word() {
-        let mut word = LastWord::default();
-        assert_eq!(word.to_late(&shutdown_ack(5)), None);
-        word.closed(5, b"complete");
-        assert_eq!(word.to_late(&shutdown_ack(5)), Some(&b"complete"[..]));
-        assert_eq!(word.to_late(&shutdown_ack(6)), None);
-        assert_eq!(word.to_late(&[0; 4]), None);
+        let farewell = Farewell { peer: IpAddr::from([10, 0, 0, 1]), peer_port: 5001, my_tag: 5, reply: b"complete".to_vec() };
+        assert_eq!(farewell.to_late(from(1, &shutdown_ack(5))), Some(&b"complete"[..]));
+        assert_eq!(farewell.to_late(from(1, &shutdown_ack(6))), None);
+        assert_eq!(farewell.to_late(from(2, &shutdown_ack(5))), None);
+        assert_eq!(farewell.to_late(from(1, &[0; 4])), None);
         let mut data = shutdown_ack(5);
         data[HEADER] = 0;
-        assert!(word.is_late(&data));
-        assert_eq!(word.to_late(&data), None);
-        assert!(!word.is_late(&shutdown_ack(6)));
+        assert!(farewell.is_late(from(1, &data)));
+        assert_eq!(farewell.to_late(from(1, &data)), None);
+        assert!(!farewell.is_late(from(1, &shutdown_ack(6))));
+        let elsewhere = Farewell { peer_port: 5000, ..farewell };
+        assert!(!elsewhere.is_late(from(1, &shutdown_ack(5))));
+    }
+
+    #[test]
+    fn the_end_takes_the_place_of_the_beginning() {
+        let mut word = LastWord::default();
+        word.opened(&ECHO, b"cookie ack");
+        assert!(word.farewell().is_none());
+        word.closed(Farewell { peer: IpAddr::from([10, 0, 0, 1]), peer_port: 5001, my_tag: 5, reply: b"complete".to_vec() });
+        assert_eq!(word.to_echo(&ECHO), None);
+        assert_eq!(word.into_farewell().map(|farewell| farewell.my_tag), Some(5));
     }
 }

@@ -1,5 +1,8 @@
 //! What the host reads of a packet by itself: fields of the header, and chunks by their types. Whether it is well formed is the core's to say.
 
+use std::net::SocketAddr;
+use std::time::Instant;
+
 pub const DATA: u8 = 0;
 pub const INIT: u8 = 1;
 pub const INIT_ACK: u8 = 2;
@@ -10,6 +13,24 @@ pub const ERROR: u8 = 9;
 pub const COOKIE_ECHO: u8 = 10;
 pub const COOKIE_ACK: u8 = 11;
 pub const SHUTDOWN_COMPLETE: u8 = 14;
+
+/// Of an ABORT's or a SHUTDOWN COMPLETE's flags: the tag is the one of the packet that it answers.
+pub const T: u8 = 1;
+
+/// A packet on its way out.
+#[derive(Clone, Debug, PartialEq, Eq)]
+pub struct Datagram {
+    pub to: SocketAddr,
+    pub packet: Vec<u8>,
+}
+
+/// A packet that has come.
+#[derive(Clone, Copy, Debug)]
+pub struct Incoming<'a> {
+    pub packet: &'a [u8],
+    pub from: SocketAddr,
+    pub at: Instant,
+}
 
 /// The bytes before the first chunk.
 pub const HEADER: usize = 12;
@@ -32,6 +53,11 @@ pub fn tag(packet: &[u8]) -> Option<u32> {
 /// The type of the first chunk.
 pub fn first_chunk(packet: &[u8]) -> Option<u8> {
     packet.get(HEADER).copied()
+}
+
+/// The flags of the first chunk; none where there is no chunk.
+pub fn flags_of_first(packet: &[u8]) -> u8 {
+    packet.get(HEADER + 1).copied().unwrap_or(0)
 }
 
 /// The chunk that begins at this byte of a packet, without its padding.

@@ -154,19 +154,21 @@ pub struct Tap {
     here: SocketAddr,
     /// Which address of this machine each peer sees, where the socket stands at all of them.
     seen: Arc<Mutex<HashMap<IpAddr, IpAddr>>>,
-    shown_peer: Option<SocketAddr>,
+    /// Whom each relay stands for.
+    behind: HashMap<SocketAddr, SocketAddr>,
     writes_received: bool,
 }
 
 impl Tap {
     /// Writes down what this end sends.
     pub fn new(capture: Capture, here: SocketAddr) -> Tap {
-        Tap { capture, here, seen: Arc::default(), shown_peer: None, writes_received: false }
+        Tap { capture, here, seen: Arc::default(), behind: HashMap::new(), writes_received: false }
     }
 
-    /// Shows this address as the peer's, where a relay stands between.
-    pub fn shows_peer_at(self, peer: SocketAddr) -> Tap {
-        Tap { shown_peer: Some(peer), ..self }
+    /// Shows this peer, where a relay stands between.
+    pub fn shows_behind(mut self, relay: SocketAddr, peer: SocketAddr) -> Tap {
+        self.behind.insert(relay, peer);
+        self
     }
 
     /// Writes down what comes too, where no other end's tap does.
@@ -175,7 +177,7 @@ impl Tap {
     }
 
     pub fn sent(&self, to: SocketAddr, packet: &[u8]) {
-        self.write(self.here_for(to), self.shown_peer.unwrap_or(to), packet);
+        self.write(self.here_for(to), self.behind.get(&to).copied().unwrap_or(to), packet);
     }
 
     pub fn received(&self, from: SocketAddr, packet: &[u8]) {

@@ -1,13 +1,11 @@
 //! Packets out of the blue (RFC 9260 section 8.4): well formed, to our port, and of no association that we know. Whoever sends one learns that there is none.
 
 use crate::checksum;
-use crate::packet::{chunks, ABORT, COOKIE_ACK, COOKIE_ECHO, ERROR, INIT, INIT_ACK, SHUTDOWN_ACK, SHUTDOWN_COMPLETE};
+use crate::packet::{chunks, ABORT, COOKIE_ACK, COOKIE_ECHO, ERROR, INIT, INIT_ACK, SHUTDOWN_ACK, SHUTDOWN_COMPLETE, T};
 use std::net::{IpAddr, SocketAddr};
 use std::time::{Duration, Instant};
 
 const STALE_COOKIE: [u8; 2] = [0, 3];
-/// The tag is that of the packet which is answered.
-const T: u8 = 1;
 
 /// Not more than one is answered in so long, whoever sends them.
 pub const ANSWER_EVERY: Duration = Duration::from_millis(100);

@@ -94,39 +94,71 @@ impl fmt::Display for Difference {
 #[derive(Clone, Debug, Default)]
 pub struct Album {
     seed: Option<u64>,
-    next: [u32; BANDS as usize],
+    bands: [Band; BANDS as usize],
     bytes: u64,
+    again: u64,
     wrapped: Vec<u16>,
+}
+
+#[derive(Clone, Copy, Debug, Default)]
+struct Band {
+    /// How many tiles there are.
+    tiles: u32,
+    /// The tile that this association brings next, and the one that it brought first.
+    next: u32,
+    first: u32,
+    /// An association has begun that may bring tiles again.
+    may_step_back: bool,
 }
 
 impl Album {
     /// Compares a tile with the one that is next in its band, byte by byte. The first tile tells the seed.
     pub fn add(&mut self, stream: u16, ssn: u16, message: &[u8]) -> Result<(), Difference> {
-        let next = self.next.get_mut(usize::from(stream)).ok_or(Difference::Band(stream))?;
-        let (band, index) = (stream, *next);
-        let seed = *self.seed.get_or_insert_with(|| seed_of(message));
-        let expected = tile(seed, band, index);
+        let band = self.bands.get_mut(usize::from(stream)).ok_or(Difference::Band(stream))?;
+        let seed = *self.seed.get_or_insert_with(|| number_at(message, 0, 8));
+        let index = match band.may_step_back {
+            true => (number_at(message, 10, 4) as u32).min(band.tiles),
+            false => band.next,
+        };
+        let expected = tile(seed, stream, index);
         if message != expected {
             let at = message.iter().zip(&expected).take_while(|(a, b)| a == b).count();
-            return Err(Difference::Byte { band, index, at });
+            return Err(Difference::Byte { band: stream, index, at });
         }
-        if u32::from(ssn) != index % 65_536 {
-            return Err(Difference::Sequence { band, index, ssn });
+        let first = if band.may_step_back { index } else { band.first };
+        if u32::from(ssn) != (index - first) % 65_536 {
+            return Err(Difference::Sequence { band: stream, index, ssn });
         }
-        if index > 0 && ssn == 0 {
-            self.wrapped.push(band);
+        if index > first && ssn == 0 {
+            self.wrapped.push(stream);
         }
-        *next += 1;
-        self.bytes += message.len() as u64;
+        if index < band.tiles {
+            self.again += 1;
+        } else {
+            self.bytes += message.len() as u64;
+        }
+        *band = Band { tiles: band.tiles.max(index + 1), next: index + 1, first, may_step_back: false };
         Ok(())
     }
 
+    /// Another association brings the rest, whose SSNs begin at 0. Each band may begin with a tile that came before.
+    pub fn resume(&mut self) {
+        for band in &mut self.bands {
+            band.may_step_back = true;
+        }
+    }
+
     pub fn tiles(&self) -> u64 {
-        self.next.iter().map(|count| u64::from(*count)).sum()
+        self.bands.iter().map(|band| u64::from(band.tiles)).sum()
+    }
+
+    /// How many came that had come before.
+    pub fn again(&self) -> u64 {
+        self.again
     }
 
     pub fn tiles_by_band(&self) -> [u32; BANDS as usize] {
-        self.next
+        self.bands.map(|band| band.tiles)
     }
 
     pub fn bytes(&self) -> u64 {
@@ -139,8 +171,9 @@ impl Album {
     }
 }
 
-fn seed_of(message: &[u8]) -> u64 {
-    message.iter().take(8).fold(0, |seed, byte| seed << 8 | u64::from(*byte))
+/// The number of so many bytes that stands there, as far as the message goes.
+fn number_at(message: &[u8], at: usize, bytes: usize) -> u64 {
+    message.iter().skip(at).take(bytes).fold(0, |number, byte| number << 8 | u64::from(*byte))
 }
 
 #[cfg(test)]
@@ -185,6 +218,25 @@ mod tests {
         assert_eq!(album.add(1, 0, &good), Ok(()));
         let repeated = album.add(1, 1, &good);
         assert!(matches!(repeated, Err(Difference::Byte { band: 1, index: 1, .. })));
+    }
+
+    #[test]
+    fn an_album_goes_on_with_another_association_and_knows_what_came_again() {
+        let mut album = Album::default();
+        for index in 0..5u32 {
+            assert_eq!(album.add(0, index as u16, &tile(42, 0, index)), Ok(()));
+        }
+        album.resume();
+        for index in 3..9u32 {
+            assert_eq!(album.add(0, index as u16 - 3, &tile(42, 0, index)), Ok(()));
+        }
+        assert_eq!((album.tiles(), album.again()), (9, 2));
+        // Not without one, nor with a hole.
+        assert!(matches!(album.add(0, 6, &tile(42, 0, 8)), Err(Difference::Byte { index: 9, .. })));
+        album.resume();
+        assert!(matches!(album.add(0, 0, &tile(42, 0, 10)), Err(Difference::Byte { index: 9, .. })));
+        assert_eq!(album.add(0, 1, &tile(42, 0, 9)), Err(Difference::Sequence { band: 0, index: 9, ssn: 1 }));
+        assert_eq!(album.add(0, 0, &tile(42, 0, 9)), Ok(()));
     }
 
     #[test]

@@ -1,7 +1,9 @@
-//! An endpoint on a UDP socket: each datagram is one SCTP packet (RFC 6951).
+//! An endpoint or a hub on a UDP socket: each datagram is one SCTP packet (RFC 6951).
 
 use crate::endpoint::Endpoint;
+use crate::hub::Hub;
 use crate::library::Library;
+use crate::packet::Datagram;
 use crate::pcap::Tap;
 use std::io::{self, ErrorKind};
 use std::net::{SocketAddr, UdpSocket};
@@ -12,8 +14,8 @@ const BUFFER: usize = 2048;
 /// Timers are kept to within this.
 const GRAIN: Duration = Duration::from_millis(1);
 
-pub struct Line<L> {
-    pub endpoint: Endpoint<L>,
+/// A socket, with a capture of what passes it.
+pub struct Wire {
     socket: UdpSocket,
     tap: Option<Tap>,
     trouble: Option<io::Error>,
@@ -21,9 +23,9 @@ pub struct Line<L> {
     buffer: [u8; BUFFER],
 }
 
-impl<L: Library> Line<L> {
-    pub fn new(endpoint: Endpoint<L>, socket: UdpSocket, tap: Option<Tap>) -> Line<L> {
-        Line { endpoint, socket, tap, trouble: None, patience: None, buffer: [0; BUFFER] }
+impl Wire {
+    pub fn new(socket: UdpSocket, tap: Option<Tap>) -> Wire {
+        Wire { socket, tap, trouble: None, patience: None, buffer: [0; BUFFER] }
     }
 
     pub fn address(&self) -> io::Result<SocketAddr> {
@@ -36,20 +38,65 @@ impl<L: Library> Line<L> {
         self.trouble.as_ref()
     }
 
+    fn send(&mut self, datagram: &Datagram) {
+        if let Some(tap) = &self.tap {
+            tap.sent(datagram.to, &datagram.packet);
+        }
+        self.trouble = self.socket.send_to(&datagram.packet, datagram.to).err();
+    }
+
+    /// Waits for one packet until this moment, but no longer than `longest`.
+    fn receive(&mut self, moment: Option<Instant>, longest: Duration) -> io::Result<Option<(&[u8], SocketAddr)>> {
+        let wait = moment.map_or(longest, |moment| moment.saturating_duration_since(Instant::now()).min(longest));
+        let patience = Some(rounded_up(wait));
+        if self.patience != patience {
+            self.socket.set_read_timeout(patience)?;
+            self.patience = patience;
+        }
+        match self.socket.recv_from(&mut self.buffer) {
+            Ok((length, from)) => {
+                self.trouble = None;
+                let packet = self.buffer.get(..length).unwrap_or_default();
+                if let Some(tap) = &self.tap {
+                    tap.received(from, packet);
+                }
+                Ok(Some((packet, from)))
+            }
+            Err(e) if is_like_silence(&e) => Ok(None),
+            Err(e) if is_trouble(&e) => {
+                self.trouble = Some(e);
+                Ok(None)
+            }
+            Err(e) => Err(e),
+        }
+    }
+}
+
+/// An endpoint on a socket.
+pub struct Line<L> {
+    pub endpoint: Endpoint<L>,
+    pub wire: Wire,
+}
+
+impl<L: Library> Line<L> {
+    pub fn new(endpoint: Endpoint<L>, socket: UdpSocket, tap: Option<Tap>) -> Line<L> {
+        Line { endpoint, wire: Wire::new(socket, tap) }
+    }
+
+    pub fn address(&self) -> io::Result<SocketAddr> {
+        self.wire.address()
+    }
+
+    /// See `Wire::trouble`.
+    pub fn trouble(&self) -> Option<&io::Error> {
+        self.wire.trouble()
+    }
+
     /// Sends what is due, waits for one packet but no longer than `longest`, and does what a timer asks. Between two turns messages are taken and handed in.
     pub fn turn(&mut self, longest: Duration) -> io::Result<()> {
         self.endpoint.flush(Instant::now());
         self.send_all();
-        let now = Instant::now();
-        let wait = match self.endpoint.next_moment() {
-            Some(moment) => moment.saturating_duration_since(now).min(longest),
-            None => longest,
-        };
-        if let Some((length, from)) = self.receive(wait)? {
-            let packet = self.buffer.get(..length).unwrap_or_default();
-            if let Some(tap) = &self.tap {
-                tap.received(from, packet);
-            }
+        if let Some((packet, from)) = self.wire.receive(self.endpoint.next_moment(), longest)? {
             self.endpoint.arrive(packet, from, Instant::now());
         }
         self.endpoint.expire(Instant::now());
@@ -59,30 +106,37 @@ impl<L: Library> Line<L> {
 
     fn send_all(&mut self) {
         while let Some(datagram) = self.endpoint.outgoing() {
-            if let Some(tap) = &self.tap {
-                tap.sent(datagram.to, &datagram.packet);
-            }
-            self.trouble = self.socket.send_to(&datagram.packet, datagram.to).err();
+            self.wire.send(&datagram);
         }
     }
+}
 
-    fn receive(&mut self, wait: Duration) -> io::Result<Option<(usize, SocketAddr)>> {
-        let patience = Some(rounded_up(wait));
-        if self.patience != patience {
-            self.socket.set_read_timeout(patience)?;
-            self.patience = patience;
+/// A hub on a socket.
+pub struct Station<L> {
+    pub hub: Hub<L>,
+    pub wire: Wire,
+}
+
+impl<L: Library> Station<L> {
+    pub fn new(hub: Hub<L>, socket: UdpSocket, tap: Option<Tap>) -> Station<L> {
+        Station { hub, wire: Wire::new(socket, tap) }
+    }
+
+    /// As `Line::turn`.
+    pub fn turn(&mut self, longest: Duration) -> io::Result<()> {
+        self.hub.flush(Instant::now());
+        self.send_all();
+        if let Some((packet, from)) = self.wire.receive(self.hub.next_moment(), longest)? {
+            self.hub.arrive(packet, from, Instant::now());
         }
-        match self.socket.recv_from(&mut self.buffer) {
-            Ok(received) => {
-                self.trouble = None;
-                Ok(Some(received))
-            }
-            Err(e) if is_like_silence(&e) => Ok(None),
-            Err(e) if is_trouble(&e) => {
-                self.trouble = Some(e);
-                Ok(None)
-            }
-            Err(e) => Err(e),
+        self.hub.expire(Instant::now());
+        self.send_all();
+        Ok(())
+    }
+
+    fn send_all(&mut self) {
+        while let Some(datagram) = self.hub.outgoing() {
+            self.wire.send(&datagram);
         }
     }
 }

@@ -8,6 +8,7 @@ use model::checksum;
 use modelled::Modelled;
 use oilwhisper::calls::{Cause, State};
 use oilwhisper::endpoint::{Config, Datagram, Endpoint, Event};
+use oilwhisper::hub::{Hub, Settings};
 use oilwhisper::library::Library;
 use oilwhisper::random::{Random, Seeded};
 use std::alloc::{GlobalAlloc, Layout, System};
@@ -539,4 +540,18 @@ fn an_endpoint_on_the_proved_library_endures_whatever_comes() {
     for seed in 4..6 {
         endures::<oilwhisper::library::Proved>(seed, seed == 4, STEPS / 4);
     }
+}
+
+/// What a head takes of memory is what is told, but for what waits to be sent and the hub's own tables.
+#[test]
+fn a_head_takes_as_much_memory_as_is_told() {
+    let now = Instant::now();
+    let mut hub = Hub::<Modelled>::new(Settings::for_heads(Config::at_port(PORTS[0]), 64), Random::from_key([1; 32]), now);
+    let before = live();
+    for n in 0..64 {
+        hub.connect(address(n), PORTS[1], now).expect("a new association can be asked for");
+    }
+    let each = (live() - before) / 64;
+    let told = Hub::<Modelled>::bytes_of_a_head() as isize;
+    assert!((told..told + told / 20).contains(&each), "{} bytes, and {} are told", each, told);
 }

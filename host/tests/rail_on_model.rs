@@ -7,10 +7,12 @@ use oilwhisper::endpoint::{Config, Endpoint};
 use oilwhisper::rail::arguments::{parse, Command};
 use oilwhisper::rail::report::Ended;
 use oilwhisper::rail::stop::Stop;
+use oilwhisper::rail::view::Screen;
 use oilwhisper::rail::{demo, lone, Failure};
 use oilwhisper::random::Random;
 use oilwhisper::udp::Line;
-use std::net::UdpSocket;
+use std::io::{Read, Write};
+use std::net::{TcpListener, TcpStream, UdpSocket};
 use std::path::PathBuf;
 use std::time::{Duration, Instant};
 use std::{env, fs, io, thread};
@@ -23,7 +25,7 @@ fn run_until(line: &str, stop: &Stop) -> Result<(Ended, String), Failure> {
         Command::Help | Command::Version => panic!("'{}' asks for a text", line),
         Command::Demo(asked) => demo::run::<Modelled>(&asked, stop, &mut out),
         Command::Head(asked) => lone::head::<Modelled>(&asked, stop, &mut out),
-        Command::Field(asked) => lone::field::<Modelled>(&asked, stop, &mut out),
+        Command::Field(asked) => lone::field::<Modelled>(&asked, stop, &mut Screen::new(&mut out, false)),
     };
     ended.map(|ended| (ended, String::from_utf8_lossy(&out).into_owned()))
 }
@@ -42,6 +44,12 @@ fn complaint(line: &str) -> String {
     }
 }
 
+/// What a row of the table says.
+fn value<'a>(ended: &'a Ended, row: &str) -> &'a str {
+    let line = ended.table.lines().find_map(|line| line.trim_start().strip_prefix(row));
+    line.unwrap_or_else(|| panic!("no row '{}' in\n{}", row, ended.table)).trim()
+}
+
 fn scratch(name: &str) -> PathBuf {
     env::temp_dir().join(format!("{}-{}", std::process::id(), name))
 }
@@ -49,24 +57,28 @@ fn scratch(name: &str) -> PathBuf {
 #[test]
 fn every_tile_comes_through_a_bad_stretch() {
     let (ended, said) = well("demo --messages 3000 --seed 4");
-    assert!(ended.table.contains("TSN circle of 2^32 closed                        yes"), "{}", ended.table);
-    assert!(ended.table.contains("tiles compared byte by byte, equal and in order  3,375"), "{}", ended.table);
-    assert_eq!(ended.verdict, "all 3,375 tiles came once, in order, byte for byte");
-    assert_eq!(said.matches("  TSN 4,294,967,295 to 0\n").count(), 1, "{}", said);
+    for head in 1..=3 {
+        assert_eq!(value(&ended, &format!("head-{}: TSN circle of 2^32 closed", head)).split(' ').next(), Some("yes"), "{}", ended.table);
+        assert_eq!(said.matches(&format!("  TSN 4,294,967,295 to 0 of head-{}\n", head)).count(), 1, "{}", said);
+    }
+    assert_eq!(value(&ended, "tiles compared byte by byte, equal and in order"), "10,125");
+    assert_eq!(ended.verdict, "all 10,125 tiles of 3 heads came once, in order, byte for byte");
 }
 
 #[test]
 fn a_circle_that_does_not_close_is_not_said_to() {
-    let (ended, said) = well("demo --messages 40");
-    assert!(ended.table.contains("TSN circle of 2^32 closed                        no"), "{}", ended.table);
+    let (ended, said) = well("demo --messages 40 --heads 1");
+    assert!(value(&ended, "head-1: TSN circle of 2^32 closed").starts_with("no "), "{}", ended.table);
     assert!(!said.contains("TSN 4,294,967,295"), "{}", said);
 }
 
 #[test]
 fn both_circles_close_in_fair_weather() {
-    let (ended, said) = well("demo --loss 0 --repeat 0 --reorder 0 --damage 0 --messages 65600");
-    assert!(ended.table.contains("SSN circle of 2^16 closed                        yes"), "{}", ended.table);
-    assert_eq!(said.matches("  SSN 65,535 to 0 on band 0\n").count(), 1, "{}", said);
+    let (ended, said) = well("demo --loss 0 --repeat 0 --reorder 0 --damage 0 --messages 65600 --heads 2");
+    for head in 1..=2 {
+        assert!(value(&ended, &format!("head-{}: SSN circle of 2^16 closed", head)).starts_with("yes "), "{}", ended.table);
+        assert_eq!(said.matches(&format!("  SSN 65,535 to 0 on band 0 of head-{}\n", head)).count(), 1, "{}", said);
+    }
 }
 
 #[test]
@@ -77,7 +89,7 @@ fn a_head_sends_to_a_field_computer_on_real_addresses_and_both_write_captures() 
     let field = thread::spawn(move || well(&field_line));
     let (head, _) = well(&format!("head 127.0.0.1:{} --messages 400 --pcap {}", port, sent.display()));
     let (field, _) = field.join().expect("the field computer ends");
-    assert_eq!(head.verdict, "the field computer has all 450 tiles");
+    assert_eq!(head.verdict, "the field computer keeps all 450 tiles");
     assert_eq!(field.verdict, "all 450 tiles of 1 head came once, in order, byte for byte");
     for capture in [sent, received] {
         let bytes = fs::read(&capture).expect("the capture was written");
@@ -94,20 +106,59 @@ fn a_field_computer_at_all_addresses_serves_one_head_after_another() {
     let field = thread::spawn(move || well(&field_line));
     // Of both kinds, where the machine has both.
     let other = if UdpSocket::bind("[::1]:0").is_ok() { "[::1]" } else { "127.0.0.1" };
-    for (address, messages) in [("127.0.0.1", 100), (other, 50)] {
-        let (head, _) = well(&format!("head {}:{} --messages {}", address, port, messages));
-        assert!(head.verdict.starts_with("the field computer has all"), "{}", head.verdict);
+    for (address, name, messages) in [("127.0.0.1", "north", 100), (other, "south", 50)] {
+        let (head, _) = well(&format!("head {}:{} --name {} --messages {}", address, port, name, messages));
+        assert!(head.verdict.starts_with("the field computer keeps all"), "{}", head.verdict);
     }
     let (field, said) = field.join().expect("the field computer ends");
     assert_eq!(field.verdict, "all 168 tiles of 2 heads came once, in order, byte for byte");
-    assert!(said.contains("112 tiles from 127.0.0.1:"), "{}", said);
-    assert!(said.contains(&format!("56 tiles from {}:", other)), "{}", said);
+    assert!(said.contains("112 tiles from north at 127.0.0.1:"), "{}", said);
+    assert!(said.contains(&format!("56 tiles from south at {}:", other)), "{}", said);
+}
+
+/// What a browser gets.
+fn page_at(port: u16) -> String {
+    let mut stream = TcpStream::connect(("127.0.0.1", port)).expect("the view is served");
+    stream.write_all(b"GET / HTTP/1.1\r\nHost: localhost\r\n\r\n").expect("it can be asked");
+    let mut page = String::new();
+    stream.read_to_string(&mut page).expect("it answers");
+    page
+}
+
+#[test]
+fn a_page_shows_every_head_and_its_tiles() {
+    let port = free_port();
+    let view = TcpListener::bind("127.0.0.1:0").and_then(|listener| listener.local_addr()).expect("there is a free port").port();
+    let stops: Vec<Stop> = (0..3).map(|_| Stop::default()).collect();
+    let lines = [
+        format!("field 127.0.0.1:{} --view {}", port, view),
+        format!("head 127.0.0.1:{} --name north --messages 60000000", port),
+        format!("head 127.0.0.1:{} --name south --messages 100", port),
+    ];
+    let mut runs = Vec::new();
+    for (line, stop) in lines.into_iter().zip(stops.clone()) {
+        runs.push(thread::spawn(move || run_until(&line, &stop).unwrap_or_else(|failure| panic!("{}", failure))));
+        thread::sleep(Duration::from_millis(300));
+    }
+    thread::sleep(Duration::from_millis(2000));
+    let page = page_at(view);
+    assert!(page.contains("<h2>north at 127.0.0.1:") && page.contains(": up, heard 0."), "{}", page);
+    assert!(page.contains("<h2>south at 127.0.0.1:") && page.contains(": gone, "), "{}", page);
+    assert!(page.contains("<tr><th>band 0: 100</th><td class=t title=\"tile 60: taken\">"), "{}", page);
+    stops.iter().rev().for_each(|stop| {
+        stop.ask();
+        thread::sleep(Duration::from_millis(300));
+    });
+    for run in runs {
+        let (ended, _) = run.join().expect("it ends");
+        assert!(ended.faults.is_empty(), "{:?}", ended);
+    }
 }
 
 /// A field computer and a head that have begun, each with what stops it.
 fn begun(messages: u32) -> [(Stop, thread::JoinHandle<(Ended, String)>); 2] {
     let port = free_port();
-    let lines = [format!("field 127.0.0.1:{}", port), format!("head 127.0.0.1:{} --messages {}", port, messages)];
+    let lines = [format!("field 127.0.0.1:{}", port), format!("head 127.0.0.1:{} --tries 0 --messages {}", port, messages)];
     let ends = lines.map(|line| {
         let stop = Stop::default();
         let asked = stop.clone();
@@ -124,14 +175,14 @@ fn a_head_that_is_stopped_shuts_down_and_its_tiles_are_there() {
     let [(stop_field, field), (stop_head, head)] = begun(60_000_000);
     stop_head.ask();
     let (head, _) = head.join().expect("the head ends");
-    assert!(head.verdict.starts_with("stopped: ") && head.verdict.ends_with("the field computer has them"), "{}", head.verdict);
+    assert!(head.verdict.starts_with("stopped: the field computer keeps "), "{}", head.verdict);
     assert!(head.was_stopped && head.faults.is_empty(), "{:?}", head);
     stop_field.ask();
     let (field, _) = field.join().expect("the field computer ends");
     assert!(field.verdict.starts_with("all "), "{:?}", field);
     assert!(!field.was_stopped && field.faults.is_empty(), "{:?}", field);
-    let tiles = |verdict: &str, at: usize| verdict.split(' ').nth(at).map(str::to_string);
-    assert_eq!(tiles(&head.verdict, 1), tiles(&field.verdict, 1));
+    assert_eq!(value(&head, "tiles handed in"), value(&head, "tiles that the field computer keeps"));
+    assert_eq!(value(&head, "tiles handed in"), value(&field, "tiles compared byte by byte, equal and in order"));
 }
 
 #[test]
@@ -139,10 +190,10 @@ fn a_field_computer_that_is_stopped_tells_its_head() {
     let [(stop_field, field), (_, head)] = begun(60_000_000);
     stop_field.ask();
     let (field, _) = field.join().expect("the field computer ends");
-    assert!(field.verdict.starts_with("stopped, and the head told: the "), "{:?}", field);
+    assert!(field.verdict.starts_with("stopped, and the heads told: "), "{:?}", field);
     assert!(field.was_stopped && field.faults.is_empty(), "{:?}", field);
     let (head, _) = head.join().expect("the head ends");
-    assert_eq!(head.faults, ["the field computer shut down before all tiles were handed in"]);
+    assert_eq!(head.faults, ["the field computer shut down before it had all tiles"]);
 }
 
 #[test]
@@ -155,9 +206,9 @@ fn who_is_stopped_twice_aborts_and_tells_the_other() {
     assert!(head.was_stopped && head.faults.is_empty(), "{:?}", head);
     thread::sleep(Duration::from_millis(500));
     stop_field.ask();
-    let (field, _) = field.join().expect("the field computer ends");
-    assert_eq!(field.faults.len(), 1, "{:?}", field);
-    assert!(field.faults[0].ends_with("the association is closed: aborted by the peer"), "{:?}", field.faults);
+    let (field, said) = field.join().expect("the field computer ends");
+    assert!(field.faults.is_empty(), "{:?}", field);
+    assert!(said.contains("; the association is closed: aborted by the peer\n"), "{}", said);
 }
 
 #[test]
@@ -214,6 +265,7 @@ fn a_head_from_a_network_that_is_not_admitted_gets_no_answer() {
     let mut runs = Vec::new();
     for (line, stop) in lines.into_iter().zip(stops.clone()) {
         runs.push(thread::spawn(move || run_until(&line, &stop).unwrap_or_else(|failure| panic!("{}", failure))));
+        thread::sleep(Duration::from_millis(500));
     }
     thread::sleep(Duration::from_millis(2500));
     stops.iter().for_each(Stop::ask);

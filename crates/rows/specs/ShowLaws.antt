@@ -8,6 +8,7 @@ use borrow.Author.Tests.{eqb-false}
 use lib.Dec.{eqb}
 use lib.ListN.{length, replicate}
 use Rattle.scans.specs.Scan.{pick}
+use Rattle.scans.specs.Each.{All}
 use Rattle.numbers.specs.declared.circle.Tsn.{Tsn}
 use Rattle.numbers.specs.Numbering.{ring}
 use Rattle.numbers.specs.Profile.{rail}
@@ -16,6 +17,8 @@ use Rattle.octets.specs.Writing.{wroteBytes}
 use Rattle.chunks.specs.declared.init.Init.{Init}
 use Rattle.chunks.specs.declared.kind.Handling.{Handling}
 use Rattle.chunks.specs.declared.kind.Handling.the-variants.{Stop, StopAndReport, Skip, SkipAndReport}
+use Rattle.chunks.specs.Again.{Octet}
+use Rattle.chunks.specs.ReadLaws.{data-tsn, data-stream, data-ssn, data-ppid}
 use Rattle.chunks.specs.Frame.{framed, partFrom, bytesIn}
 use Rattle.chunks.specs.InitChunk.{initOf}
 use Rattle.chunks.specs.ShutdownChunk.{pointOf}
@@ -94,6 +97,11 @@ doneShown t = record {
   owed = t .stepped .owed;
   written = t .stepped .written;
 }
+
+-- of octets, the fields of a DATA are within their types
+pub octets-fit : (s : List ℕ) → All Octet s → Fitting (asHeld (chunkOf s) (length (payloadOf s)))
+unfolding chunkOf
+octets-fit s w = record { tsn = data-tsn s w; stream = data-stream s w; ssn = data-ssn s w; ppid = data-ppid s w }
 
 -- a SHUTDOWN's point that is refused leaves the sending side
 refused-point : (z : Sizes) (q : Sending) (point : Tsn) → 0 < shutdownPoint z q point .number → shutdownPoint z q point .sending ≡ q

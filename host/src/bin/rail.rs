@@ -4,6 +4,7 @@ use oilwhisper::library::Proved;
 use oilwhisper::rail::arguments::{parse, Command, USAGE, VERSION};
 use oilwhisper::rail::report::Ended;
 use oilwhisper::rail::stop::Stop;
+use oilwhisper::rail::view::Screen;
 use oilwhisper::rail::{demo, lone, Failure};
 use std::io::{self, Write};
 use std::process::ExitCode;
@@ -37,8 +38,18 @@ fn run(command: Command) -> Result<Ended, Failure> {
         Command::Help | Command::Version => Ok(Ended::default()),
         Command::Demo(asked) => demo::run::<Proved>(&asked, &stop, out),
         Command::Head(asked) => lone::head::<Proved>(&asked, &stop, out),
-        Command::Field(asked) => lone::field::<Proved>(&asked, &stop, out),
+        Command::Field(asked) => lone::field::<Proved>(&asked, &stop, &mut Screen::new(out, is_terminal())),
     }
+}
+
+extern "C" {
+    fn isatty(descriptor: i32) -> i32;
+}
+
+/// Whether standard output is one.
+fn is_terminal() -> bool {
+    // C's `isatty` takes any number and touches nothing.
+    unsafe { isatty(1) == 1 }
 }
 
 fn conclude(ended: Result<Ended, Failure>) -> ExitCode {

@@ -1,5 +1,6 @@
 //! What the command line asks for.
 
+use super::parcel::is_name;
 use super::Failure;
 use crate::admission::Network;
 use crate::endpoint::Config;
@@ -28,6 +29,7 @@ pub enum Command {
 
 #[derive(Clone, Debug, PartialEq)]
 pub struct Demo {
+    pub heads: usize,
     pub messages: u64,
     pub seed: u64,
     pub weather: Weather,
@@ -48,6 +50,14 @@ pub struct Head {
     pub bind: SocketAddr,
     pub port: u16,
     pub to_port: u16,
+    /// What the field computer knows it by.
+    pub name: String,
+    /// The folder whose tiles it sends; without one they are made.
+    pub from: Option<PathBuf>,
+    /// Where it notes which are kept; for a folder it has its own.
+    pub journal: Option<PathBuf>,
+    /// How often it asks again when the line is lost; without a number as long as it runs.
+    pub tries: Option<u64>,
     pub messages: u64,
     pub seed: u64,
     pub beats: Beats,
@@ -58,7 +68,13 @@ pub struct Head {
 pub struct Field {
     pub address: SocketAddr,
     pub port: u16,
-    /// After so many heads it ends.
+    /// The folder that tiles are kept in; without one they are compared.
+    pub to: Option<PathBuf>,
+    /// Where a page shows the heads.
+    pub view: Option<SocketAddr>,
+    /// How many heads it serves at once.
+    pub heads: usize,
+    /// After so many associations it ends.
     pub count: Option<u64>,
     /// From where heads may come; from everywhere, if nothing is said.
     pub admits: Option<Vec<Network>>,
@@ -67,6 +83,10 @@ pub struct Field {
 }
 
 const MESSAGES: u64 = 66_000;
+const DEMO_HEADS: u64 = 3;
+const DEMO_HEADS_MOST: u64 = 200;
+const HEADS: u64 = 64;
+const HEADS_MOST: u64 = 10_000;
 /// An index of a tile has 32 bits.
 const MESSAGES_MOST: u64 = u32::MAX as u64;
 
@@ -91,6 +111,7 @@ pub fn parse(words: &[String]) -> Result<Command, Failure> {
 
 fn demo(mut options: Options) -> Result<Demo, Failure> {
     let demo = Demo {
+        heads: options.number("--heads", DEMO_HEADS, 1, DEMO_HEADS_MOST)? as usize,
         messages: options.number("--messages", MESSAGES, 1, MESSAGES_MOST)?,
         seed: options.number("--seed", 1, 0, u64::MAX)?,
         weather: Weather {
@@ -116,6 +137,10 @@ fn head(mut options: Options) -> Result<Head, Failure> {
         },
         port: options.port("--port", HEAD_PORT)?,
         to_port: options.port("--to-port", FIELD_PORT)?,
+        name: options.name()?,
+        from: options.path("--from"),
+        journal: options.path("--journal"),
+        tries: options.optional("--tries", 0, u64::MAX)?,
         messages: options.number("--messages", MESSAGES, 1, MESSAGES_MOST)?,
         seed: options.number("--seed", 1, 0, u64::MAX)?,
         beats: options.beats()?,
@@ -129,6 +154,9 @@ fn field(mut options: Options) -> Result<Field, Failure> {
     let field = Field {
         address: listening_address(&at)?,
         port: options.port("--port", FIELD_PORT)?,
+        to: options.path("--to"),
+        view: options.loopback("--view")?,
+        heads: options.number("--heads", HEADS, 1, HEADS_MOST)? as usize,
         count: options.optional("--count", 1, u64::MAX)?,
         admits: options.networks("--admit")?,
         beats: options.beats()?,
@@ -233,6 +261,31 @@ impl Options {
         Ok(Beats { heartbeat, unanswered })
     }
 
+    /// An address of this machine alone, or a port there.
+    fn loopback(&mut self, name: &str) -> Result<Option<SocketAddr>, Failure> {
+        let text = match self.text(name) {
+            Some(text) => text,
+            None => return Ok(None),
+        };
+        let address = u16::from_str(&text).map(|port| SocketAddr::from((Ipv4Addr::LOCALHOST, port))).or_else(|_| resolved(&text))?;
+        match address.ip().is_loopback() {
+            true => Ok(Some(address)),
+            false => {
+                Err(Failure(format!("{} shows itself to this machine alone: '{}' is no address of its loopback, as 127.0.0.1:8080 is", name, text)))
+            }
+        }
+    }
+
+    /// A head's name; without one its machine's.
+    fn name(&mut self) -> Result<String, Failure> {
+        let of_machine = || std::fs::read_to_string("/proc/sys/kernel/hostname").map(|name| name.trim().to_string());
+        match self.text("--name") {
+            Some(name) if is_name(&name) => Ok(name),
+            Some(name) => Err(Failure(format!("--name takes letters, digits, '-', '_' and '.', not '{}'", name))),
+            None => Ok(of_machine().ok().filter(|name| is_name(name)).unwrap_or_else(|| "head".to_string())),
+        }
+    }
+
     /// Networks with commas between them.
     fn networks(&mut self, name: &str) -> Result<Option<Vec<Network>>, Failure> {
         let network = |word: &str| {
@@ -330,6 +383,26 @@ mod tests {
     }
 
     #[test]
+    fn tiles_come_from_a_folder_and_go_to_one() {
+        match parsed("head 127.0.0.1:9899 --from /a --name north-2 --journal /b --tries 3") {
+            Ok(Command::Head(head)) => {
+                assert_eq!((head.from, head.journal), (Some(PathBuf::from("/a")), Some(PathBuf::from("/b"))));
+                assert_eq!((head.name.as_str(), head.tries), ("north-2", Some(3)));
+            }
+            other => panic!("{:?}", other),
+        }
+        match parsed("field --to /c --heads 5 --view 8080") {
+            Ok(Command::Field(field)) => {
+                assert_eq!((field.to, field.heads), (Some(PathBuf::from("/c")), 5));
+                assert_eq!(field.view, Some(SocketAddr::from(([127, 0, 0, 1], 8080))));
+            }
+            other => panic!("{:?}", other),
+        }
+        assert!(matches!(parsed("demo"), Ok(Command::Demo(Demo { heads: 3, .. }))));
+        assert!(matches!(parsed("head 127.0.0.1:9899"), Ok(Command::Head(Head { tries: None, from: None, .. }))));
+    }
+
+    #[test]
     fn a_link_can_be_named() {
         match parsed("head [fe80::1%lo]:9899") {
             Ok(Command::Head(Head { address: SocketAddr::V6(six), .. })) => assert_eq!((six.port(), six.scope_id() > 0), (9899, true)),
@@ -350,6 +423,9 @@ mod tests {
         assert!(complaint("field --admit 10.0.0.0/33").contains("--admit takes addresses and networks"));
         assert!(complaint("field --heartbeat 0").contains("--heartbeat takes a number from 1"));
         assert!(complaint("field --count 0").contains("--count takes a number from 1"));
+        assert!(complaint("head 127.0.0.1:9 --name a/b").contains("--name takes letters"));
+        assert!(complaint("field --view 192.0.2.7:8080").contains("--view shows itself to this machine alone"));
+        assert!(complaint("field --heads 0").contains("--heads takes a number from 1"));
         assert!(complaint("head 127.0.0.1").contains("'127.0.0.1' is no address"));
         assert!(complaint("head 127.0.0.1:99999").contains("is no address"));
         assert!(complaint("head 127.0.0.1:0").contains("port 0 is none to send to"));

@@ -1,21 +1,25 @@
-//! The demonstration: a head and a field computer over loopback UDP, with a relay between them that drops, repeats, reorders and damages packets. The head's
+//! The demonstration: heads and a field computer over loopback UDP, with a relay before each head that drops, repeats, reorders and damages packets. Each head's
 //! first TSN is 100 below 2^32 and its first band has more than 65,536 tiles, so that the numbers of both circles go round.
 
 use super::arguments::{Demo, FIELD_PORT, HEAD_PORT};
-use super::ends::{Field, Head, Stage, Turned};
-use super::report::{grouped, per_second, silence, Ended, Table};
+use super::report::{grouped, per_second, plural, silence, Ended, Table};
+use super::sender::{Asking, Sender, Stage};
+use super::source::Source;
 use super::stop::{Stop, Wish};
+use super::taker::{Field, Sink};
 use super::{bind, end_capture, start_capture, Failure};
 use crate::counts::Counts;
-use crate::endpoint::{Config, Endpoint, Why};
+use crate::endpoint::{Config, Endpoint};
+use crate::hub::{Hub, Settings};
 use crate::library::Library;
 use crate::pcap::{Capture, Tap};
 use crate::random::Random;
 use crate::relay::{Channel, Mishaps, Relay};
-use crate::tiles::{Album, Difference, Plan, BANDS};
-use crate::udp::Line;
+use crate::tiles::{Album, Plan, BANDS};
+use crate::udp::{Line, Station};
+use std::collections::BTreeMap;
 use std::io::Write;
-use std::net::{IpAddr, SocketAddr, UdpSocket};
+use std::net::{IpAddr, Ipv4Addr, SocketAddr, UdpSocket};
 use std::sync::atomic::{AtomicBool, AtomicU64, Ordering};
 use std::sync::Mutex;
 use std::thread;
@@ -25,13 +29,19 @@ use std::time::{Duration, Instant};
 pub const FIRST_TSN: u32 = u32::MAX - 99;
 const SSN_CIRCLE: u64 = 65_536;
 
-/// Three addresses of the loopback network, so that a capture tells the ends apart.
-const HEAD: IpAddr = loopback(1);
-const FIELD: IpAddr = loopback(2);
-const RELAY: IpAddr = loopback(3);
+/// Addresses of the loopback network, so that a capture tells the ends apart: the field computer's, and each head's and its relay's.
+const FIELD: IpAddr = IpAddr::V4(Ipv4Addr::new(127, 0, 0, 2));
 
-const fn loopback(last: u8) -> IpAddr {
-    IpAddr::V4(std::net::Ipv4Addr::new(127, 0, 0, last))
+fn head_at(n: usize) -> IpAddr {
+    IpAddr::from([127, 0, 1, n as u8 + 1])
+}
+
+fn relay_at(n: usize) -> IpAddr {
+    IpAddr::from([127, 0, 2, n as u8 + 1])
+}
+
+fn name(n: usize) -> String {
+    format!("head-{}", n + 1)
 }
 
 const TURN: Duration = Duration::from_millis(20);
@@ -42,12 +52,11 @@ const STUCK: Duration = Duration::from_secs(300);
 /// What the threads tell each other.
 #[derive(Default)]
 struct Shared {
-    handed_in: AtomicU64,
     compared: AtomicU64,
     resent: AtomicU64,
-    /// How many milliseconds the head has not heard the field computer.
+    /// How many milliseconds the last of the heads has not heard the field computer.
     silence: AtomicU64,
-    head_ended: AtomicBool,
+    heads_ended: AtomicU64,
     field_ended: AtomicBool,
     stop: AtomicBool,
     /// What is to be told at once.
@@ -82,8 +91,14 @@ struct HeadOutcome {
 struct FieldOutcome {
     result: Result<(), Failure>,
     counts: Counts,
-    album: Album,
-    differences: Vec<Difference>,
+    albums: BTreeMap<String, Album>,
+    faults: Vec<String>,
+}
+
+impl FieldOutcome {
+    fn album(&self, n: usize) -> Album {
+        self.albums.get(&name(n)).cloned().unwrap_or_default()
+    }
 }
 
 pub fn run<L: Library>(demo: &Demo, stop: &Stop, progress: &mut dyn Write) -> Result<Ended, Failure> {
@@ -98,46 +113,78 @@ pub fn run<L: Library>(demo: &Demo, stop: &Stop, progress: &mut dyn Write) -> Re
     Ok(ended)
 }
 
+/// A head's socket, and the stretch between it and the field computer.
+struct Post {
+    socket: UdpSocket,
+    address: SocketAddr,
+    relay: Relay,
+    /// Where the head sends to, and where the field computer does.
+    to_field: SocketAddr,
+    to_head: SocketAddr,
+}
+
+impl Post {
+    fn new(n: usize, field: SocketAddr) -> Result<Post, Failure> {
+        let socket = bind(SocketAddr::new(head_at(n), 0))?;
+        let address = socket.local_addr().map_err(Failure::of_network)?;
+        let relay = Relay::between(address, field, relay_at(n)).map_err(Failure::of_network)?;
+        let to_field = relay.first_side().map_err(Failure::of_network)?;
+        let to_head = relay.second_side().map_err(Failure::of_network)?;
+        Ok(Post { socket, address, relay, to_field, to_head })
+    }
+}
+
 fn run_ends<L: Library>(demo: &Demo, stop: &Stop, capture: Option<&Capture>, progress: &mut dyn Write) -> Result<Ended, Failure> {
-    let head_socket = bind(SocketAddr::new(HEAD, 0))?;
     let field_socket = bind(SocketAddr::new(FIELD, 0))?;
-    let head_address = head_socket.local_addr().map_err(Failure::of_network)?;
     let field_address = field_socket.local_addr().map_err(Failure::of_network)?;
-    let relay = Relay::between(head_address, field_address, RELAY).map_err(Failure::of_network)?;
-    let to_field = relay.first_side().map_err(Failure::of_network)?;
+    let posts: Vec<Post> = (0..demo.heads).map(|n| Post::new(n, field_address)).collect::<Result<_, _>>()?;
     let shared = Shared::default();
-    announce(demo, head_address, field_address, progress);
+    announce(demo, field_address, progress);
     let began = Instant::now();
-    let (head, field, mishaps) = thread::scope(|scope| {
-        let forth = scope.spawn(|| relay.carry_forth(Channel::new(demo.weather, demo.seed), &shared.stop));
-        let back = scope.spawn(|| relay.carry_back(Channel::new(demo.weather, !demo.seed), &shared.stop));
-        let field = scope.spawn(|| run_field::<L>(field_socket, tap(capture, field_address, head_address), &shared));
-        let head = scope.spawn(|| run_head::<L>(demo, head_socket, to_field, tap(capture, head_address, field_address), &shared, stop));
-        watch(demo, &shared, progress);
-        let head = joined(head);
+    let tap = |here: SocketAddr| capture.map(|capture| Tap::new(capture.clone(), here));
+    let field_tap = posts.iter().fold(tap(field_address), |tap, post| tap.map(|tap| tap.shows_behind(post.to_head, post.address)));
+    let (heads, field, mishaps) = thread::scope(|scope| {
+        let shared = &shared;
+        let mut stretches = Vec::new();
+        for (n, post) in posts.iter().enumerate() {
+            let seed = demo.seed.wrapping_add(n as u64);
+            stretches.push(scope.spawn(move || post.relay.carry_forth(Channel::new(demo.weather, seed), &shared.stop)));
+            stretches.push(scope.spawn(move || post.relay.carry_back(Channel::new(demo.weather, !seed), &shared.stop)));
+        }
+        let field = scope.spawn(|| run_field::<L>(demo, field_socket, field_tap, shared));
+        let mut heads = Vec::new();
+        for (n, post) in posts.iter().enumerate() {
+            let tap = tap(post.address).map(|tap| tap.shows_behind(post.to_field, field_address));
+            heads.push(scope.spawn(move || run_head::<L>(demo, n, post, tap, shared, stop)));
+        }
+        watch(demo, shared, progress);
+        let heads: Vec<_> = heads.into_iter().map(joined).collect();
         let field = joined(field);
         shared.print_news(progress);
         shared.stop.store(true, Ordering::Relaxed);
-        let mishaps = joined(forth).and_then(|forth| joined(back).map(|back| (forth, back)));
-        (head, field, mishaps)
+        let mishaps: Vec<_> = stretches.into_iter().map(joined).collect();
+        (heads, field, mishaps)
     });
     let took = began.elapsed();
-    let (forth, back) = mishaps?;
-    let mishaps = forth.and_then(|forth| back.map(|back| forth.and(back))).map_err(Failure::of_network)?;
-    Ok(judge(demo, head??, field??, mishaps, took))
+    let mut all = Mishaps::default();
+    for mishap in mishaps {
+        all = all.and(mishap?.map_err(Failure::of_network)?);
+    }
+    let heads: Vec<HeadOutcome> = heads.into_iter().map(|head| head.and_then(|head| head)).collect::<Result<_, _>>()?;
+    Ok(judge(demo, &heads, &field??, all, took))
 }
 
-fn announce(demo: &Demo, head: SocketAddr, field: SocketAddr, progress: &mut dyn Write) {
-    let Demo { messages, weather, .. } = demo;
+fn announce(demo: &Demo, field: SocketAddr, progress: &mut dyn Write) {
+    let Demo { messages, weather, heads, .. } = demo;
     let percent = [weather.loss, weather.repeat, weather.reorder, weather.damage].map(|part| part * 100.0);
     let [loss, repeat, reorder, damage] = percent;
     // A closed standard output must not end the run: the exit status still tells.
     let _ = writeln!(
         progress,
-        "{} tiles of {} bands from a head at {} to a field computer at {}, over a stretch that drops {}%, repeats {}%, holds back {}% and damages {}%",
-        grouped(Plan::total(*messages)),
+        "{} tiles of {} bands from {} to a field computer at {}, each over a stretch that drops {}%, repeats {}%, holds back {}% and damages {}%",
+        grouped(Plan::total(*messages) * *heads as u64),
         BANDS,
-        head,
+        plural(*heads as u64, "head", "heads"),
         field,
         loss,
         repeat,
@@ -150,30 +197,22 @@ fn joined<T>(thread: thread::ScopedJoinHandle<T>) -> Result<T, Failure> {
     thread.join().map_err(|_| Failure("a part of this program failed".to_string()))
 }
 
-/// A tap that shows the other end in place of the relay.
-fn tap(capture: Option<&Capture>, here: SocketAddr, there: SocketAddr) -> Option<Tap> {
-    capture.map(|capture| Tap::new(capture.clone(), here).shows_peer_at(there))
+fn random() -> Result<Random, Failure> {
+    Random::from_system().map_err(|e| Failure(format!("the system gives no random numbers: {}", e)))
 }
 
-fn line<L: Library>(socket: UdpSocket, config: Config, tap: Option<Tap>) -> Result<Line<L>, Failure> {
-    let random = Random::from_system().map_err(|e| Failure(format!("the system gives no random numbers: {}", e)))?;
-    Ok(Line::new(Endpoint::new(config, random, Instant::now()), socket, tap))
-}
-
-fn run_head<L: Library>(
-    demo: &Demo,
-    socket: UdpSocket,
-    to_field: SocketAddr,
-    tap: Option<Tap>,
-    shared: &Shared,
-    stop: &Stop,
-) -> Result<HeadOutcome, Failure> {
+fn run_head<L: Library>(demo: &Demo, n: usize, post: &Post, tap: Option<Tap>, shared: &Shared, stop: &Stop) -> Result<HeadOutcome, Failure> {
     let config = Config { streams: BANDS, first_tsn: Some(FIRST_TSN), ..Config::at_port(HEAD_PORT) };
-    let mut head = Head::start(line::<L>(socket, config, tap)?, to_field, FIELD_PORT, Plan::of(demo.messages), demo.seed, stop)?;
+    let socket = post.socket.try_clone().map_err(Failure::of_network)?;
+    let line = Line::<L>::new(Endpoint::new(config, random()?, Instant::now()), socket, tap);
+    // A line that is lost here is a fault.
+    let asking = Asking { field: post.to_field, port: FIELD_PORT, name: name(n), tries: Some(0) };
+    let mut head = Sender::start(line, asking, Source::made(demo.messages, demo.seed.wrapping_add(n as u64)), stop)?;
     let mut result = Ok(());
-    let mut has_told_circle = false;
+    let (mut has_told_circle, mut has_ended) = (false, false);
+    let mut resent = 0;
     // It stays until the field computer is through, which may need its last word again.
-    while result.is_ok() && !(head.stage() == Stage::Closed && shared.field_ended.load(Ordering::Relaxed)) && !shared.stop.load(Ordering::Relaxed) {
+    while result.is_ok() && !(has_ended && shared.field_ended.load(Ordering::Relaxed)) && !shared.stop.load(Ordering::Relaxed) {
         result = head.turn(TURN);
         if result.is_ok() && head.stage() == Stage::Opening && head.line.trouble().is_some() {
             // Loopback that carries nothing now will carry nothing later.
@@ -181,21 +220,23 @@ fn run_head<L: Library>(
         }
         if head.has_closed_tsn_circle() && !has_told_circle {
             has_told_circle = true;
-            shared.tell("TSN 4,294,967,295 to 0".to_string());
+            shared.tell(format!("TSN 4,294,967,295 to 0 of {}", name(n)));
         }
         let counts = head.line.endpoint.counts();
-        shared.handed_in.store(counts.messages_in, Ordering::Relaxed);
-        shared.resent.store(counts.resent, Ordering::Relaxed);
+        shared.resent.fetch_add(counts.resent - resent, Ordering::Relaxed);
+        resent = counts.resent;
         shared.silence.store(head.silence().as_millis() as u64, Ordering::Relaxed);
-        let has_ended = head.stage() == Stage::Closed || result.is_err();
-        shared.head_ended.store(has_ended, Ordering::Relaxed);
+        if !has_ended && (head.stage() == Stage::Closed || result.is_err()) {
+            has_ended = true;
+            shared.heads_ended.fetch_add(1, Ordering::Relaxed);
+        }
         if result.is_err() || has_ended && stop.wish() == Wish::Abort {
             // Nobody is left who could tell the field computer anything.
             shared.stop.store(true, Ordering::Relaxed);
         }
     }
     if result.is_ok() && head.stage() != Stage::Closed {
-        result = Err(Failure("the head was stopped before it had shut down".to_string()));
+        result = Err(Failure(format!("{} was stopped before it had shut down", name(n))));
     }
     Ok(HeadOutcome {
         result,
@@ -207,36 +248,34 @@ fn run_head<L: Library>(
     })
 }
 
-fn run_field<L: Library>(socket: UdpSocket, tap: Option<Tap>, shared: &Shared) -> Result<FieldOutcome, Failure> {
+fn run_field<L: Library>(demo: &Demo, socket: UdpSocket, tap: Option<Tap>, shared: &Shared) -> Result<FieldOutcome, Failure> {
     let config = Config { streams: BANDS, ..Config::at_port(FIELD_PORT) };
-    // It ends when the head does.
-    let mut field = Field::new(line::<L>(socket, config, tap)?, &Stop::default());
+    let hub = Hub::<L>::new(Settings::for_heads(config, demo.heads), random()?, Instant::now());
+    // It ends when the heads do.
+    let mut field = Field::new(Station::new(hub, socket, tap), Sink::Compare(BTreeMap::new()), &Stop::default());
     let mut result = Ok(());
-    let mut wraps = 0;
-    while result.is_ok() && field.stage() != Stage::Closed && !shared.stop.load(Ordering::Relaxed) {
-        result = match field.turn(TURN) {
-            Ok(Turned::Ended(why)) if why != Why::ShutDown => Err(Failure(format!("the field computer's association is closed: {}", why))),
-            Ok(_) => Ok(()),
-            Err(failure) => Err(failure),
-        };
-        shared.compared.store(field.album().tiles(), Ordering::Relaxed);
-        for band in field.album().wrapped().iter().skip(wraps) {
-            shared.tell(format!("SSN 65,535 to 0 on band {}", band));
+    let is_through = |field: &Field<L>| field.sum().visits == demo.heads as u64;
+    while result.is_ok() && !is_through(&field) && !shared.stop.load(Ordering::Relaxed) {
+        result = field.turn(TURN);
+        shared.compared.store(field.sum().tiles, Ordering::Relaxed);
+        for news in field.news().iter().filter(|news| news.starts_with("  SSN")) {
+            shared.tell(news.trim_start().to_string());
         }
-        wraps = field.album().wrapped().len();
     }
     shared.field_ended.store(true, Ordering::Relaxed);
-    if result.is_ok() && field.stage() != Stage::Closed {
+    if result.is_ok() && !is_through(&field) {
         result = Err(Failure("the field computer was stopped before it had shut down".to_string()));
     }
-    Ok(FieldOutcome { result, counts: *field.line.endpoint.counts(), album: field.album().clone(), differences: field.differences().to_vec() })
+    let albums = field.albums().map(|(name, album)| (name.clone(), album.clone())).collect();
+    Ok(FieldOutcome { result, counts: field.station.hub.total(), albums, faults: field.sum().faults.clone() })
 }
 
-/// Prints progress until both ends are through, or stops them where nothing moves.
+/// Prints progress until all ends are through, or stops them where nothing moves.
 fn watch(demo: &Demo, shared: &Shared, progress: &mut dyn Write) {
-    let total = grouped(Plan::total(demo.messages));
+    let total = grouped(Plan::total(demo.messages) * demo.heads as u64);
     let (mut told, mut moved, mut seen) = (Instant::now(), Instant::now(), 0);
-    while !(shared.head_ended.load(Ordering::Relaxed) && shared.field_ended.load(Ordering::Relaxed)) {
+    let has_ended = || shared.heads_ended.load(Ordering::Relaxed) == demo.heads as u64 && shared.field_ended.load(Ordering::Relaxed);
+    while !has_ended() && !shared.stop.load(Ordering::Relaxed) {
         thread::sleep(TURN);
         shared.print_news(progress);
         let compared = shared.compared.load(Ordering::Relaxed);
@@ -250,91 +289,94 @@ fn watch(demo: &Demo, shared: &Shared, progress: &mut dyn Write) {
         }
         if told.elapsed() >= PROGRESS {
             told = Instant::now();
-            let handed_in = grouped(shared.handed_in.load(Ordering::Relaxed));
             let resent = grouped(shared.resent.load(Ordering::Relaxed));
             let quiet = silence(Duration::from_millis(shared.silence.load(Ordering::Relaxed)));
-            let _ = writeln!(
-                progress,
-                "  {} of {} tiles handed in, {} compared, {} packets resent{}",
-                handed_in,
-                total,
-                grouped(compared),
-                resent,
-                quiet
-            );
+            let _ = writeln!(progress, "  {} of {} tiles compared, {} packets resent{}", grouped(compared), total, resent, quiet);
         }
     }
 }
 
-/// What went wrong: nothing, where every tile came once, in order, byte for byte, and both circles closed; or where all did that was handed in before a stop.
-fn faults(demo: &Demo, head: &HeadOutcome, field: &FieldOutcome) -> Vec<String> {
+/// What went wrong: nothing, where every tile of every head came once, in order, byte for byte, and both circles closed; or where all did that was handed in
+/// before a stop.
+fn faults(demo: &Demo, heads: &[HeadOutcome], field: &FieldOutcome) -> Vec<String> {
     let total = Plan::total(demo.messages);
-    let handed_in = head.counts.messages_in;
-    let tiles = field.album.tiles();
+    let has_aborted = heads.iter().any(|head| head.has_aborted);
     let mut faults = Vec::new();
-    if !head.has_aborted {
-        faults.extend([&head.result, &field.result].iter().filter_map(|result| result.as_ref().err()).map(Failure::to_string));
+    if !has_aborted {
+        let results = heads.iter().map(|head| &head.result).chain([&field.result]);
+        faults.extend(results.filter_map(|result| result.as_ref().err()).map(Failure::to_string));
     }
-    faults.extend(field.differences.iter().map(Difference::to_string));
-    if handed_in != total && !head.was_stopped {
-        faults.push(format!("{} of {} tiles were handed in", grouped(handed_in), grouped(total)));
-    }
-    if tiles != handed_in && !head.has_aborted {
-        faults.push(format!("{} of {} tiles came as they were handed in", grouped(tiles), grouped(handed_in)));
-    }
-    if !head.has_closed_tsn_circle && total >= 100 && !head.was_stopped {
-        faults.push("the TSNs did not go round their circle".to_string());
-    }
-    if field.album.wrapped().is_empty() && demo.messages > SSN_CIRCLE && !head.was_stopped {
-        faults.push("the first band's SSNs did not go round their circle".to_string());
+    faults.extend(field.faults.iter().cloned());
+    for (n, head) in heads.iter().enumerate() {
+        let (handed_in, album) = (head.counts.messages_in, field.album(n));
+        let mut fault = |text: String| faults.push(format!("{}: {}", name(n), text));
+        if handed_in != total && !head.was_stopped {
+            fault(format!("{} of {} tiles were handed in", grouped(handed_in), grouped(total)));
+        }
+        if album.tiles() != handed_in && !has_aborted {
+            fault(format!("{} of {} tiles came as they were handed in", grouped(album.tiles()), grouped(handed_in)));
+        }
+        if !head.has_closed_tsn_circle && total >= 100 && !head.was_stopped {
+            fault("the TSNs did not go round their circle".to_string());
+        }
+        if album.wrapped().is_empty() && demo.messages > SSN_CIRCLE && !head.was_stopped {
+            fault("the first band's SSNs did not go round their circle".to_string());
+        }
     }
     faults
 }
 
-fn verdict(head: &HeadOutcome, field: &FieldOutcome, total: u64, faults: &[String]) -> String {
-    let (tiles, handed_in) = (grouped(field.album.tiles()), grouped(head.counts.messages_in));
+fn verdict(heads: &[HeadOutcome], field: &FieldOutcome, total: u64, faults: &[String]) -> String {
+    let tiles: u64 = field.albums.values().map(Album::tiles).sum();
+    let (tiles, handed_in) = (grouped(tiles), grouped(heads.iter().map(|head| head.counts.messages_in).sum()));
+    let of_heads = plural(heads.len() as u64, "head", "heads");
     if !faults.is_empty() {
-        format!("NOT all {} tiles came once, in order, byte for byte: {} did", grouped(total), tiles)
-    } else if head.has_aborted {
+        format!("NOT all {} tiles of {} came once, in order, byte for byte: {} did", grouped(total), of_heads, tiles)
+    } else if heads.iter().any(|head| head.has_aborted) {
         format!(
             "stopped and aborted: {} of {} tiles were handed in, and the {} that came did so once, in order, byte for byte",
             handed_in,
             grouped(total),
             tiles
         )
-    } else if head.was_stopped {
+    } else if heads.iter().any(|head| head.was_stopped) {
         format!("stopped: {} of {} tiles were handed in, and all of those came once, in order, byte for byte", handed_in, grouped(total))
     } else {
-        format!("all {} tiles came once, in order, byte for byte", tiles)
+        format!("all {} tiles of {} came once, in order, byte for byte", tiles, of_heads)
     }
 }
 
-fn judge(demo: &Demo, head: HeadOutcome, field: FieldOutcome, mishaps: Mishaps, took: Duration) -> Ended {
-    let total = Plan::total(demo.messages);
-    let tiles = field.album.tiles();
-    let ssn_circle_closed = !field.album.wrapped().is_empty();
-    let faults = faults(demo, &head, &field);
-    let verdict = verdict(&head, &field, total, &faults);
+fn judge(demo: &Demo, heads: &[HeadOutcome], field: &FieldOutcome, mishaps: Mishaps, took: Duration) -> Ended {
+    let total = Plan::total(demo.messages) * demo.heads as u64;
+    let albums: Vec<Album> = (0..demo.heads).map(|n| field.album(n)).collect();
+    let (tiles, bytes) = (albums.iter().map(Album::tiles).sum(), albums.iter().map(Album::bytes).sum());
+    let faults = faults(demo, heads, field);
+    let verdict = verdict(heads, field, total, &faults);
+    let of_heads = heads.iter().fold(Counts::default(), |sum, head| sum.and(&head.counts));
     let mut table = Table::default();
-    table.count("tiles handed in", head.counts.messages_in);
+    table.count("heads", heads.len() as u64);
+    table.count("tiles handed in", of_heads.messages_in);
     table.count("tiles taken", field.counts.messages_out);
     table.count("tiles compared byte by byte, equal and in order", tiles);
-    table.count("bytes compared", field.album.bytes());
-    table.row("tiles of each band", field.album.tiles_by_band().map(|count| grouped(u64::from(count))).join("  "));
-    let tsns = format!("{} to {}", grouped(u64::from(FIRST_TSN)), grouped(u64::from(head.last_tsn)));
-    table.row("TSN circle of 2^32 closed", format!("{} ({})", yes_or_no(head.has_closed_tsn_circle), tsns));
-    let ssns = format!("{} tiles on band 0", grouped(u64::from(field.album.tiles_by_band()[0])));
-    table.row("SSN circle of 2^16 closed", format!("{} ({})", yes_or_no(ssn_circle_closed), ssns));
-    table.count("packets that passed the bad stretch", mishaps.passed);
+    table.count("bytes compared", bytes);
+    for (n, (head, album)) in heads.iter().zip(&albums).enumerate() {
+        let bands = album.tiles_by_band().map(|count| grouped(u64::from(count))).join("  ");
+        table.row(&format!("{}: tiles of each band", name(n)), bands);
+        let tsns = format!("{} to {}", grouped(u64::from(FIRST_TSN)), grouped(u64::from(head.last_tsn)));
+        table.row(&format!("{}: TSN circle of 2^32 closed", name(n)), format!("{} ({})", yes_or_no(head.has_closed_tsn_circle), tsns));
+        let ssns = format!("{} tiles on band 0", grouped(u64::from(album.tiles_by_band()[0])));
+        table.row(&format!("{}: SSN circle of 2^16 closed", name(n)), format!("{} ({})", yes_or_no(!album.wrapped().is_empty()), ssns));
+    }
+    table.count("packets that passed the bad stretches", mishaps.passed);
     table.count("  dropped", mishaps.dropped);
     table.count("  repeated", mishaps.repeated);
     table.count("  held back", mishaps.reordered);
     table.count("  damaged", mishaps.damaged);
-    table.end("head", &head.counts);
+    table.end("heads", &of_heads);
     table.end("field", &field.counts);
     table.row("time", format!("{:.1} s", took.as_secs_f64()));
-    table.row("throughput", format!("{} tiles/s, {} bytes/s", grouped(per_second(tiles, took)), grouped(per_second(field.album.bytes(), took))));
-    Ended { table: table.text(), faults, verdict, was_stopped: head.was_stopped }
+    table.row("throughput", format!("{} tiles/s, {} bytes/s", grouped(per_second(tiles, took)), grouped(per_second(bytes, took))));
+    Ended { table: table.text(), faults, verdict, was_stopped: heads.iter().any(|head| head.was_stopped) }
 }
 
 fn yes_or_no(flag: bool) -> &'static str {
@@ -354,7 +396,7 @@ mod tests {
     const MESSAGES: u64 = 65_600;
 
     fn demo() -> Demo {
-        Demo { messages: MESSAGES, seed: 3, weather: Weather::FAIR, pcap: None }
+        Demo { heads: 2, messages: MESSAGES, seed: 3, weather: Weather::FAIR, pcap: None }
     }
 
     fn head() -> HeadOutcome {
@@ -371,51 +413,55 @@ mod tests {
         album
     }
 
-    fn field(album: &Album) -> FieldOutcome {
-        FieldOutcome { result: Ok(()), counts: Counts::default(), album: album.clone(), differences: Vec::new() }
+    /// The first head's album is whole.
+    fn field(all: &Album, second: &Album) -> FieldOutcome {
+        let albums = BTreeMap::from([(name(0), all.clone()), (name(1), second.clone())]);
+        FieldOutcome { result: Ok(()), counts: Counts::default(), albums, faults: Vec::new() }
     }
 
-    fn ended(head: HeadOutcome, field: FieldOutcome) -> Ended {
-        judge(&demo(), head, field, Mishaps::default(), Duration::from_secs(1))
+    /// The second head is this one.
+    fn ended(second: HeadOutcome, field: FieldOutcome) -> Ended {
+        judge(&demo(), &[head(), second], &field, Mishaps::default(), Duration::from_secs(1))
     }
 
-    fn faults(head: HeadOutcome, field: FieldOutcome) -> Vec<String> {
-        let ended = ended(head, field);
-        assert_eq!(ended.faults.is_empty(), !ended.verdict.starts_with("NOT all 73,800 tiles came"), "{}", ended.verdict);
+    fn faults(second: HeadOutcome, field: FieldOutcome) -> Vec<String> {
+        let ended = ended(second, field);
+        assert_eq!(ended.faults.is_empty(), !ended.verdict.starts_with("NOT all 147,600 tiles of 2 heads came"), "{}", ended.verdict);
         ended.faults
     }
 
     #[test]
     fn a_run_is_good_only_where_nothing_differs() {
         let all = album(Plan::total(MESSAGES));
-        assert_eq!(faults(head(), field(&all)), [] as [String; 0]);
+        assert_eq!(faults(head(), field(&all, &all)), [] as [String; 0]);
         let one_less = album(Plan::total(MESSAGES) - 1);
-        assert_eq!(faults(head(), field(&one_less)), ["73,799 of 73,800 tiles came as they were handed in"]);
-        let differs = FieldOutcome { differences: vec![Difference::Band(9)], ..field(&all) };
+        assert_eq!(faults(head(), field(&all, &one_less)), ["head-2: 73,799 of 73,800 tiles came as they were handed in"]);
+        let differs = FieldOutcome { faults: vec!["stream 9 is no band".to_string()], ..field(&all, &all) };
         assert_eq!(faults(head(), differs), ["stream 9 is no band"]);
         let broken = HeadOutcome { result: Err(Failure("gone".to_string())), ..head() };
-        assert_eq!(faults(broken, field(&all)), ["gone"]);
+        assert_eq!(faults(broken, field(&all, &all)), ["gone"]);
         let stuck = HeadOutcome { has_closed_tsn_circle: false, ..head() };
-        assert_eq!(faults(stuck, field(&all)), ["the TSNs did not go round their circle"]);
+        assert_eq!(faults(stuck, field(&all, &all)), ["head-2: the TSNs did not go round their circle"]);
         let few = album(1000);
-        assert!(faults(head(), field(&few)).contains(&"the first band's SSNs did not go round their circle".to_string()));
+        let said = faults(head(), field(&all, &few));
+        assert!(said.contains(&"head-2: the first band's SSNs did not go round their circle".to_string()), "{:?}", said);
     }
 
     #[test]
     fn the_verdict_says_what_came() {
         let all = album(Plan::total(MESSAGES));
-        assert_eq!(ended(head(), field(&all)).verdict, "all 73,800 tiles came once, in order, byte for byte");
+        assert_eq!(ended(head(), field(&all, &all)).verdict, "all 147,600 tiles of 2 heads came once, in order, byte for byte");
         let one_less = album(Plan::total(MESSAGES) - 1);
-        assert_eq!(ended(head(), field(&one_less)).verdict, "NOT all 73,800 tiles came once, in order, byte for byte: 73,799 did");
+        assert_eq!(ended(head(), field(&all, &one_less)).verdict, "NOT all 147,600 tiles of 2 heads came once, in order, byte for byte: 147,599 did");
         let stopped = |messages_in| {
             let mut stopped = HeadOutcome { was_stopped: true, ..head() };
             stopped.counts.messages_in = messages_in;
             stopped
         };
         let few = album(1000);
-        let well = ended(stopped(1000), field(&few));
-        assert_eq!(well.verdict, "stopped: 1,000 of 73,800 tiles were handed in, and all of those came once, in order, byte for byte");
+        let well = ended(stopped(1000), field(&all, &few));
+        assert_eq!(well.verdict, "stopped: 74,800 of 147,600 tiles were handed in, and all of those came once, in order, byte for byte");
         assert!(well.was_stopped && well.faults.is_empty());
-        assert!(ended(stopped(1001), field(&few)).verdict.starts_with("NOT all"));
+        assert!(ended(stopped(1001), field(&all, &few)).verdict.starts_with("NOT all"));
     }
 }

@@ -1,19 +1,26 @@
 //! One end of the rail by itself, on a real address.
 
 use super::arguments;
-use super::ends::{Field, Head, Stage, Turned};
+use super::page::Page;
 use super::report::{grouped, per_second, plural, shown, silence, Ended, Table};
+use super::sender::{Asking, Sender, Stage};
+use super::source::Source;
 use super::stop::{Stop, Wish};
+use super::store::Store;
+use super::taker::{Field, Sink, Sum};
+use super::view::{self, Screen, View};
 use super::{bind, end_capture, start_capture, Failure};
-use crate::endpoint::{Config, Endpoint, Why};
+use crate::endpoint::{Config, Endpoint};
+use crate::hub::{Hub, Settings};
 use crate::library::Library;
 use crate::pcap::{Capture, Tap};
 use crate::random::Random;
-use crate::tiles::{Plan, BANDS};
-use crate::udp::Line;
+use crate::tiles::BANDS;
+use crate::udp::{Line, Station};
+use std::collections::BTreeMap;
 use std::io::Write;
-use std::net::{SocketAddr, UdpSocket};
-use std::path::PathBuf;
+use std::net::SocketAddr;
+use std::path::{Path, PathBuf};
 use std::time::{Duration, Instant};
 
 const TURN: Duration = Duration::from_millis(200);
@@ -85,11 +92,20 @@ impl Watch {
     }
 }
 
-fn line<L: Library>(socket: UdpSocket, config: Config, recording: &Recording) -> Result<Line<L>, Failure> {
-    let here = socket.local_addr().map_err(Failure::of_network)?;
-    let random = Random::from_system().map_err(|e| Failure(format!("the system gives no random numbers: {}", e)))?;
-    let endpoint = Endpoint::new(config, random, Instant::now());
-    Ok(Line::new(endpoint, socket, recording.tap(here)))
+fn random() -> Result<Random, Failure> {
+    Random::from_system().map_err(|e| Failure(format!("the system gives no random numbers: {}", e)))
+}
+
+/// What a head sends, and where it notes what is kept.
+fn source(arguments: &arguments::Head) -> Result<Source, Failure> {
+    let (source, journal) = match &arguments.from {
+        Some(folder) => (Source::folder(folder)?, Some(folder.join(".kept"))),
+        None => (Source::made(arguments.messages, arguments.seed), None),
+    };
+    match arguments.journal.clone().or(journal) {
+        Some(path) => source.with_journal(&path),
+        None => Ok(source),
+    }
 }
 
 pub fn head<L: Library>(arguments: &arguments::Head, stop: &Stop, out: &mut dyn Write) -> Result<Ended, Failure> {
@@ -98,10 +114,12 @@ pub fn head<L: Library>(arguments: &arguments::Head, stop: &Stop, out: &mut dyn 
     // So that the system tells where nobody listens. Where it cannot, the line tells why nothing can be sent.
     let _ = socket.connect(arguments.address);
     let config = Config { listens: false, ..config(arguments.port, arguments.beats) };
-    let plan = Plan::of(arguments.messages);
-    let mut head = Head::start(line::<L>(socket, config, &recording)?, arguments.address, arguments.to_port, plan, arguments.seed, stop)?;
-    let total = Plan::total(arguments.messages);
-    let _ = writeln!(out, "head: asking the field computer at {} (SCTP port {})", shown(arguments.address), arguments.to_port);
+    let tap = recording.tap(socket.local_addr().map_err(Failure::of_network)?);
+    let line = Line::<L>::new(Endpoint::new(config, random()?, Instant::now()), socket, tap);
+    let asking = Asking { field: arguments.address, port: arguments.to_port, name: arguments.name.clone(), tries: arguments.tries };
+    let mut head = Sender::start(line, asking, source(arguments)?, stop)?;
+    let total = head.total();
+    let _ = writeln!(out, "head {}: asking the field computer at {} (SCTP port {})", arguments.name, shown(arguments.address), arguments.to_port);
     let mut pace = Pace::new();
     let began = Instant::now();
     let mut ended = Ok(());
@@ -109,6 +127,9 @@ pub fn head<L: Library>(arguments: &arguments::Head, stop: &Stop, out: &mut dyn 
     let mut watch = Watch::default();
     while ended.is_ok() && head.stage() != Stage::Closed {
         ended = head.turn(TURN);
+        for news in head.news() {
+            let _ = writeln!(out, "  {}", news);
+        }
         if matches!(head.stage(), Stage::Open | Stage::Closing) {
             watch.look(head.is_quiet(), head.silence(), "field computer", out);
         }
@@ -118,10 +139,17 @@ pub fn head<L: Library>(arguments: &arguments::Head, stop: &Stop, out: &mut dyn 
         }
         if pace.is_due() {
             let counts = head.line.endpoint.counts();
-            let (handed_in, resent) = (grouped(counts.messages_in), grouped(counts.resent));
             let _ = match head.stage() {
                 Stage::Opening => writeln!(out, "  {}", head.hindrance()),
-                _ => writeln!(out, "  {} of {} tiles handed in, {} packets resent{}", handed_in, grouped(total), resent, silence(head.silence())),
+                _ => writeln!(
+                    out,
+                    "  {} of {} tiles kept, {} handed in, {} packets resent{}",
+                    grouped(head.kept()),
+                    grouped(total),
+                    grouped(counts.messages_in),
+                    grouped(counts.resent),
+                    silence(head.silence())
+                ),
             };
         }
     }
@@ -134,127 +162,112 @@ pub fn head<L: Library>(arguments: &arguments::Head, stop: &Stop, out: &mut dyn 
     let counts = head.line.endpoint.counts();
     let mut table = Table::default();
     table.count("tiles handed in", counts.messages_in);
+    table.count("tiles that the field computer keeps", head.kept());
+    table.count("times that the line was lost", head.losses());
     table.row("TSN circle of 2^32 closed", if head.has_closed_tsn_circle() { "yes" } else { "no" });
     table.end("head", counts);
     table.count("tiles per second", per_second(counts.messages_in, took));
     let faults: Vec<String> = ended.err().map(|failure| failure.0).into_iter().collect();
+    let kept = format!("{} of {}", grouped(head.kept()), grouped(total));
     let verdict = if !faults.is_empty() {
-        format!("NOT all tiles arrived for certain: {} of {} were handed in", grouped(counts.messages_in), grouped(total))
+        format!("NOT all tiles are kept for certain: {} are", kept)
     } else if head.has_aborted() {
-        format!("stopped and aborted, and the field computer told: {} of {} tiles were handed in", grouped(counts.messages_in), grouped(total))
+        format!("stopped and aborted, and the field computer told: it keeps {} tiles", kept)
     } else if head.was_stopped() {
-        format!("stopped: {} of {} tiles were handed in, and the field computer has them", grouped(counts.messages_in), grouped(total))
+        format!("stopped: the field computer keeps {} tiles", kept)
     } else {
-        format!("the field computer has all {} tiles", grouped(total))
+        format!("the field computer keeps all {} tiles", grouped(total))
     };
     Ok(Ended { table: table.text(), faults, verdict, was_stopped: head.was_stopped() })
 }
 
-/// What came of the heads that were here.
-#[derive(Default)]
-struct Visits {
-    heads: u64,
-    tiles: u64,
-    bytes: u64,
-    circles: u64,
-    time: Duration,
-    faults: Vec<String>,
-    was_stopped: bool,
-}
-
-impl Visits {
-    /// A head's association ended: the line that tells how.
-    fn end<L: Library>(&mut self, field: &Field<L>, why: Why, took: Duration) -> String {
-        let album = field.album();
-        let from = field.head().map_or_else(|| "a head".to_string(), |head| shown(head).to_string());
-        self.heads += 1;
-        self.tiles += album.tiles();
-        self.bytes += album.bytes();
-        self.circles += album.wrapped().len() as u64;
-        self.time += took;
-        self.was_stopped |= field.is_asked_to_stop();
-        let before = self.faults.len();
-        self.faults.extend(field.differences().iter().map(|difference| format!("from {}: {}", from, difference)));
-        if why != Why::ShutDown && !field.is_asked_to_stop() {
-            self.faults.push(format!("from {}: the association is closed: {}", from, why));
-        }
-        let tiles = plural(album.tiles(), "tile", "tiles");
-        match self.faults.get(before) {
-            None if why == Why::ShutDown => format!("field: {} from {} came once, in order, byte for byte; shut down", tiles, from),
-            None => format!("field: {} from {} came once, in order, byte for byte; {}", tiles, from, why),
-            Some(fault) => format!("field: {} came well {}", tiles, fault),
-        }
-    }
-
-    fn verdict(&self) -> String {
-        let (tiles, heads) = (plural(self.tiles, "tile", "tiles"), plural(self.heads, "head", "heads"));
-        if !self.faults.is_empty() {
-            format!(
-                "NOT all came well: {} of {} came once, in order, byte for byte; {}",
-                tiles,
-                heads,
-                plural(self.faults.len() as u64, "fault", "faults")
-            )
-        } else if self.heads == 0 {
-            "no head came".to_string()
-        } else if self.was_stopped {
-            format!("stopped, and the head told: the {} of {} that came did so once, in order, byte for byte", tiles, heads)
-        } else {
-            format!("all {} of {} came once, in order, byte for byte", tiles, heads)
-        }
+fn verdict(sum: &Sum, heads: u64, to: Option<&Path>, was_stopped: bool) -> String {
+    let (tiles, heads_text) = (plural(sum.tiles, "tile", "tiles"), plural(heads, "head", "heads"));
+    let came = match to {
+        Some(folder) => format!("are in {}, each once", folder.display()),
+        None => "came once, in order, byte for byte".to_string(),
+    };
+    let again = if sum.again > 0 { format!(" ({} came again)", grouped(sum.again)) } else { String::new() };
+    if !sum.faults.is_empty() {
+        format!("NOT all came well: {} of {} {}{}; {}", tiles, heads_text, came, again, plural(sum.all_faults, "fault", "faults"))
+    } else if sum.visits == 0 {
+        "no head came".to_string()
+    } else if was_stopped {
+        format!("stopped, and the heads told: {} of {} {}{}", tiles, heads_text, came, again)
+    } else {
+        format!("all {} of {} {}{}", tiles, heads_text, came, again)
     }
 }
 
-pub fn field<L: Library>(arguments: &arguments::Field, stop: &Stop, out: &mut dyn Write) -> Result<Ended, Failure> {
+pub fn field<L: Library>(arguments: &arguments::Field, stop: &Stop, screen: &mut Screen) -> Result<Ended, Failure> {
+    let sink = match &arguments.to {
+        Some(folder) => Sink::Keep(Store::open(folder)?),
+        None => Sink::Compare(BTreeMap::new()),
+    };
     let socket = bind(arguments.address)?;
+    let page = arguments.view.map(Page::serve).transpose()?;
     let recording = Recording::start(&arguments.pcap)?;
+    let address = socket.local_addr().map_err(Failure::of_network)?;
     let config = Config { admits: arguments.admits.clone(), most: arguments.count, ..config(arguments.port, arguments.beats) };
-    let mut field = Field::new(line::<L>(socket, config, &recording)?, stop);
-    let address = field.line.address().map_err(Failure::of_network)?;
-    let _ = writeln!(out, "field: waiting at {} for heads (SCTP port {}), until Ctrl-C", address, arguments.port);
+    let hub = Hub::<L>::new(Settings::for_heads(config, arguments.heads), random()?, Instant::now());
+    let mut field = Field::new(Station::new(hub, socket, recording.tap(address)), sink, stop);
+    screen.say(&format!("field: waiting at {} for heads (SCTP port {}), until Ctrl-C", address, arguments.port));
+    if let Some(page) = &page {
+        screen.say(&format!("field: the view is at http://{}", page.address()));
+        page.show(view::page(&[]));
+    }
     let mut pace = Pace::new();
-    let mut visits = Visits::default();
-    let mut began = Instant::now();
-    let mut wraps = 0;
-    let mut watch = Watch::default();
-    while arguments.count.map_or(true, |count| visits.heads < count) && (field.has_association() || stop.wish() == Wish::GoOn) {
-        match field.turn(TURN)? {
-            Turned::Nothing => {}
-            Turned::Up => {
-                (began, wraps, watch) = (Instant::now(), 0, Watch::default());
-                if let Some(head) = field.head() {
-                    let _ = writeln!(out, "field: {} is there", shown(head));
-                }
+    let mut view = View::new(Instant::now());
+    let (mut busy, mut told) = (Duration::ZERO, Instant::now());
+    let mut was_stopped = false;
+    while arguments.count.map_or(true, |count| field.sum().visits < count) && (!field.visits().is_empty() || stop.wish() == Wish::GoOn) {
+        was_stopped |= field.is_asked_to_stop() && !field.visits().is_empty();
+        field.turn(TURN)?;
+        for news in field.news() {
+            screen.say(&news);
+        }
+        let now = Instant::now();
+        if !field.visits().is_empty() {
+            busy += now - told;
+        }
+        told = now;
+        if (screen.is_terminal() || page.is_some()) && view.is_due(now) {
+            let rows = view.rows(&field, now);
+            screen.draw(&view::lines(&rows));
+            if let Some(page) = &page {
+                page.show(view::page(&rows));
             }
-            Turned::Ended(why) => {
-                let told = visits.end(&field, why, began.elapsed());
-                let _ = writeln!(out, "{}", told);
-            }
         }
-        for band in field.album().wrapped().iter().skip(wraps) {
-            let _ = writeln!(out, "  SSN 65,535 to 0 on band {}", band);
-        }
-        wraps = field.album().wrapped().len();
-        if field.has_association() {
-            watch.look(field.is_quiet(), field.silence(), "head", out);
-        }
-        if field.has_association() && pace.is_due() {
-            let _ = writeln!(out, "  {} tiles compared{}", grouped(field.album().tiles()), silence(field.silence()));
+        if !field.visits().is_empty() && !screen.is_terminal() && pace.is_due() {
+            let (tiles, heads) = (field.sum().tiles, field.visits().len() as u64);
+            screen.say(&format!("  {} so far, {} there", plural(tiles, "tile", "tiles"), plural(heads, "head", "heads")));
         }
     }
     // A head that was shut down from here may not have got the last word.
     let until = Instant::now() + LINGER;
-    while visits.was_stopped && stop.wish() != Wish::Abort && Instant::now() < until {
+    while was_stopped && stop.wish() != Wish::Abort && Instant::now() < until {
         field.turn(TURN)?;
     }
     recording.end()?;
+    Ok(ended(arguments, &field, was_stopped, busy))
+}
+
+fn ended<L: Library>(arguments: &arguments::Field, field: &Field<L>, was_stopped: bool, busy: Duration) -> Ended {
+    let sum = field.sum();
+    let counts = field.station.hub.total();
     let mut table = Table::default();
-    table.count("heads that came", visits.heads);
-    table.count("tiles taken", field.line.endpoint.counts().messages_out);
-    table.count("tiles compared byte by byte, equal and in order", visits.tiles);
-    table.count("bytes compared", visits.bytes);
-    table.count("SSN circles closed", visits.circles);
-    table.end("field", field.line.endpoint.counts());
-    table.count("tiles per second", per_second(visits.tiles, visits.time));
-    Ok(Ended { table: table.text(), verdict: visits.verdict(), faults: visits.faults, was_stopped: visits.was_stopped })
+    table.count("heads that came", field.heads());
+    table.count("associations", sum.visits);
+    table.count("tiles taken", counts.messages_out);
+    match &arguments.to {
+        Some(_) => table.count("tiles kept", sum.tiles),
+        None => table.count("tiles compared byte by byte, equal and in order", sum.tiles),
+    }
+    table.count("tiles that came again", sum.again);
+    table.count("bytes", sum.bytes);
+    table.count("SSN circles closed", field.albums().map(|(_, album)| album.wrapped().len() as u64).sum());
+    table.end("field", &counts);
+    table.count("tiles per second", per_second(sum.tiles, busy));
+    let verdict = verdict(sum, field.heads(), arguments.to.as_deref(), was_stopped);
+    Ended { table: table.text(), verdict, faults: sum.faults.clone(), was_stopped }
 }

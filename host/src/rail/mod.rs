@@ -1,11 +1,18 @@
-//! The rail: heads hand in tiles of eight colour bands, a field computer takes and compares them.
+//! The rail: heads hand in tiles of eight colour bands, a field computer takes them and keeps or compares them.
 
 pub mod arguments;
 pub mod demo;
-pub mod ends;
+pub mod lines;
 pub mod lone;
+pub mod page;
+pub mod parcel;
 pub mod report;
+pub mod sender;
+pub mod source;
 pub mod stop;
+pub mod store;
+pub mod taker;
+pub mod view;
 
 use crate::pcap::{Capture, Pcap};
 use std::fmt;

@@ -4,6 +4,7 @@ mod checksum;
 mod clock;
 mod ends;
 mod filling;
+mod hub;
 mod needs;
 mod paths;
 #[cfg(feature = "usrsctp")]
@@ -16,7 +17,8 @@ use std::mem::size_of;
 const HELD: [usize; 4] = [0, 16, 64, 127];
 
 /// Parts that are named as arguments, or all of them.
-const PARTS: [(&str, fn()); 4] = [("paths", print_paths), ("checksum", print_checksums), ("filling", print_filling), ("needs", print_needs)];
+const PARTS: [(&str, fn()); 5] =
+    [("paths", print_paths), ("checksum", print_checksums), ("filling", print_filling), ("needs", print_needs), ("hub", hub::print)];
 
 fn main() {
     let asked: Vec<String> = std::env::args().skip(1).collect();

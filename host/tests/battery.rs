@@ -1,0 +1,293 @@
+//! A day on the rail, with processes of their own over real sockets: heads lose their power (kill -9) and come back, lines are pulled, the field computer's
+//! program dies too; and every tile stands once in its folder, byte for byte. On the model, since only what runs natively can start itself.
+#![cfg(not(feature = "proved"))]
+
+mod modelled;
+
+use modelled::Modelled;
+use oilwhisper::rail::arguments::{parse, Command as Rail};
+use oilwhisper::rail::stop::Stop;
+use oilwhisper::rail::view::Screen;
+use oilwhisper::rail::{demo, lone};
+use oilwhisper::random::Seeded;
+use std::collections::HashMap;
+use std::fs;
+use std::io;
+use std::net::{SocketAddr, UdpSocket};
+use std::path::{Path, PathBuf};
+use std::process::{Child, Command, Stdio};
+use std::sync::atomic::{AtomicBool, Ordering};
+use std::sync::Arc;
+use std::thread;
+use std::time::{Duration, Instant};
+
+/// What a process of this test is asked to be.
+const LINE: &str = "OILWHISPER_RAIL";
+
+/// Not a test of its own: with a command line in the environment this process is that rail.
+#[test]
+fn rail() {
+    let line = match std::env::var(LINE) {
+        Ok(line) => line,
+        Err(_) => return,
+    };
+    let words: Vec<String> = line.split_whitespace().map(str::to_string).collect();
+    let (stop, out) = (Stop::on_signals(), &mut io::stdout());
+    let ended = match parse(&words) {
+        Ok(Rail::Head(asked)) => lone::head::<Modelled>(&asked, &stop, out),
+        Ok(Rail::Field(asked)) => lone::field::<Modelled>(&asked, &stop, &mut Screen::new(out, false)),
+        Ok(Rail::Demo(asked)) => demo::run::<Modelled>(&asked, &stop, out),
+        other => panic!("{:?}", other),
+    };
+    match ended {
+        Ok(ended) => {
+            println!("{}{}", ended.table, ended.verdict);
+            std::process::exit(if ended.faults.is_empty() { 0 } else { 1 });
+        }
+        Err(failure) => {
+            eprintln!("rail: {}", failure);
+            std::process::exit(1);
+        }
+    }
+}
+
+/// A process that is killed when nobody has it any more.
+struct Process(Child);
+
+impl Process {
+    fn start(line: &str, log: &Path) -> Process {
+        let log = fs::OpenOptions::new().create(true).append(true).open(log).expect("a log can be written");
+        let this = std::env::current_exe().expect("this program has a path");
+        let child = Command::new(this)
+            .args(["rail", "--exact", "--nocapture", "--test-threads=1"])
+            .env(LINE, line)
+            .stdin(Stdio::null())
+            .stderr(log.try_clone().expect("a log can be shared"))
+            .stdout(log)
+            .spawn();
+        Process(child.expect("this program can start itself"))
+    }
+
+    /// Power off: nothing is flushed, nobody is told.
+    fn kill(&mut self) {
+        self.0.kill().expect("a process of ours can be killed");
+        self.0.wait().expect("it ends");
+    }
+
+    fn terminate(&mut self) -> bool {
+        let sent = Command::new("kill").arg(self.0.id().to_string()).status();
+        assert!(sent.map_or(false, |status| status.success()));
+        self.0.wait().map_or(false, |status| status.success())
+    }
+
+    /// Whether it has ended well; None while it runs.
+    fn ended(&mut self) -> Option<bool> {
+        self.0.try_wait().expect("it is ours").map(|status| status.success())
+    }
+}
+
+impl Drop for Process {
+    fn drop(&mut self) {
+        let _ = self.0.kill();
+        let _ = self.0.wait();
+    }
+}
+
+/// A line between one head and the field computer, which can be pulled.
+struct Cable {
+    address: SocketAddr,
+    is_pulled: Arc<AtomicBool>,
+    is_over: Arc<AtomicBool>,
+    carrier: Option<thread::JoinHandle<()>>,
+}
+
+impl Cable {
+    fn to(field: SocketAddr) -> Cable {
+        let here = UdpSocket::bind("127.0.0.1:0").expect("there is a free port");
+        let there = UdpSocket::bind("127.0.0.1:0").expect("there is a free port");
+        let address = here.local_addr().expect("it has an address");
+        let (is_pulled, is_over) = (Arc::new(AtomicBool::new(false)), Arc::new(AtomicBool::new(false)));
+        let (pulled, over) = (is_pulled.clone(), is_over.clone());
+        let carrier = thread::spawn(move || {
+            let mut buffer = [0; 2048];
+            let mut head = None;
+            for socket in [&here, &there] {
+                socket.set_nonblocking(true).expect("a socket need not wait");
+            }
+            while !over.load(Ordering::Relaxed) {
+                let mut moved = false;
+                while let Ok((length, from)) = here.recv_from(&mut buffer) {
+                    (head, moved) = (Some(from), true);
+                    if !pulled.load(Ordering::Relaxed) {
+                        let _ = there.send_to(&buffer[..length], field);
+                    }
+                }
+                while let Ok((length, _)) = there.recv_from(&mut buffer) {
+                    moved = true;
+                    if let Some(head) = head.filter(|_| !pulled.load(Ordering::Relaxed)) {
+                        let _ = here.send_to(&buffer[..length], head);
+                    }
+                }
+                if !moved {
+                    thread::sleep(Duration::from_micros(300));
+                }
+            }
+        });
+        Cable { address, is_pulled, is_over, carrier: Some(carrier) }
+    }
+
+    fn pull(&self, is_pulled: bool) {
+        self.is_pulled.store(is_pulled, Ordering::Relaxed);
+    }
+}
+
+impl Drop for Cable {
+    fn drop(&mut self) {
+        self.is_over.store(true, Ordering::Relaxed);
+        if let Some(carrier) = self.carrier.take() {
+            let _ = carrier.join();
+        }
+    }
+}
+
+fn scratch(name: &str) -> PathBuf {
+    let path = std::env::temp_dir().join(format!("{}-battery-{}", std::process::id(), name));
+    let _ = fs::remove_dir_all(&path);
+    fs::create_dir_all(&path).expect("there is room for a folder");
+    path
+}
+
+/// So many tiles in folders for each band; head, band and name with their bytes.
+fn photograph(folder: &Path, head: &str, tiles: u32, chance: &mut Seeded) -> HashMap<String, Vec<u8>> {
+    let mut made = HashMap::new();
+    for tile in 0..tiles {
+        let band = if tile % 3 == 0 { chance.below(8) } else { 0 };
+        let place = folder.join(band.to_string());
+        fs::create_dir_all(&place).expect("a folder can be made");
+        let size = 1 + chance.below(if tile % 20 == 0 { 60_000 } else { 3_000 }) as usize;
+        let content: Vec<u8> = (0..size).map(|_| chance.number() as u8).collect();
+        let name = format!("{:05}.tif", tile);
+        fs::write(place.join(&name), &content).expect("a tile can be written");
+        made.insert(format!("{} {} {}", head, band, name), content);
+    }
+    made
+}
+
+/// Every tile stands once, byte for byte, with one line of the manifest, and nothing else does.
+fn compare(kept: &Path, made: &HashMap<String, Vec<u8>>) {
+    let mut found = 0;
+    for head in fs::read_dir(kept).expect("the folder is there").flatten().filter(|entry| entry.path().is_dir()) {
+        for band in fs::read_dir(head.path()).expect("a head has bands").flatten() {
+            for tile in fs::read_dir(band.path()).expect("a band has tiles").flatten() {
+                let words = [head.file_name(), band.file_name(), tile.file_name()].map(|word| word.to_string_lossy().into_owned());
+                let content = made.get(&words.join(" ")).unwrap_or_else(|| panic!("nobody has made {:?}", words));
+                assert!(fs::read(tile.path()).expect("a tile can be read") == *content, "{:?} differs", words);
+                found += 1;
+            }
+        }
+    }
+    assert_eq!(found, made.len());
+    let manifest = fs::read_to_string(kept.join("manifest.txt")).expect("there is a manifest");
+    let mut listed: Vec<String> = manifest.lines().map(|line| line.splitn(4, ' ').take(3).collect::<Vec<_>>().join(" ")).collect();
+    let lines = listed.len();
+    listed.sort();
+    listed.dedup();
+    assert_eq!((lines, listed.len()), (made.len(), made.len()));
+    assert!(listed.iter().all(|tile| made.contains_key(tile)));
+}
+
+fn free_address() -> SocketAddr {
+    UdpSocket::bind("127.0.0.1:0").and_then(|socket| socket.local_addr()).expect("there is a free port")
+}
+
+#[test]
+fn every_tile_stands_once_whoever_loses_power_or_line() {
+    let here = scratch("day");
+    let (kept, log) = (here.join("kept"), here.join("log"));
+    let mut chance = Seeded::new(8);
+    let names = ["north", "south", "west"];
+    let mut made = HashMap::new();
+    for name in names {
+        made.extend(photograph(&here.join(name), name, 400, &mut chance));
+    }
+    let at = free_address();
+    let field_line = format!("field {} --to {} --heartbeat 1 --unanswered 0", at, kept.display());
+    let mut field = Process::start(&field_line, &log);
+    let cables: Vec<Cable> = names.iter().map(|_| Cable::to(at)).collect();
+    let head_line =
+        |n: usize| format!("head {} --name {} --from {} --heartbeat 1 --unanswered 1", cables[n].address, names[n], here.join(names[n]).display());
+    let mut heads: Vec<Option<Process>> = (0..names.len()).map(|n| Some(Process::start(&head_line(n), &log))).collect();
+    let start = Instant::now();
+    let (mut kills, mut round) = (0, 0);
+    while heads.iter().any(Option::is_some) {
+        assert!(start.elapsed() < Duration::from_secs(240), "{}", fs::read_to_string(&log).unwrap_or_default());
+        thread::sleep(Duration::from_millis(30 + chance.below(120)));
+        round += 1;
+        for (n, head) in heads.iter_mut().enumerate() {
+            let process = match head {
+                Some(process) => process,
+                None => continue,
+            };
+            if let Some(is_well) = process.ended() {
+                assert!(is_well, "{}", fs::read_to_string(&log).unwrap_or_default());
+                *head = None;
+            } else if kills < 12 && chance.below(8) == 0 && !cables[n].is_pulled.load(Ordering::Relaxed) {
+                process.kill();
+                kills += 1;
+                *process = Process::start(&head_line(n), &log);
+            }
+        }
+        match round {
+            // A short while, which the association outlives, and one that it does not.
+            4 => cables[0].pull(true),
+            10 => cables[0].pull(false),
+            6 => cables[1].pull(true),
+            60 => cables[1].pull(false),
+            8 => {
+                field.kill();
+                thread::sleep(Duration::from_millis(200));
+                field = Process::start(&field_line, &log);
+            }
+            _ => {}
+        }
+    }
+    assert!(kills >= 5, "only {} heads lost their power", kills);
+    let said = fs::read_to_string(&log).expect("they have said something");
+    assert!(said.contains("the line is lost"), "{}", said);
+    field.terminate();
+    compare(&kept, &made);
+    fs::remove_dir_all(here).expect("the folder can be removed");
+}
+
+/// A folder that nothing can be written to for a while, as a full disk: nothing is taken, nothing is lost, and it goes on by itself.
+#[test]
+fn a_folder_that_cannot_be_written_loses_nothing() {
+    let here = scratch("full");
+    let (kept, log) = (here.join("kept"), here.join("log"));
+    let made = photograph(&here.join("east"), "east", 300, &mut Seeded::new(9));
+    fs::create_dir_all(&kept).expect("a folder can be made");
+    // A file stands where the head's folder should.
+    fs::write(kept.join("east"), b"").expect("a file can be written");
+    let at = free_address();
+    let mut field = Process::start(&format!("field {} --to {}", at, kept.display()), &log);
+    let mut head = Process::start(&format!("head {} --name east --from {}", at, here.join("east").display()), &log);
+    thread::sleep(Duration::from_secs(3));
+    assert_eq!(head.ended(), None);
+    let said = fs::read_to_string(&log).expect("they have said something");
+    assert_eq!(said.matches("a tile cannot be kept").count(), 1, "{}", said);
+    // It can be stopped all the same, and started again.
+    let start = Instant::now();
+    field.terminate();
+    assert!(start.elapsed() < Duration::from_secs(20), "{:?}", start.elapsed());
+    field = Process::start(&format!("field {} --to {}", at, kept.display()), &log);
+    thread::sleep(Duration::from_secs(2));
+    fs::remove_file(kept.join("east")).expect("the file can be removed");
+    let start = Instant::now();
+    while head.ended().is_none() {
+        assert!(start.elapsed() < Duration::from_secs(60), "{}", fs::read_to_string(&log).unwrap_or_default());
+        thread::sleep(Duration::from_millis(50));
+    }
+    field.terminate();
+    compare(&kept, &made);
+    fs::remove_dir_all(here).expect("the folder can be removed");
+}
