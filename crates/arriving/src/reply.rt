@@ -10,7 +10,7 @@ ghost use lib.ListN.{length, take};
 ghost use Rattle.chunks.specs.ShutdownChunk.{completeBytes};
 ghost use Rattle.arriving.specs.Reply.{isShutdownSent, isShutdownDue, endedBy, wholeReply, initiateTag, replyTag, replyHead, sentLength, sentOut};
 
-fn is_shutdown_sent(s: State) -> bool
+pub fn is_shutdown_sent(s: State) -> bool
     ensures { λ r. ⌜ r ≡ isShutdownSent s ⌝ }
 {
     match s {

@@ -18,7 +18,7 @@ pub enum Rule {
     Never,
 }
 
-fn are_ports(state: State, ends: Ends, h: Header) -> bool
+pub fn are_ports(state: State, ends: Ends, h: Header) -> bool
     ensures { λ r. ⌜ r ≡ arePorts state ends h ⌝ }
 {
     if h.destination == 0 {
@@ -139,13 +139,13 @@ fn first_abort(s: &[u8]) -> usize
 }
 
 // Whether a packet contains an ABORT; `s` is the packet from its first chunk on.
-pub(crate) fn has_abort(s: &[u8]) -> bool
+pub fn has_abort(s: &[u8]) -> bool
     ensures { λ r. ⌜ r ≡ hasAbort (now (s .entry)) ⌝ }
 {
     first_abort(s) < s.len()
 }
 
-fn rule_for(state: State, ends: Ends, s: &[u8], echoed: Echoed) -> Rule
+pub fn rule_for(state: State, ends: Ends, s: &[u8], echoed: Echoed) -> Rule
     ensures { λ r. ⌜ r ≡ ruleFor state ends (now (s .entry)) echoed ⌝ }
 {
     let kind = chunks::kind::kind_of(s);
@@ -159,7 +159,7 @@ fn rule_for(state: State, ends: Ends, s: &[u8], echoed: Echoed) -> Rule
     rule_open(kind, t, state.knows_peer(), ends)
 }
 
-fn is_tag(rule: Rule, tag: u32) -> bool
+pub fn is_tag(rule: Rule, tag: u32) -> bool
     ensures { λ r. ⌜ r ≡ isTag rule tag ⌝ }
 {
     match rule {

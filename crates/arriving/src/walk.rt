@@ -31,7 +31,7 @@ pub struct Walked {
 }
 
 // The first SHUTDOWN COMPLETE that is owed stands.
-fn owe(before: Owed, now: Owed) -> Owed
+pub fn owe(before: Owed, now: Owed) -> Owed
     ensures { λ r. ⌜ r ≡ owes before now ⌝ }
 {
     match before {
@@ -53,7 +53,7 @@ fn is_due(o: Owed) -> bool
     }
 }
 
-fn is_due_after(before: bool, o: Owed) -> bool
+pub fn is_due_after(before: bool, o: Owed) -> bool
     ensures { λ r. ⌜ r ≡ either before (isDue o) ⌝ }
 {
     if before {

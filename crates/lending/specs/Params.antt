@@ -1,4 +1,4 @@
--- How the parameters beside a lent record go on from a function to the one that it calls, for a list of any length. A number, a bool, a struct and a `&` slice are copied. A `&mut` slice is lent again, by two statements and over two locals of its own.
+-- How the parameters beside a lent record go on from a function to the one that it calls, for a list of any length. A number, a bool, a struct, a `&` slice and a `&` to an array are copied. A `&mut` slice is lent again, by two statements and over two locals of its own; a `&mut` to an array by one, over one.
 -- Each rule is an induction over that list, at any context Γ behind what the parameters have in memory: a walk names no position of a parameter.
 -- Assumes `Given`.
 use mathlib.Core.Path.{_≡_, refl, sym, subst}
@@ -21,23 +21,27 @@ use types.Part.{agg, whole, sub, look-in}
 use denote.Slice.{sliceTy, sliceVal}
 use denote.Steps.{nothing}
 
--- ---- a parameter, as the code has it: it is copied as it stands, of a type; or it is a `&mut` slice of integers of a width, at a lifetime of the function
+-- ---- a parameter, as the code has it: it is copied as it stands, of a type; or it is a `&mut` slice of integers of a width, at a lifetime of the function; or a `&mut` to one value of a type, as an array, at a lifetime of the function
 pub data Kind : Type 0 where
   copied : S.Ty → Kind
   relent : S.Width → ℕ → Kind
+  reref : S.Ty → ℕ → Kind
 
 abbrev pub typeOf : Kind → S.Ty
 typeOf (copied τ) = τ
 typeOf (relent w j) = sliceTy (S.tyRef (named j) S.mut (S.tyInt w))
+typeOf (reref τ j) = S.tyRef (named j) S.mut τ
 
 -- what stands in the place of its machine value: of a slice, where it points and its count
 abbrev pub Mach : Kind → Type 0
 Mach (copied τ) = Val
 Mach (relent w j) = (ℕ × ℕ) × ℕ
+Mach (reref τ j) = ℕ × ℕ
 
 abbrev pub valOf : (k : Kind) → Mach k → Val
 valOf (copied τ) v = v
 valOf (relent w j) m = sliceVal (m .0) (m .1)
+valOf (reref τ j) m = vptr (m .0) (m .1)
 
 -- its value may stand in a cell of its type
 abbrev pub Fit : (k : Kind) → Mach k → Type 0
@@ -64,10 +68,15 @@ handed ks = map typeOf ks
 abbrev lentPtr : S.Width → S.Ty
 lentPtr w = S.tyRef S.erased S.mut (S.tyInt w)
 
+-- of a `&mut` to one value that is lent again
+abbrev lentRef : S.Ty → S.Ty
+lentRef τ = S.tyRef S.erased S.mut τ
+
 abbrev pub lents : List Kind → List S.Ty
 lents [] = []
 lents (copied τ ∷ ks) = lents ks
 lents (relent w j ∷ ks) = lentPtr w ∷ sliceTy (lentPtr w) ∷ lents ks
+lents (reref τ j ∷ ks) = lentRef τ ∷ lents ks
 
 -- a local
 abbrev pub here : S.Ty → S.Local
@@ -86,12 +95,14 @@ lendAgain i t (relent w j ∷ ks) rest =
     S.seq (S.assign (S.place t []) (S.addrOf (S.place i (S.field 0 ∷ S.deref (S.tyInt w) ∷ []))))
     (S.seq (S.assign (S.place (suc t) []) (S.aggregate (S.copy (S.place t []) ∷ S.copy (S.place i (S.field 1 ∷ [])) ∷ [])))
     (lendAgain (suc i) (suc (suc t)) ks rest))
+lendAgain i t (reref τ j ∷ ks) rest = S.seq (S.assign (S.place t []) (S.addrOf (S.place i (S.deref τ ∷ [])))) (lendAgain (suc i) (suc t) ks rest)
 
 -- the call's operands: a slice that is lent again in the place of the one that was passed
 abbrev pub operands : ℕ → ℕ → List Kind → List S.Opd
 operands i t [] = []
 operands i t (copied τ ∷ ks) = S.copy (S.place i []) ∷ operands (suc i) t ks
 operands i t (relent w j ∷ ks) = S.copy (S.place (suc t) []) ∷ operands (suc i) (suc (suc t)) ks
+operands i t (reref τ j ∷ ks) = S.copy (S.place t []) ∷ operands (suc i) (suc t) ks
 
 -- ---- the blocks of locals, one for each type, and where an environment has them
 abbrev pub Blocks : List S.Ty → Type 0
@@ -154,6 +165,7 @@ module _ {M : Type 1} (𝓤 : URA M) where
   Relent [] bs ms = ‵ ftrue
   Relent (copied τ ∷ ks) bs ms = Relent ks bs (ms .1)
   Relent (relent w j ∷ ks) bs ms = Cell (lentPtr w) (bs .0) (vptr (ms .0 .0 .0) (ms .0 .0 .1)) ⊛ (Cell (sliceTy (lentPtr w)) (bs .1 .0) (valOf (relent w j) (ms .0)) ⊛ Relent ks (bs .1 .1) (ms .1))
+  Relent (reref τ j ∷ ks) bs ms = Cell (lentRef τ) (bs .0) (vptr (ms .0 .0) (ms .0 .1)) ⊛ Relent ks (bs .1) (ms .1)
 
 module _ {M : Type 1} {𝓤 : URA M} {H : Heap 𝓤} {A : Atoms 𝓤} {W : Given 𝓤 H A} where
   -- a place that starts at a local of which the environment is known
@@ -192,6 +204,12 @@ module _ {M : Type 1} {𝓤 : URA M} {H : Heap 𝓤} {A : Atoms 𝓤} {W : Given
         assigns ! (agg ! (and-then ! (load ! (from-at (tc .0) (stop !)) (look ! 3 refl)) (and-then ! (load ! (from-at (ib .0) (fld ! refl (stop !))) (look-in ! 5 (sub ! 1 refl (whole !)))) (no-more !)))) (from-at (tc .1 .0) (stop !)) (init ! 0 refl (fits .0)) $
         move ! (7 ∷ 2 ∷ []) $ lent-again ks (suc i) (suc (suc t)) (bs .1) (cs .1 .1) (ms .1) (ib .1) (tc .1 .1) (fits .1)
         (move ! (2 ∷ 3 ∷ 1 ∷ []) $ join ! $ join ! $ move ! (2 ∷ 3 ∷ 0 ∷ []) $ join ! $ join ! $ move ! (2 ∷ 3 ∷ 1 ∷ []) $ join ! $ join ! $ k)
+    -- [the pointer's room and right; the rest's rooms; the parameter's cell and right; the rest's cells]
+    lent-again (reref τ j ∷ ks) i t bs cs ms ib tc fits k =
+        split ! $ split ! $ move ! (3 ∷ []) $ split ! $ split ! $
+        assigns ! (addr ! (from-at (ib .0) (hop ! (look ! 3 refl) (stop !)))) (from-at (tc .0) (stop !)) (init ! 0 refl (tt, tt)) $
+        move ! (5 ∷ 2 ∷ []) $ lent-again ks (suc i) (suc t) (bs .1) (cs .1) (ms .1) (ib .1) (tc .1) (fits .1)
+        (move ! (2 ∷ 3 ∷ 1 ∷ []) $ join ! $ join ! $ move ! (2 ∷ 3 ∷ 1 ∷ []) $ join ! $ join ! $ k)
 
   -- the operands of the call
   pub operands-read : (E : Env 𝓤 H) (ks : List Kind) (i t : ℕ) (bs : Blocks (handed ks)) (cs : Blocks (lents ks)) (ms : Machs ks) → At 𝓤 H E i (handed ks) bs → At 𝓤 H E t (lents ks) cs → (Γ : List (Item 𝓤))
@@ -208,6 +226,12 @@ module _ {M : Type 1} {𝓤 : URA M} {H : Heap 𝓤} {A : Atoms 𝓤} {W : Given
       opds-by (qed W (Held 𝓤 (relent w j ∷ ks) bs ms ∷ Relent 𝓤 (relent w j ∷ ks) cs ms ∷ Γ) ∵ split ! $ move ! (2 ∷ []) $ split ! $ move ! (1 ∷ []) $ split ! $ split ! $ move ! (5 ∷ 2 ∷ []) $ done !)
       (qed W (Held 𝓤 ks (bs .1) (ms .1) ∷ Relent 𝓤 ks (cs .1 .1) (ms .1) ∷ Δ) ∵ move ! (2 ∷ 3 ∷ 1 ∷ []) $ join ! $ join ! $ move ! (2 ∷ 0 ∷ []) $ join ! $ move ! (2 ∷ 1 ∷ 0 ∷ []) $ join ! $ done !)
       (and-then ! (load ! (from-at (tc .1 .0) (stop !)) (look ! 2 refl)) (operands-read E ks (suc i) (suc (suc t)) (bs .1) (cs .1 .1) (ms .1) (ib .1) (tc .1 .1) Δ))
+  operands-read E (reref τ j ∷ ks) i t bs cs ms ib tc Γ =
+      let at : Val = vptr (ms .0 .0) (ms .0 .1) in
+      let Δ : List (Item 𝓤) = ‵ (fat fullShare (lentRef τ) (cs .0) zero at) ∷ ‵ (fdies (lentRef τ) (cs .0)) ∷ Cell 𝓤 (typeOf (reref τ j)) (bs .0) at ∷ Γ in
+      opds-by (qed W (Held 𝓤 (reref τ j ∷ ks) bs ms ∷ Relent 𝓤 (reref τ j ∷ ks) cs ms ∷ Γ) ∵ split ! $ move ! (2 ∷ []) $ split ! $ split ! $ move ! (4 ∷ 2 ∷ []) $ done !)
+      (qed W (Held 𝓤 ks (bs .1) (ms .1) ∷ Relent 𝓤 ks (cs .1) (ms .1) ∷ Δ) ∵ move ! (2 ∷ 3 ∷ 1 ∷ []) $ join ! $ join ! $ move ! (2 ∷ 1 ∷ 0 ∷ []) $ join ! $ done !)
+      (and-then ! (load ! (from-at (tc .0) (stop !)) (look ! 2 refl)) (operands-read E ks (suc i) (suc t) (bs .1) (cs .1) (ms .1) (ib .1) (tc .1) Δ))
 
   -- the same behind what the callee is brought
   pub operands-behind : {i a b : Item 𝓤} {Γ : List (Item 𝓤)} {E : Env 𝓤 H} {xs : List S.Opd} {vs : List Val} → Opds (Go {0}) W (a ∷ b ∷ i ∷ Γ) E xs vs → Opds (Go {0}) W (i ∷ a ∷ b ∷ Γ) E xs vs
@@ -225,3 +249,5 @@ module _ {M : Type 1} {𝓤 : URA M} {H : Heap 𝓤} {A : Atoms 𝓤} {W : Given
   relent-room (relent w j ∷ ks) cs ms k =
       split ! $ split ! $ forget ! 0 refl $ move ! (2 ∷ []) $ split ! $ split ! $ forget ! 0 refl $ move ! (2 ∷ []) $ relent-room ks (cs .1 .1) (ms .1)
       (move ! (1 ∷ 2 ∷ 0 ∷ []) $ join ! $ join ! $ move ! (1 ∷ 2 ∷ 0 ∷ []) $ join ! $ join ! $ k)
+  relent-room (reref τ j ∷ ks) cs ms k =
+      split ! $ split ! $ forget ! 0 refl $ move ! (2 ∷ []) $ relent-room ks (cs .1) (ms .1) (move ! (1 ∷ 2 ∷ 0 ∷ []) $ join ! $ join ! $ k)

@@ -1,0 +1,43 @@
+use mathlib.Core.Path.{refl}
+use borrow.Author.Needs.{needs}
+use Rattle.face.specs.AnswerLaws.{answers}
+use Rattle.face.specs.LeftLaws.{is-not}
+use Rattle.face.proofs.closing.abort.Statement.{statement}
+use Rattle.face.proofs.closing.abort.Tie as tie
+
+is-named-requires : tie.Need-is-named-requires
+is-named-requires c κs = search needs
+
+unpack-requires : tie.Need-unpack-requires
+unpack-requires c κs = search needs
+
+reason-of-requires : tie.Need-reason-of-requires
+reason-of-requires c κs = search needs
+
+abort-requires : tie.Need-abort-requires
+abort-requires c κs = search needs
+
+tell-requires : tie.Need-tell-requires
+tell-requires c κs = search needs
+
+same-length : tie.Need-same-length
+same-length c = search needs
+
+returns : tie.Need-returns
+returns c = λ ns ms cs. rw (← c .before .before .before .before .before .before .before .unpack .ensures, ← c .before .before .before .before .before .before .reason-of .ensures) (answers _ (c .before .before .before .before .before .before .before .before .before .is-named .ensures) (c .before .before .before .before .before .before .before .before .if1 .taken) (c .tell .ensures) _ ns _ ms cs (c .before .before .before .before .abort .ensures ns ms cs))
+
+returns-2 : tie.Need-returns-2
+returns-2 c = λ ns ms cs. is-not _ (c .before .before .is-named .ensures) _ (c .before .if1 .left) refl
+
+pub abort-spec : {M : Type 1} → statement M
+abort-spec =
+    tie.close
+    (tie.spec
+    is-named-requires
+    unpack-requires
+    reason-of-requires
+    abort-requires
+    tell-requires
+    same-length
+    returns
+    returns-2)

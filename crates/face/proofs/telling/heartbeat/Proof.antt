@@ -1,0 +1,39 @@
+use mathlib.Core.Path.{refl}
+use borrow.Author.Needs.{needs}
+use Rattle.face.specs.AnswerLaws.{answers}
+use Rattle.face.specs.LeftLaws.{is-not}
+use Rattle.face.proofs.telling.heartbeat.Statement.{statement}
+use Rattle.face.proofs.telling.heartbeat.Tie as tie
+
+is-named-requires : tie.Need-is-named-requires
+is-named-requires c κs = search needs
+
+unpack-requires : tie.Need-unpack-requires
+unpack-requires c κs = search needs
+
+heartbeat-requires : tie.Need-heartbeat-requires
+heartbeat-requires c κs = search needs
+
+tell-requires : tie.Need-tell-requires
+tell-requires c κs = search needs
+
+same-length : tie.Need-same-length
+same-length c = search needs
+
+returns : tie.Need-returns
+returns c = λ ns ms cs. rw (← c .before .before .before .before .before .before .before .unpack .ensures) (answers _ (c .before .before .before .before .before .before .before .before .before .is-named .ensures) (c .before .before .before .before .before .before .before .before .if1 .taken) (c .tell .ensures) _ ns _ ms cs (c .before .before .before .before .heartbeat .ensures ns ms cs))
+
+returns-2 : tie.Need-returns-2
+returns-2 c = λ ns ms cs. is-not _ (c .before .before .is-named .ensures) _ (c .before .if1 .left) refl
+
+pub heartbeat-spec : {M : Type 1} → statement M
+heartbeat-spec =
+    tie.close
+    (tie.spec
+    is-named-requires
+    unpack-requires
+    heartbeat-requires
+    tell-requires
+    same-length
+    returns
+    returns-2)

@@ -1,0 +1,87 @@
+// The host closes.
+use crate::answer;
+use crate::answer::Served;
+use kept::Kept;
+use kept::cause;
+ghost use Prim.Native.Nat.{ℕ};
+ghost use mathlib.Core.Path.{_≡_};
+ghost use mathlib.Core.List.{List};
+ghost use Rattle.calls.specs.Closing.{shutting, aborting};
+ghost use Rattle.flat.specs.Shown.{shown};
+ghost use Rattle.kept.specs.Cause.{reasonOf};
+ghost use Rattle.kept.specs.Kept.{unpacked};
+ghost use Rattle.face.specs.Left.{toldOf, left};
+ghost use Rattle.face.specs.Answer.{answered};
+
+// No more messages.
+pub fn shutdown(
+    k: Kept,
+    held: &[u32; 512],
+    places: &[u32; 1024],
+    out: &mut [u8],
+    told: &mut [usize; 2],
+) -> Served
+    ensures { λ r. ⌜ ((ns ms cs : List ℕ) → left (toldOf (r .number) (r .kept) (now (told .exit))) (now (out .exit)) ≡ answered k (shutting (shown (unpacked k) (now (held .entry)) ns (now (places .entry)) ms cs) (now (out .entry))) (now (out .entry))) ⌝ }
+{
+    if kept::is_named(k) {
+        let head = kept::unpack(k);
+        let r = asks::shutdown(head, held, places, out);
+        return answer::tell(r, told);
+    }
+    *told = [0; 2];
+    Served { number: 1, kept: k }
+}
+
+#[no_mangle]
+pub extern "C" fn ow_lent_shutdown(
+    k: &mut Kept,
+    held: &[u32; 512],
+    places: &[u32; 1024],
+    out: &mut [u8],
+    told: &mut [usize; 2],
+) -> u32
+    ensures { λ r. ⌜ ((ns ms cs : List ℕ) → left (toldOf r (now (k .exit)) (now (told .exit))) (now (out .exit)) ≡ answered (now (k .entry)) (shutting (shown (unpacked (now (k .entry))) (now (held .entry)) ns (now (places .entry)) ms cs) (now (out .entry))) (now (out .entry))) ⌝ }
+{
+    let o = shutdown(*k, held, places, out, told);
+    *k = o.kept;
+    o.number
+}
+
+// Over at once.
+pub fn abort(
+    k: Kept,
+    held: &[u32; 512],
+    places: &[u32; 1024],
+    cause: u8,
+    tsn: u32,
+    out: &mut [u8],
+    told: &mut [usize; 2],
+) -> Served
+    ensures { λ r. ⌜ ((ns ms cs : List ℕ) → left (toldOf (r .number) (r .kept) (now (told .exit))) (now (out .exit)) ≡ answered k (aborting (shown (unpacked k) (now (held .entry)) ns (now (places .entry)) ms cs) (reasonOf cause tsn) (now (out .entry))) (now (out .entry))) ⌝ }
+{
+    if kept::is_named(k) {
+        let head = kept::unpack(k);
+        let why = cause::reason_of(cause, tsn);
+        let r = asks::abort(head, held, places, why, out);
+        return answer::tell(r, told);
+    }
+    *told = [0; 2];
+    Served { number: 1, kept: k }
+}
+
+#[no_mangle]
+pub extern "C" fn ow_lent_abort(
+    k: &mut Kept,
+    held: &[u32; 512],
+    places: &[u32; 1024],
+    cause: u8,
+    tsn: u32,
+    out: &mut [u8],
+    told: &mut [usize; 2],
+) -> u32
+    ensures { λ r. ⌜ ((ns ms cs : List ℕ) → left (toldOf r (now (k .exit)) (now (told .exit))) (now (out .exit)) ≡ answered (now (k .entry)) (aborting (shown (unpacked (now (k .entry))) (now (held .entry)) ns (now (places .entry)) ms cs) (reasonOf cause tsn) (now (out .entry))) (now (out .entry))) ⌝ }
+{
+    let o = abort(*k, held, places, cause, tsn, out, told);
+    *k = o.kept;
+    o.number
+}

@@ -1,0 +1,89 @@
+// Messages are handed in.
+use crate::answer::Served;
+use kept::Kept;
+use kept::flags;
+use messages::Handing;
+use numbers::StreamId;
+ghost use Prim.Native.Nat.{ℕ};
+ghost use mathlib.Core.Path.{_≡_};
+ghost use mathlib.Core.List.{List};
+ghost use Rattle.states.specs.declared.call.Call.the-variants.{HandIn};
+ghost use Rattle.calls.specs.Answer.{isShortArea, barred};
+ghost use Rattle.flat.specs.Shown.{shown};
+ghost use Rattle.asks.specs.Messages.{handedOver};
+ghost use Rattle.kept.specs.Flags.{isYes};
+ghost use Rattle.kept.specs.Kept.{unpacked};
+ghost use Rattle.face.specs.Left.{toldOf, left};
+ghost use Rattle.face.specs.Messages.{handedTold, handedLent, handedLeft};
+
+fn handed(k: Kept, r: Handing, told: &mut [usize; 1]) -> Served
+    ensures { λ q. ⌜ toldOf (q .number) (q .kept) (now (told .exit)) ≡ handedTold k r ⌝ }
+{
+    *told = [r.chunks];
+    Served {
+        number: r.number as u32,
+        kept: k,
+    }
+}
+
+// A message for a stream, to be sent.
+pub fn hand_in(
+    k: Kept,
+    held: &[u32; 512],
+    places: &mut [u32; 1024],
+    area: &mut [u8],
+    message: &[u8],
+    stream: u16,
+    unordered: u8,
+    ppid: u32,
+    told: &mut [usize; 1],
+) -> Served
+    ensures { λ r. ⌜ ((ns ms cs : List ℕ) → left (toldOf (r .number) (r .kept) (now (told .exit))) (handedLent (now (places .exit)) (now (area .exit))) ≡ handedLeft k (handedOver (barred (shown (unpacked k) (now (held .entry)) ns (now (places .entry)) ms cs) (isShortArea (now (area .entry))) HandIn) (unpacked k) (now (places .entry)) (now (area .entry)) (now (message .entry)) (record { 0 = stream }) (isYes unordered) ppid) (handedLent (now (places .entry)) (now (area .entry)))) ⌝ }
+{
+    if kept::is_named(k) {
+        let head = kept::unpack(k);
+        let out_of_order = flags::is_yes(unordered);
+        let r = asks::hand_in(
+            head,
+            held,
+            places,
+            area,
+            message,
+            StreamId(stream),
+            out_of_order,
+            ppid,
+        );
+        return handed(k, r, told);
+    }
+    *told = [0; 1];
+    Served { number: 1, kept: k }
+}
+
+#[no_mangle]
+pub extern "C" fn ow_lent_hand_in(
+    k: &mut Kept,
+    held: &[u32; 512],
+    places: &mut [u32; 1024],
+    area: &mut [u8],
+    message: &[u8],
+    stream: u16,
+    unordered: u8,
+    ppid: u32,
+    told: &mut [usize; 1],
+) -> u32
+    ensures { λ r. ⌜ ((ns ms cs : List ℕ) → left (toldOf r (now (k .exit)) (now (told .exit))) (handedLent (now (places .exit)) (now (area .exit))) ≡ handedLeft (now (k .entry)) (handedOver (barred (shown (unpacked (now (k .entry))) (now (held .entry)) ns (now (places .entry)) ms cs) (isShortArea (now (area .entry))) HandIn) (unpacked (now (k .entry))) (now (places .entry)) (now (area .entry)) (now (message .entry)) (record { 0 = stream }) (isYes unordered) ppid) (handedLent (now (places .entry)) (now (area .entry)))) ⌝ }
+{
+    let o = hand_in(
+        *k,
+        held,
+        places,
+        area,
+        message,
+        stream,
+        unordered,
+        ppid,
+        told,
+    );
+    *k = o.kept;
+    o.number
+}

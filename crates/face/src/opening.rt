@@ -1,0 +1,127 @@
+// A record to start from, and our own INIT.
+use crate::answer;
+use crate::answer::Served;
+use flat::Head;
+use kept::Kept;
+use numbers::Tsn;
+ghost use mathlib.Core.Path.{_≡_};
+ghost use mathlib.Core.List.{[]};
+ghost use Rattle.calls.specs.Opening.{associating};
+ghost use Rattle.flat.specs.Shown.{shown};
+ghost use Rattle.kept.specs.Kept.{unpacked};
+ghost use Rattle.face.specs.Left.{toldOf, left};
+ghost use Rattle.face.specs.Opening.{tablesOf, closedLeft, associatedLent, associatedLeft};
+
+// A closed record at one of the host's ports, whatever stood there.
+pub fn close(
+    k: Kept,
+    held: &mut [u32; 512],
+    next_in: &mut [u16; 128],
+    places: &mut [u32; 1024],
+    next_out: &mut [u16; 128],
+    kept_cookie: &mut [u8; 256],
+    port: u16,
+) -> Served
+    ensures { λ r. ⌜ left (toldOf (r .number) (r .kept) []) (tablesOf (now (held .exit)) (now («next_in» .exit)) (now (places .exit)) (now («next_out» .exit)) (now («kept_cookie» .exit))) ≡ closedLeft port ⌝ }
+{
+    let head = Head::closed(port);
+    tables::held::clear(held);
+    tables::ssns::clear(next_in);
+    tables::place::clear(places);
+    tables::ssns::clear(next_out);
+    flat::fresh::clear_cookie(kept_cookie);
+    Served {
+        number: 0,
+        kept: kept::pack(head),
+    }
+}
+
+#[no_mangle]
+pub extern "C" fn ow_lent_close(
+    k: &mut Kept,
+    held: &mut [u32; 512],
+    next_in: &mut [u16; 128],
+    places: &mut [u32; 1024],
+    next_out: &mut [u16; 128],
+    kept_cookie: &mut [u8; 256],
+    port: u16,
+) -> u32
+    ensures { λ r. ⌜ left (toldOf r (now (k .exit)) []) (tablesOf (now (held .exit)) (now («next_in» .exit)) (now (places .exit)) (now («next_out» .exit)) (now («kept_cookie» .exit))) ≡ closedLeft port ⌝ }
+{
+    let o = close(*k, held, next_in, places, next_out, kept_cookie, port);
+    *k = o.kept;
+    o.number
+}
+
+// Our own INIT.
+pub fn associate(
+    k: Kept,
+    held: &mut [u32; 512],
+    next_in: &mut [u16; 128],
+    places: &mut [u32; 1024],
+    next_out: &mut [u16; 128],
+    kept_cookie: &mut [u8; 256],
+    tag: u32,
+    tsn: u32,
+    port: u16,
+    streams: u16,
+    out: &mut [u8],
+    told: &mut [usize; 2],
+) -> Served
+    ensures { λ r. ⌜ left (toldOf (r .number) (r .kept) (now (told .exit))) (associatedLent (tablesOf (now (held .exit)) (now («next_in» .exit)) (now (places .exit)) (now («next_out» .exit)) (now («kept_cookie» .exit))) (now (out .exit))) ≡ associatedLeft k (associating (shown (unpacked k) (now (held .entry)) (now («next_in» .entry)) (now (places .entry)) (now («next_out» .entry)) (now («kept_cookie» .entry))) tag (record { 0 = tsn }) port streams (now (out .entry))) (associatedLent (tablesOf (now (held .entry)) (now («next_in» .entry)) (now (places .entry)) (now («next_out» .entry)) (now («kept_cookie» .entry))) (now (out .entry))) ⌝ }
+{
+    if kept::is_named(k) {
+        let head = kept::unpack(k);
+        let r = asks::associate(
+            head,
+            held,
+            next_in,
+            places,
+            next_out,
+            kept_cookie,
+            tag,
+            Tsn(tsn),
+            port,
+            streams,
+            out,
+        );
+        return answer::tell(r, told);
+    }
+    *told = [0; 2];
+    Served { number: 1, kept: k }
+}
+
+#[no_mangle]
+pub extern "C" fn ow_lent_associate(
+    k: &mut Kept,
+    held: &mut [u32; 512],
+    next_in: &mut [u16; 128],
+    places: &mut [u32; 1024],
+    next_out: &mut [u16; 128],
+    kept_cookie: &mut [u8; 256],
+    tag: u32,
+    tsn: u32,
+    port: u16,
+    streams: u16,
+    out: &mut [u8],
+    told: &mut [usize; 2],
+) -> u32
+    ensures { λ r. ⌜ left (toldOf r (now (k .exit)) (now (told .exit))) (associatedLent (tablesOf (now (held .exit)) (now («next_in» .exit)) (now (places .exit)) (now («next_out» .exit)) (now («kept_cookie» .exit))) (now (out .exit))) ≡ associatedLeft (now (k .entry)) (associating (shown (unpacked (now (k .entry))) (now (held .entry)) (now («next_in» .entry)) (now (places .entry)) (now («next_out» .entry)) (now («kept_cookie» .entry))) tag (record { 0 = tsn }) port streams (now (out .entry))) (associatedLent (tablesOf (now (held .entry)) (now («next_in» .entry)) (now (places .entry)) (now («next_out» .entry)) (now («kept_cookie» .entry))) (now (out .entry))) ⌝ }
+{
+    let o = associate(
+        *k,
+        held,
+        next_in,
+        places,
+        next_out,
+        kept_cookie,
+        tag,
+        tsn,
+        port,
+        streams,
+        out,
+        told,
+    );
+    *k = o.kept;
+    o.number
+}

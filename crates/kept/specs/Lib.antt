@@ -1,0 +1,8 @@
+-- What a host keeps and hands over, without an enum.
+pub mod Flags
+pub mod FlagsLaws
+pub mod Parts
+pub mod Kept
+pub mod KeptLaws
+pub mod Word
+pub mod Cause
