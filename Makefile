@@ -3,12 +3,12 @@
 #     make                              the proved library, the hub for C, the rail's program
 #     make install PREFIX=/usr/local    headers, archives, pkg-config files and the program; DESTDIR goes before PREFIX
 #
-# Whatever is missing on this machine is named, with the command that installs it. The library is x86-64 code.
+# Whatever is missing on this machine is named, with the command that installs it. The library is made for this machine.
 
 PREFIX = /usr/local
 DESTDIR =
 version := $(shell sed -nE 's/^version = "(.*)"$$/\1/p' host/Cargo.toml)
-built = $$(. host/toolchain && printf '%s' "$${CARGO_TARGET_DIR:-$(1)}/$${CARGO_BUILD_TARGET:+$$CARGO_BUILD_TARGET/}release")
+built = $${CARGO_TARGET_DIR:-$(1)}/release
 
 SHELL = /bin/bash
 
@@ -21,7 +21,7 @@ all:
 install: all
 	install -d "$(DESTDIR)$(PREFIX)/include" "$(DESTDIR)$(PREFIX)/lib/pkgconfig" "$(DESTDIR)$(PREFIX)/bin"
 	install -m 644 include/oilwhisper.h include/oilwhisper_host.h "$(DESTDIR)$(PREFIX)/include"
-	install -m 644 target/staticlib/libsurface.a "$(DESTDIR)$(PREFIX)/lib/liboilwhisper.a"
+	install -m 644 target/staticlib/liboilwhisper.a "$(DESTDIR)$(PREFIX)/lib"
 	install -m 644 "$(call built,host/c/target)/liboilwhisper_host.a" "$(DESTDIR)$(PREFIX)/lib"
 	install -m 755 "$(call built,host/target)/rail" "$(DESTDIR)$(PREFIX)/bin"
 	for name in oilwhisper oilwhisper_host; do \

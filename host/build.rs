@@ -1,4 +1,4 @@
-//! Proves crate surface and links the library that this leaves, unless one stands that is newer than every source.
+//! Proves the library and links the archive that this leaves, unless one stands that is newer than every source.
 
 use std::env;
 use std::fs;
@@ -13,30 +13,30 @@ fn main() {
     }
     let root = repository();
     let crates = root.join("crates");
-    let archive = root.join("target/staticlib/libsurface.a");
+    let archive = root.join("target/staticlib/liboilwhisper.a");
     println!("cargo:rerun-if-changed={}", crates.display());
     println!("cargo:rerun-if-changed={}", archive.display());
     let arch = env::var("CARGO_CFG_TARGET_ARCH").unwrap_or_default();
-    if arch != "x86_64" {
-        give_up(&format!(
-            "the proved library is x86-64 code and cannot be linked for {}: run 'host/toolchain cargo ...', which sets what cargo needs",
-            arch
-        ));
+    if arch != env::consts::ARCH {
+        give_up(&format!("host/archive makes the proved library for this machine, which is {}, and cargo builds for {}", env::consts::ARCH, arch));
     }
-    if !is_up_to_date(&archive, &[crates, root.join("crates.txt")]) {
+    if !is_up_to_date(&archive, &[crates, root.join("crates.txt"), root.join("host/archive")]) {
         prove(&root);
     }
     if let Some(folder) = archive.parent() {
         println!("cargo:rustc-link-search=native={}", folder.display());
     }
-    println!("cargo:rustc-link-lib=static=surface");
+    println!("cargo:rustc-link-lib=static=oilwhisper");
     if env::var_os("CARGO_FEATURE_BENCH").is_some() {
-        compile("sliced.c");
+        compile("checksums.c");
         compile("wrapped.c");
         println!("cargo:rustc-link-arg-bin=bench=-Wl,--wrap=memcpy,--wrap=memset");
     }
     if env::var_os("CARGO_FEATURE_USRSCTP").is_some() {
-        println!("cargo:rustc-link-arg-bin=bench=-l:libusrsctp.a");
+        // It uses more of the C library, and of gcc's own, than what stands before it.
+        for library in ["-l:libusrsctp.a", "-lgcc", "-lc"] {
+            println!("cargo:rustc-link-arg-bin=bench={}", library);
+        }
     }
 }
 
@@ -44,12 +44,11 @@ fn main() {
 fn compile(name: &str) {
     let source = Path::new("src/bin/bench").join(name);
     let object = PathBuf::from(env::var_os("OUT_DIR").unwrap_or_default()).join(name).with_extension("o");
-    let compiler = if env::var_os("TARGET") == env::var_os("HOST") { "cc" } else { "x86_64-linux-gnu-gcc" };
     println!("cargo:rerun-if-changed={}", source.display());
-    match Command::new(compiler).args(["-std=c99", "-O2", "-c", "-o"]).arg(&object).arg(&source).status() {
+    match Command::new("cc").args(["-std=c99", "-O2", "-c", "-o"]).arg(&object).arg(&source).status() {
         Ok(status) if status.success() => println!("cargo:rustc-link-arg-bin=bench={}", object.display()),
-        Ok(_) => give_up(&format!("{} does not compile {}", compiler, source.display())),
-        Err(e) => give_up(&format!("cannot run {} to compile {}: {}", compiler, source.display(), e)),
+        Ok(_) => give_up(&format!("cc does not compile {}", source.display())),
+        Err(e) => give_up(&format!("cannot run cc to compile {}: {}", source.display(), e)),
     }
 }
 
@@ -62,13 +61,10 @@ fn repository() -> PathBuf {
 }
 
 fn prove(root: &Path) {
-    match Command::new("rt").args(["staticlib", "surface"]).current_dir(root).status() {
+    match Command::new(root.join("host/archive")).arg("face").status() {
         Ok(status) if status.success() => {}
-        Ok(_) => give_up("'rt staticlib surface' failed: run it in the repository's root to see why"),
-        Err(e) => give_up(&format!(
-            "cannot run 'rt', the command of the Rattle kit that proves and builds the library ({}): install the kit and put rt on the PATH",
-            e
-        )),
+        Ok(_) => give_up("'host/archive face' failed: run it to see why"),
+        Err(e) => give_up(&format!("cannot run host/archive, which proves and builds the library: {}", e)),
     }
 }
 

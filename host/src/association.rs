@@ -5,7 +5,7 @@ use crate::calls::{
     Transmitted, Turn, Verdict, AREA, PAYLOAD,
 };
 use crate::ffi;
-use crate::library::Library;
+use crate::library::{self, Library};
 use std::marker::PhantomData;
 use std::time::Duration;
 
@@ -48,48 +48,47 @@ impl<L: Library> Association<L> {
     }
 
     pub fn is_closed(&self) -> bool {
-        state_of(self.record.state) == State::Closed
+        state_of(self.record.head.state) == State::Closed
     }
 
     pub fn peer_tag(&self) -> u32 {
-        self.record.ends.peer_tag
+        self.record.head.ends.peer_tag
     }
 
     pub fn peer_port(&self) -> u16 {
-        self.record.ends.peer_port
+        self.record.head.ends.peer_port
     }
 
     pub fn standing(&self) -> Standing {
-        let receiving = &self.record.receiving;
-        let sending = &self.record.sending;
-        let free = receiving.held.iter().filter(|place| !place.used).count();
+        let head = &self.record.head;
+        let free = self.record.chunks_held().filter(|place| !place.used).count();
         Standing {
-            state: state_of(self.record.state),
-            rto: Duration::from_millis(u64::from(sending.path.clock.rto)),
-            my_tag: self.record.ends.my_tag,
-            streams_out: self.record.ends.streams_out,
-            acked: sending.acked,
-            next_tsn: sending.next_tsn,
-            has_gap: receiving.keeping.come.contains(&1),
+            state: state_of(head.state),
+            rto: Duration::from_millis(u64::from(head.sender.path.clock.rto)),
+            my_tag: head.ends.my_tag,
+            streams_out: head.ends.streams_out,
+            acked: head.sender.acked,
+            next_tsn: head.sender.next_tsn,
+            has_gap: head.keeping.come.contains(&1),
             window: (free * PAYLOAD) as u32,
-            peer_window: sending.advertised,
+            peer_window: head.sender.advertised,
         }
     }
 
     pub fn shelf(&self) -> Shelf {
-        let receiving = &self.record.receiving;
-        let in_order = receiving.held.iter().filter(|place| place.used && !place.unordered);
-        let ahead = |stream: u16, ssn: u16| receiving.next.get(usize::from(stream)).map(|next| (stream, ssn.wrapping_sub(*next)));
+        let keeping = &self.record.head.keeping;
+        let in_order = self.record.chunks_held().filter(|place| place.used && !place.unordered);
+        let ahead = |stream: u16, ssn: u16| self.record.next_in.get(usize::from(stream)).map(|next| (stream, ssn.wrapping_sub(*next)));
         Shelf {
-            missing: receiving.keeping.come.contains(&1).then(|| receiving.keeping.point.wrapping_add(1)),
+            missing: keeping.come.contains(&1).then(|| keeping.point.wrapping_add(1)),
             held: in_order.filter_map(|place| ahead(place.stream, place.ssn)).collect(),
         }
     }
 
     pub fn arrive(&mut self, packet: &[u8], lent: &Lent, echoed: Echoed, out: &mut [u8]) -> Answer<Arrived> {
-        let values = ffi::Lent { tag: lent.tag, tsn: lent.tsn, streams: lent.streams };
+        let values = library::Lent { tag: lent.tag, tsn: lent.tsn, streams: lent.streams };
         let answer = L::arrive(&mut self.record, &mut self.received, packet, values, &lent.cookie, echoed_for_c(echoed), out);
-        let verdicts = answer.verdicts.iter().take(answer.count).map(verdict_of).collect();
+        let verdicts = answer.verdicts.iter().map(verdict_of).collect();
         answered(answer.number, Arrived { verdicts, reply: answer.length })
     }
 
@@ -176,11 +175,11 @@ fn answered<T>(number: u8, value: T) -> Answer<T> {
 }
 
 /// The length of the packet that was written.
-fn sent(answer: ffi::Answer) -> Answer<usize> {
+fn sent(answer: library::Answer) -> Answer<usize> {
     answered(answer.number, answer.length)
 }
 
-fn expired(answer: ffi::Answer) -> Answer<Expired> {
+fn expired(answer: library::Answer) -> Answer<Expired> {
     sent(answer).map(|length| match answer.over {
         true => Expired::Over,
         false => Expired::TriedAgain(length),
@@ -201,17 +200,17 @@ fn state_of(number: u8) -> State {
     }
 }
 
-fn echoed_for_c(echoed: Echoed) -> ffi::Echoed {
+fn echoed_for_c(echoed: Echoed) -> library::Echoed {
     let (word, made) = match echoed {
-        Echoed::Bad => (ffi::BAD, ffi::Made::default()),
+        Echoed::Bad => (ffi::BAD, library::Made::default()),
         Echoed::Stale(made) => (ffi::LATE, made_for_c(made)),
         Echoed::Good(made) => (ffi::GOOD, made_for_c(made)),
     };
-    ffi::Echoed { word, made }
+    library::Echoed { word, made }
 }
 
-fn made_for_c(made: Made) -> ffi::Made {
-    ffi::Made {
+fn made_for_c(made: Made) -> library::Made {
+    library::Made {
         my_tag: made.my_tag,
         peer_tag: made.peer_tag,
         streams_in: made.streams_in,
@@ -222,7 +221,7 @@ fn made_for_c(made: Made) -> ffi::Made {
     }
 }
 
-fn verdict_of(verdict: &ffi::Verdict) -> Verdict {
+fn verdict_of(verdict: &library::Verdict) -> Verdict {
     Verdict {
         at: verdict.at,
         fate: match verdict.fate {

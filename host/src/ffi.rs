@@ -7,6 +7,14 @@ pub const LISTED: usize = 16;
 pub const BLOCKS: usize = 64;
 pub const VERDICTS: usize = 365;
 
+/// Words of one place for receiving, one for sending, and of a verdict.
+pub const HELD_WORDS: usize = 4;
+pub const PLACE_WORDS: usize = 8;
+pub const VERDICT_WORDS: usize = 4;
+
+/// What `ow_version` answers.
+pub const VERSION: u32 = 1;
+
 pub const SHORT: u8 = 18;
 
 pub const CLOSED: u8 = 0;
@@ -17,6 +25,36 @@ pub const SHUTDOWN_PENDING: u8 = 4;
 pub const SHUTDOWN_SENT: u8 = 5;
 pub const SHUTDOWN_RECEIVED: u8 = 6;
 pub const SHUTDOWN_ACK_SENT: u8 = 7;
+
+pub const SAW_NOTHING: u8 = 0;
+pub const SAW_INIT: u8 = 1;
+pub const SAW_COOKIE_ECHO: u8 = 2;
+
+pub const BAD: u8 = 0;
+pub const LATE: u8 = 1;
+pub const GOOD: u8 = 2;
+
+pub const ACCEPTED: u8 = 0;
+pub const REFUSED: u8 = 1;
+pub const SKIPPED: u8 = 2;
+pub const SKIPPED_REPORTED: u8 = 3;
+pub const STOPPED: u8 = 4;
+pub const STOPPED_REPORTED: u8 = 5;
+pub const UNREAD: u8 = 6;
+
+pub const NO_EVENT: u8 = 0;
+pub const UP: u8 = 1;
+pub const DOWN_ABORT: u8 = 2;
+pub const DOWN_STALE: u8 = 3;
+pub const DOWN_HOST_NAME: u8 = 4;
+pub const DOWN_SHUT_DOWN: u8 = 5;
+
+pub const CAUSE_NONE: u8 = 0;
+pub const CAUSE_STREAM: u8 = 1;
+pub const CAUSE_STALE: u8 = 3;
+pub const CAUSE_NO_DATA: u8 = 9;
+pub const CAUSE_USER: u8 = 12;
+pub const CAUSE_VIOLATION: u8 = 13;
 
 #[derive(Clone, Copy, Debug, PartialEq, Eq)]
 #[repr(C)]
@@ -31,62 +69,11 @@ pub struct Ends {
 
 #[derive(Clone, Copy, Debug, PartialEq, Eq)]
 #[repr(C)]
-pub struct Cookie {
-    pub bytes: [u8; COOKIE_MOST],
-    pub len: u16,
-}
-
-#[derive(Clone, Copy, Debug, PartialEq, Eq)]
-#[repr(C)]
 pub struct Keeping {
     pub point: u32,
     pub come: [u8; PLACES],
     pub dups: [u32; LISTED],
     pub listed: usize,
-}
-
-#[derive(Clone, Copy, Debug, PartialEq, Eq)]
-#[repr(C)]
-pub struct Held {
-    pub used: bool,
-    pub begin: bool,
-    pub end: bool,
-    pub unordered: bool,
-    pub tsn: u32,
-    pub stream: u16,
-    pub ssn: u16,
-    pub ppid: u32,
-    pub len: u16,
-}
-
-#[derive(Clone, Copy, Debug, PartialEq, Eq)]
-#[repr(C)]
-pub struct Receiving {
-    pub keeping: Keeping,
-    pub held: [Held; PLACES],
-    pub next: [u16; STREAMS],
-}
-
-#[derive(Clone, Copy, Debug, PartialEq, Eq)]
-#[repr(C)]
-pub struct Chunk {
-    pub tsn: u32,
-    pub order: u32,
-    pub stream: u16,
-    pub ssn: u16,
-    pub ppid: u32,
-    pub len: u16,
-    pub begin: bool,
-    pub end: bool,
-    pub unordered: bool,
-}
-
-#[derive(Clone, Copy, Debug, PartialEq, Eq)]
-#[repr(C)]
-pub struct Place {
-    pub status: u8,
-    pub misses: u8,
-    pub chunk: Chunk,
 }
 
 #[derive(Clone, Copy, Debug, PartialEq, Eq)]
@@ -119,215 +106,189 @@ pub struct Path {
 
 #[derive(Clone, Copy, Debug, PartialEq, Eq)]
 #[repr(C)]
-pub struct Sending {
+pub struct Sender {
     pub acked: u32,
     pub next_tsn: u32,
     pub advertised: u32,
     pub oldest: u32,
-    pub places: [Place; PLACES],
-    pub next: [u16; STREAMS],
     pub path: Path,
+}
+
+#[derive(Clone, Copy, Debug, PartialEq, Eq)]
+#[repr(C)]
+pub struct Head {
+    pub state: u8,
+    pub tries: u8,
+    pub cookie_len: u16,
+    pub ends: Ends,
+    pub keeping: Keeping,
+    pub sender: Sender,
 }
 
 /// No `Copy`: a call is lent the record, and what copies one says so.
 #[derive(Clone, Debug, PartialEq, Eq)]
 #[repr(C)]
 pub struct Record {
-    pub state: u8,
-    pub tries: u8,
-    pub ends: Ends,
-    pub cookie: Cookie,
-    pub receiving: Receiving,
-    pub sending: Sending,
+    pub head: Head,
+    pub held: [u32; HELD_WORDS * PLACES],
+    pub next_in: [u16; STREAMS],
+    pub places: [u32; PLACE_WORDS * PLACES],
+    pub next_out: [u16; STREAMS],
+    pub cookie: [u8; COOKIE_MOST],
 }
 
-#[derive(Clone, Copy, Debug, PartialEq, Eq)]
-#[repr(C)]
-pub struct Answer {
-    pub number: u8,
-    pub length: usize,
-    pub over: bool,
-}
-
-#[derive(Clone, Copy, Debug, PartialEq, Eq)]
-#[repr(C)]
-pub struct Peeked {
-    pub number: u8,
-    pub kind: u8,
-    pub source: u16,
-    pub tag: u32,
-    pub window: u32,
-    pub outs: u16,
-    pub ins: u16,
-    pub tsn: u32,
-    pub at: usize,
-    pub len: usize,
-}
-
-pub const SAW_NOTHING: u8 = 0;
-pub const SAW_INIT: u8 = 1;
-pub const SAW_COOKIE_ECHO: u8 = 2;
-
+/// What the words of a place for receiving say.
 #[derive(Clone, Copy, Debug, Default, PartialEq, Eq)]
-#[repr(C)]
-pub struct Lent {
-    pub tag: u32,
-    pub tsn: u32,
-    pub streams: u16,
-}
-
-#[derive(Clone, Copy, Debug, Default, PartialEq, Eq)]
-#[repr(C)]
-pub struct Made {
-    pub my_tag: u32,
-    pub peer_tag: u32,
-    pub streams_in: u16,
-    pub streams_out: u16,
-    pub my_tsn: u32,
-    pub peer_tsn: u32,
-    pub window: u32,
-}
-
-pub const BAD: u8 = 0;
-pub const LATE: u8 = 1;
-pub const GOOD: u8 = 2;
-
-#[derive(Clone, Copy, Debug, Default, PartialEq, Eq)]
-#[repr(C)]
-pub struct Echoed {
-    pub word: u8,
-    pub made: Made,
-}
-
-pub const ACCEPTED: u8 = 0;
-pub const REFUSED: u8 = 1;
-pub const SKIPPED: u8 = 2;
-pub const SKIPPED_REPORTED: u8 = 3;
-pub const STOPPED: u8 = 4;
-pub const STOPPED_REPORTED: u8 = 5;
-pub const UNREAD: u8 = 6;
-
-pub const NO_EVENT: u8 = 0;
-pub const UP: u8 = 1;
-pub const DOWN_ABORT: u8 = 2;
-pub const DOWN_STALE: u8 = 3;
-pub const DOWN_HOST_NAME: u8 = 4;
-pub const DOWN_SHUT_DOWN: u8 = 5;
-
-pub const CAUSE_NONE: u8 = 0;
-pub const CAUSE_STREAM: u8 = 1;
-pub const CAUSE_STALE: u8 = 3;
-pub const CAUSE_NO_DATA: u8 = 9;
-pub const CAUSE_USER: u8 = 12;
-pub const CAUSE_VIOLATION: u8 = 13;
-
-#[derive(Clone, Copy, Debug, PartialEq, Eq)]
-#[repr(C)]
-pub struct Verdict {
-    pub at: usize,
-    pub value: u32,
-    pub fate: u8,
-    pub number: u8,
-    pub cause: u8,
-    pub event: u8,
-}
-
-/// No `Copy`: most packets have a chunk or two, and the array has room for all that can be.
-#[derive(Clone, Debug, PartialEq, Eq)]
-#[repr(C)]
-pub struct Arrived {
-    pub number: u8,
-    pub count: usize,
-    pub verdicts: [Verdict; VERDICTS],
-    pub length: usize,
-}
-
-#[derive(Clone, Copy, Debug, PartialEq, Eq)]
-#[repr(C)]
-pub struct HandedIn {
-    pub number: u8,
-    pub chunks: usize,
-}
-
-#[derive(Clone, Copy, Debug, PartialEq, Eq)]
-#[repr(C)]
-pub struct Transmitted {
-    pub number: u8,
-    pub length: usize,
-    pub resent: bool,
-    pub first: u32,
-    pub last: u32,
-}
-
-#[derive(Clone, Copy, Debug, PartialEq, Eq)]
-#[repr(C)]
-pub struct Message {
-    pub length: usize,
-    pub stream: u16,
+pub struct Held {
+    pub used: bool,
+    pub begin: bool,
+    pub end: bool,
     pub unordered: bool,
+    pub tsn: u32,
+    pub stream: u16,
     pub ssn: u16,
     pub ppid: u32,
+    pub len: u16,
 }
 
-#[derive(Clone, Copy, Debug, PartialEq, Eq)]
-#[repr(C)]
-pub struct Delivered {
-    pub number: u8,
-    pub message: Message,
+impl Held {
+    fn of(words: &[u32]) -> Held {
+        let shape = words[3];
+        Held {
+            used: has(shape, 0),
+            begin: has(shape, 1),
+            end: has(shape, 2),
+            unordered: has(shape, 3),
+            tsn: words[0],
+            stream: stream_of(shape),
+            ssn: words[1] as u16,
+            ppid: words[2],
+            len: len_of(shape),
+        }
+    }
 }
 
-#[derive(Clone, Copy, Debug, PartialEq, Eq)]
-#[repr(C)]
-pub struct Blocks {
-    pub count: usize,
-    pub starts: [u16; BLOCKS],
-    pub ends: [u16; BLOCKS],
+/// What the words of a place for sending say.
+#[derive(Clone, Copy, Debug, Default, PartialEq, Eq)]
+pub struct Place {
+    pub status: u8,
+    pub misses: u8,
+    pub tsn: u32,
+    pub order: u32,
+    pub stream: u16,
+    pub ssn: u16,
+    pub ppid: u32,
+    pub len: u16,
+    pub begin: bool,
+    pub end: bool,
+    pub unordered: bool,
 }
 
-#[derive(Clone, Copy, Debug, PartialEq, Eq)]
-#[repr(C)]
-pub struct Sacked {
-    pub point: u32,
-    pub window: u32,
-    pub blocks: Blocks,
-    pub dups: [u32; LISTED],
-    pub listed: usize,
+impl Place {
+    fn of(words: &[u32]) -> Place {
+        let shape = words[4];
+        Place {
+            status: words[5] as u8,
+            misses: (words[5] >> 8) as u8,
+            tsn: words[0],
+            order: words[1],
+            stream: stream_of(shape),
+            ssn: words[2] as u16,
+            ppid: words[3],
+            len: len_of(shape),
+            begin: has(shape, 0),
+            end: has(shape, 1),
+            unordered: has(shape, 2),
+        }
+    }
 }
 
-#[derive(Clone, Copy, Debug, PartialEq, Eq)]
-#[repr(C)]
-pub struct Acknowledged {
-    pub number: u8,
-    pub length: usize,
-    pub sack: Sacked,
+fn has(shape: u32, bit: u32) -> bool {
+    shape >> bit & 1 == 1
 }
 
-#[derive(Clone, Copy, Debug, PartialEq, Eq)]
-#[repr(C)]
-pub struct Value {
-    pub bytes: [u8; 8],
+fn stream_of(shape: u32) -> u16 {
+    (shape >> 16) as u16
+}
+
+fn len_of(shape: u32) -> u16 {
+    (shape >> 4) as u16 & 0xfff
+}
+
+impl Record {
+    /// The places for receiving, in their order.
+    pub fn chunks_held(&self) -> impl Iterator<Item = Held> + '_ {
+        self.held.chunks_exact(HELD_WORDS).map(Held::of)
+    }
+
+    /// The places for sending, in their order.
+    pub fn chunks_to_send(&self) -> impl Iterator<Item = Place> + '_ {
+        self.places.chunks_exact(PLACE_WORDS).map(Place::of)
+    }
 }
 
 #[cfg(feature = "proved")]
 extern "C" {
-    pub fn ow_closed(port: u16) -> Record;
-    pub fn ow_peek(packet: *const u8, packet_len: usize) -> Peeked;
-    pub fn ow_associate(association: *mut Record, tag: u32, tsn: u32, port: u16, streams: u16, out: *mut u8, out_len: usize) -> Answer;
-    pub fn ow_arrive(
-        association: *mut Record,
+    pub fn ow_lent_close(
+        head: *mut Head,
+        held: *mut [u32; HELD_WORDS * PLACES],
+        next_in: *mut [u16; STREAMS],
+        places: *mut [u32; PLACE_WORDS * PLACES],
+        next_out: *mut [u16; STREAMS],
+        kept_cookie: *mut [u8; COOKIE_MOST],
+        port: u16,
+    ) -> u32;
+    pub fn ow_version() -> u32;
+    pub fn ow_sizes(told: *mut [usize; 7]);
+    pub fn ow_lent_peek(packet: *const u8, packet_len: usize, told: *mut [usize; 9]) -> u32;
+    pub fn ow_lent_arrive(
+        head: *mut Head,
+        held: *mut [u32; HELD_WORDS * PLACES],
+        next_in: *mut [u16; STREAMS],
+        places: *mut [u32; PLACE_WORDS * PLACES],
+        next_out: *mut [u16; STREAMS],
+        kept_cookie: *mut [u8; COOKIE_MOST],
         area: *mut u8,
         area_len: usize,
+        verdicts: *mut [u32; VERDICT_WORDS * VERDICTS],
         packet: *const u8,
         packet_len: usize,
-        lent: Lent,
+        tag: u32,
+        tsn: u32,
+        streams: u16,
         cookie: *const u8,
         cookie_len: usize,
-        echoed: Echoed,
+        word: u8,
+        my_tag: u32,
+        peer_tag: u32,
+        streams_in: u16,
+        streams_out: u16,
+        my_tsn: u32,
+        peer_tsn: u32,
+        window: u32,
         out: *mut u8,
         out_len: usize,
-    ) -> Arrived;
-    pub fn ow_hand_in(
-        association: *mut Record,
+        told: *mut [usize; 2],
+    ) -> u32;
+    pub fn ow_lent_associate(
+        head: *mut Head,
+        held: *mut [u32; HELD_WORDS * PLACES],
+        next_in: *mut [u16; STREAMS],
+        places: *mut [u32; PLACE_WORDS * PLACES],
+        next_out: *mut [u16; STREAMS],
+        kept_cookie: *mut [u8; COOKIE_MOST],
+        tag: u32,
+        tsn: u32,
+        port: u16,
+        streams: u16,
+        out: *mut u8,
+        out_len: usize,
+        told: *mut [usize; 2],
+    ) -> u32;
+    pub fn ow_lent_hand_in(
+        head: *mut Head,
+        held: *const [u32; HELD_WORDS * PLACES],
+        places: *mut [u32; PLACE_WORDS * PLACES],
         area: *mut u8,
         area_len: usize,
         message: *const u8,
@@ -335,17 +296,117 @@ extern "C" {
         stream: u16,
         unordered: u8,
         ppid: u32,
-    ) -> HandedIn;
-    pub fn ow_transmit(association: *mut Record, area: *const u8, area_len: usize, out: *mut u8, out_len: usize) -> Transmitted;
-    pub fn ow_take(association: *mut Record, area: *const u8, area_len: usize, out: *mut u8, out_len: usize) -> Delivered;
-    pub fn ow_sack(association: *mut Record, out: *mut u8, out_len: usize) -> Acknowledged;
-    pub fn ow_t1(association: *mut Record, out: *mut u8, out_len: usize) -> Answer;
-    pub fn ow_t2(association: *mut Record, out: *mut u8, out_len: usize) -> Answer;
-    pub fn ow_t3(association: *mut Record) -> Answer;
-    pub fn ow_rtt(association: *mut Record, sample: u32) -> Answer;
-    pub fn ow_shutdown(association: *mut Record, out: *mut u8, out_len: usize) -> Answer;
-    pub fn ow_abort(association: *mut Record, cause: u8, tsn: u32, out: *mut u8, out_len: usize) -> Answer;
-    pub fn ow_error_stream(association: *mut Record, stream: u16, out: *mut u8, out_len: usize) -> Answer;
-    pub fn ow_error_stale(association: *mut Record, port: u16, tag: u32, late: u32, out: *mut u8, out_len: usize) -> Answer;
-    pub fn ow_heartbeat(association: *mut Record, value: Value, out: *mut u8, out_len: usize) -> Answer;
+        told: *mut [usize; 1],
+    ) -> u32;
+    pub fn ow_lent_transmit(
+        head: *mut Head,
+        held: *const [u32; HELD_WORDS * PLACES],
+        places: *mut [u32; PLACE_WORDS * PLACES],
+        next_out: *mut [u16; STREAMS],
+        area: *const u8,
+        area_len: usize,
+        out: *mut u8,
+        out_len: usize,
+        told: *mut [usize; 4],
+    ) -> u32;
+    pub fn ow_lent_take(
+        head: *mut Head,
+        held: *mut [u32; HELD_WORDS * PLACES],
+        next_in: *mut [u16; STREAMS],
+        places: *const [u32; PLACE_WORDS * PLACES],
+        area: *const u8,
+        area_len: usize,
+        out: *mut u8,
+        out_len: usize,
+        told: *mut [usize; 5],
+    ) -> u32;
+    pub fn ow_lent_sack(
+        head: *mut Head,
+        held: *const [u32; HELD_WORDS * PLACES],
+        places: *const [u32; PLACE_WORDS * PLACES],
+        out: *mut u8,
+        out_len: usize,
+        starts: *mut [u16; BLOCKS],
+        ends: *mut [u16; BLOCKS],
+        dups: *mut [u32; LISTED],
+        told: *mut [usize; 5],
+    ) -> u32;
+    pub fn ow_lent_t1(
+        head: *mut Head,
+        held: *const [u32; HELD_WORDS * PLACES],
+        places: *const [u32; PLACE_WORDS * PLACES],
+        kept_cookie: *const [u8; COOKIE_MOST],
+        out: *mut u8,
+        out_len: usize,
+        told: *mut [usize; 2],
+    ) -> u32;
+    pub fn ow_lent_t2(
+        head: *mut Head,
+        held: *const [u32; HELD_WORDS * PLACES],
+        places: *const [u32; PLACE_WORDS * PLACES],
+        kept_cookie: *const [u8; COOKIE_MOST],
+        out: *mut u8,
+        out_len: usize,
+        told: *mut [usize; 2],
+    ) -> u32;
+    pub fn ow_lent_t3(
+        head: *mut Head,
+        held: *const [u32; HELD_WORDS * PLACES],
+        places: *mut [u32; PLACE_WORDS * PLACES],
+        told: *mut [usize; 2],
+    ) -> u32;
+    pub fn ow_lent_rtt(
+        head: *mut Head,
+        held: *const [u32; HELD_WORDS * PLACES],
+        places: *const [u32; PLACE_WORDS * PLACES],
+        sample: u32,
+        told: *mut [usize; 2],
+    ) -> u32;
+    pub fn ow_lent_shutdown(
+        head: *mut Head,
+        held: *const [u32; HELD_WORDS * PLACES],
+        places: *const [u32; PLACE_WORDS * PLACES],
+        out: *mut u8,
+        out_len: usize,
+        told: *mut [usize; 2],
+    ) -> u32;
+    pub fn ow_lent_abort(
+        head: *mut Head,
+        held: *const [u32; HELD_WORDS * PLACES],
+        places: *const [u32; PLACE_WORDS * PLACES],
+        cause: u8,
+        tsn: u32,
+        out: *mut u8,
+        out_len: usize,
+        told: *mut [usize; 2],
+    ) -> u32;
+    pub fn ow_lent_error_stream(
+        head: *mut Head,
+        held: *const [u32; HELD_WORDS * PLACES],
+        places: *const [u32; PLACE_WORDS * PLACES],
+        stream: u16,
+        out: *mut u8,
+        out_len: usize,
+        told: *mut [usize; 2],
+    ) -> u32;
+    pub fn ow_lent_error_stale(
+        head: *mut Head,
+        held: *const [u32; HELD_WORDS * PLACES],
+        places: *const [u32; PLACE_WORDS * PLACES],
+        port: u16,
+        tag: u32,
+        late: u32,
+        out: *mut u8,
+        out_len: usize,
+        told: *mut [usize; 2],
+    ) -> u32;
+    pub fn ow_lent_heartbeat(
+        head: *mut Head,
+        held: *const [u32; HELD_WORDS * PLACES],
+        places: *const [u32; PLACE_WORDS * PLACES],
+        value: *const [u8; 8],
+        out: *mut u8,
+        out_len: usize,
+        told: *mut [usize; 2],
+    ) -> u32;
 }

@@ -1,6 +1,119 @@
-//! The functions of the library with slices in place of pointers and counts. The proved library is one implementation; a model of it can be another.
+//! The functions of the library over a whole record, with slices in place of pointers and counts. The proved library is one implementation; a model of it can be
+//! another.
 
-use crate::ffi::{Acknowledged, Answer, Arrived, Delivered, Echoed, HandedIn, Lent, Peeked, Record, Transmitted};
+use crate::ffi::{Record, BLOCKS, LISTED};
+
+#[derive(Clone, Copy, Debug, PartialEq, Eq)]
+pub struct Answer {
+    pub number: u8,
+    pub length: usize,
+    pub over: bool,
+}
+
+#[derive(Clone, Copy, Debug, PartialEq, Eq)]
+pub struct Peeked {
+    pub number: u8,
+    pub kind: u8,
+    pub source: u16,
+    pub tag: u32,
+    pub window: u32,
+    pub outs: u16,
+    pub ins: u16,
+    pub tsn: u32,
+    pub at: usize,
+    pub len: usize,
+}
+
+#[derive(Clone, Copy, Debug, Default, PartialEq, Eq)]
+pub struct Lent {
+    pub tag: u32,
+    pub tsn: u32,
+    pub streams: u16,
+}
+
+#[derive(Clone, Copy, Debug, Default, PartialEq, Eq)]
+pub struct Made {
+    pub my_tag: u32,
+    pub peer_tag: u32,
+    pub streams_in: u16,
+    pub streams_out: u16,
+    pub my_tsn: u32,
+    pub peer_tsn: u32,
+    pub window: u32,
+}
+
+#[derive(Clone, Copy, Debug, Default, PartialEq, Eq)]
+pub struct Echoed {
+    pub word: u8,
+    pub made: Made,
+}
+
+#[derive(Clone, Copy, Debug, PartialEq, Eq)]
+pub struct Verdict {
+    pub at: usize,
+    pub value: u32,
+    pub fate: u8,
+    pub number: u8,
+    pub cause: u8,
+    pub event: u8,
+}
+
+/// A verdict for each chunk of the packet.
+#[derive(Clone, Debug, PartialEq, Eq)]
+pub struct Arrived {
+    pub number: u8,
+    pub verdicts: Vec<Verdict>,
+    pub length: usize,
+}
+
+#[derive(Clone, Copy, Debug, PartialEq, Eq)]
+pub struct HandedIn {
+    pub number: u8,
+    pub chunks: usize,
+}
+
+#[derive(Clone, Copy, Debug, PartialEq, Eq)]
+pub struct Transmitted {
+    pub number: u8,
+    pub length: usize,
+    pub resent: bool,
+    pub first: u32,
+    pub last: u32,
+}
+
+#[derive(Clone, Copy, Debug, PartialEq, Eq)]
+pub struct Message {
+    pub length: usize,
+    pub stream: u16,
+    pub unordered: bool,
+    pub ssn: u16,
+    pub ppid: u32,
+}
+
+#[derive(Clone, Copy, Debug, PartialEq, Eq)]
+pub struct Delivered {
+    pub number: u8,
+    pub message: Message,
+}
+
+/// What a SACK says. Entries behind the first `blocks`, and the first `listed`, are 0.
+#[derive(Clone, Copy, Debug, PartialEq, Eq)]
+pub struct Sacked {
+    pub point: u32,
+    pub window: u32,
+    pub blocks: usize,
+    pub starts: [u16; BLOCKS],
+    pub ends: [u16; BLOCKS],
+    pub dups: [u32; LISTED],
+    pub listed: usize,
+}
+
+#[derive(Clone, Copy, Debug, PartialEq, Eq)]
+pub struct Acknowledged {
+    pub number: u8,
+    pub length: usize,
+    pub sack: Sacked,
+}
 
 /// What each call does and answers stands in `include/oilwhisper.h`.
 pub trait Library {
@@ -29,95 +142,267 @@ pub use proved::Proved;
 #[cfg(feature = "proved")]
 mod proved {
     use super::*;
-    use crate::ffi;
+    use crate::ffi::{self, Head, COOKIE_MOST, HELD_WORDS, PLACES, PLACE_WORDS, STREAMS, VERDICTS, VERDICT_WORDS};
+    use std::mem::{size_of, size_of_val, MaybeUninit};
+    use std::sync::Once;
 
     /// The proved library itself.
     #[derive(Clone, Copy, Debug)]
     pub struct Proved;
 
-    // Each `unsafe` rests on one thing: a reference is a pointer that is not null to a whole record, a slice one to as many bytes as its length says, and
+    /// The library that is linked is the one that this crate was written for, and is lent as much as it takes.
+    fn check_linked() {
+        static CHECKED: Once = Once::new();
+        CHECKED.call_once(|| {
+            assert_eq!(unsafe { ffi::ow_version() }, ffi::VERSION, "the version of the library that is linked");
+            let mut sizes = [0; 7];
+            unsafe { ffi::ow_sizes(&mut sizes) };
+            let Record { head, held, next_in, places, next_out, cookie } = &EMPTY;
+            let ours = [
+                size_of_val(head),
+                size_of_val(held),
+                size_of_val(next_in),
+                size_of_val(places),
+                size_of_val(next_out),
+                size_of_val(cookie),
+                size_of::<[u32; VERDICT_WORDS * VERDICTS]>(),
+            ];
+            assert_eq!(sizes, ours, "bytes of what the library is lent");
+        });
+    }
+
+    /// What `ow_lent_close` writes over.
+    const EMPTY: Record = Record {
+        head: Head {
+            state: 0,
+            tries: 0,
+            cookie_len: 0,
+            ends: ffi::Ends { local_port: 0, peer_port: 0, my_tag: 0, peer_tag: 0, streams_in: 0, streams_out: 0 },
+            keeping: ffi::Keeping { point: 0, come: [0; PLACES], dups: [0; LISTED], listed: 0 },
+            sender: ffi::Sender {
+                acked: 0,
+                next_tsn: 0,
+                advertised: 0,
+                oldest: 0,
+                path: ffi::Path {
+                    control: ffi::Control { cwnd: 0, ssthresh: 0, partial: 0 },
+                    clock: ffi::Clock { sampled: 0, srtt: 0, rttvar: 0, rto: 0 },
+                    flight: 0,
+                    running: 0,
+                    until: 0,
+                    tries: 0,
+                },
+            },
+        },
+        held: [0; HELD_WORDS * PLACES],
+        next_in: [0; STREAMS],
+        places: [0; PLACE_WORDS * PLACES],
+        next_out: [0; STREAMS],
+        cookie: [0; COOKIE_MOST],
+    };
+
+    fn answer(number: u32, [length, over]: [usize; 2]) -> Answer {
+        Answer { number: number as u8, length, over: over != 0 }
+    }
+
+    fn verdict(words: &[u32]) -> Verdict {
+        Verdict {
+            at: words[0] as usize,
+            value: words[1],
+            fate: (words[2] >> 8) as u8,
+            number: words[2] as u8,
+            cause: (words[3] >> 8) as u8,
+            event: words[3] as u8,
+        }
+    }
+
+    // Each `unsafe` rests on one thing: a reference is a pointer that is not null to a whole head or table, a slice one to as many bytes as its length says, and
     // Rust lets no `&mut` overlap another borrow. The header asks for no more.
     impl Library for Proved {
         fn closed(port: u16) -> Record {
-            unsafe { ffi::ow_closed(port) }
+            check_linked();
+            let mut record = EMPTY;
+            let Record { head, held, next_in, places, next_out, cookie } = &mut record;
+            unsafe { ffi::ow_lent_close(head, held, next_in, places, next_out, cookie, port) };
+            record
         }
 
         fn peek(packet: &[u8]) -> Peeked {
-            unsafe { ffi::ow_peek(packet.as_ptr(), packet.len()) }
-        }
-
-        fn arrive(record: &mut Record, area: &mut [u8], packet: &[u8], lent: Lent, cookie: &[u8], echoed: Echoed, out: &mut [u8]) -> Arrived {
-            unsafe {
-                ffi::ow_arrive(
-                    record,
-                    area.as_mut_ptr(),
-                    area.len(),
-                    packet.as_ptr(),
-                    packet.len(),
-                    lent,
-                    cookie.as_ptr(),
-                    cookie.len(),
-                    echoed,
-                    out.as_mut_ptr(),
-                    out.len(),
-                )
+            let mut told = [0; 9];
+            let number = unsafe { ffi::ow_lent_peek(packet.as_ptr(), packet.len(), &mut told) } as u8;
+            let [kind, source, tag, window, outs, ins, tsn, at, len] = told;
+            Peeked {
+                number,
+                kind: kind as u8,
+                source: source as u16,
+                tag: tag as u32,
+                window: window as u32,
+                outs: outs as u16,
+                ins: ins as u16,
+                tsn: tsn as u32,
+                at,
+                len,
             }
         }
 
+        fn arrive(record: &mut Record, area: &mut [u8], packet: &[u8], lent: Lent, cookie: &[u8], echoed: Echoed, out: &mut [u8]) -> Arrived {
+            let Record { head, held, next_in, places, next_out, cookie: kept_cookie } = record;
+            let Echoed { word, made } = echoed;
+            let mut verdicts = MaybeUninit::<[u32; VERDICT_WORDS * VERDICTS]>::uninit();
+            let mut told = [0; 2];
+            let number = unsafe {
+                ffi::ow_lent_arrive(
+                    head,
+                    held,
+                    next_in,
+                    places,
+                    next_out,
+                    kept_cookie,
+                    area.as_mut_ptr(),
+                    area.len(),
+                    verdicts.as_mut_ptr(),
+                    packet.as_ptr(),
+                    packet.len(),
+                    lent.tag,
+                    lent.tsn,
+                    lent.streams,
+                    cookie.as_ptr(),
+                    cookie.len(),
+                    word,
+                    made.my_tag,
+                    made.peer_tag,
+                    made.streams_in,
+                    made.streams_out,
+                    made.my_tsn,
+                    made.peer_tsn,
+                    made.window,
+                    out.as_mut_ptr(),
+                    out.len(),
+                    &mut told,
+                )
+            };
+            let [count, length] = told;
+            // So many verdicts were written, and the words behind them were not.
+            let written = unsafe { std::slice::from_raw_parts(verdicts.as_ptr().cast(), VERDICT_WORDS * count) };
+            Arrived { number: number as u8, verdicts: written.chunks_exact(VERDICT_WORDS).map(verdict).collect(), length }
+        }
+
         fn associate(record: &mut Record, tag: u32, tsn: u32, port: u16, streams: u16, out: &mut [u8]) -> Answer {
-            unsafe { ffi::ow_associate(record, tag, tsn, port, streams, out.as_mut_ptr(), out.len()) }
+            let Record { head, held, next_in, places, next_out, cookie } = record;
+            let mut told = [0; 2];
+            let number = unsafe {
+                ffi::ow_lent_associate(head, held, next_in, places, next_out, cookie, tag, tsn, port, streams, out.as_mut_ptr(), out.len(), &mut told)
+            };
+            answer(number, told)
         }
 
         fn hand_in(record: &mut Record, area: &mut [u8], message: &[u8], stream: u16, unordered: u8, ppid: u32) -> HandedIn {
-            unsafe { ffi::ow_hand_in(record, area.as_mut_ptr(), area.len(), message.as_ptr(), message.len(), stream, unordered, ppid) }
+            let Record { head, held, places, .. } = record;
+            let mut told = [0; 1];
+            let number = unsafe {
+                ffi::ow_lent_hand_in(
+                    head,
+                    held,
+                    places,
+                    area.as_mut_ptr(),
+                    area.len(),
+                    message.as_ptr(),
+                    message.len(),
+                    stream,
+                    unordered,
+                    ppid,
+                    &mut told,
+                )
+            };
+            HandedIn { number: number as u8, chunks: told[0] }
         }
 
         fn transmit(record: &mut Record, area: &[u8], out: &mut [u8]) -> Transmitted {
-            unsafe { ffi::ow_transmit(record, area.as_ptr(), area.len(), out.as_mut_ptr(), out.len()) }
+            let Record { head, held, places, next_out, .. } = record;
+            let mut told = [0; 4];
+            let number =
+                unsafe { ffi::ow_lent_transmit(head, held, places, next_out, area.as_ptr(), area.len(), out.as_mut_ptr(), out.len(), &mut told) };
+            let [length, resent, first, last] = told;
+            Transmitted { number: number as u8, length, resent: resent != 0, first: first as u32, last: last as u32 }
         }
 
         fn take(record: &mut Record, area: &[u8], out: &mut [u8]) -> Delivered {
-            unsafe { ffi::ow_take(record, area.as_ptr(), area.len(), out.as_mut_ptr(), out.len()) }
+            let Record { head, held, next_in, places, .. } = record;
+            let mut told = [0; 5];
+            let number = unsafe { ffi::ow_lent_take(head, held, next_in, places, area.as_ptr(), area.len(), out.as_mut_ptr(), out.len(), &mut told) };
+            let [length, stream, unordered, ssn, ppid] = told;
+            let message = Message { length, stream: stream as u16, unordered: unordered != 0, ssn: ssn as u16, ppid: ppid as u32 };
+            Delivered { number: number as u8, message }
         }
 
         fn sack(record: &mut Record, out: &mut [u8]) -> Acknowledged {
-            unsafe { ffi::ow_sack(record, out.as_mut_ptr(), out.len()) }
+            let Record { head, held, places, .. } = record;
+            let (mut starts, mut ends, mut dups, mut told) = ([0; BLOCKS], [0; BLOCKS], [0; LISTED], [0; 5]);
+            let number = unsafe { ffi::ow_lent_sack(head, held, places, out.as_mut_ptr(), out.len(), &mut starts, &mut ends, &mut dups, &mut told) };
+            let [length, point, window, blocks, listed] = told;
+            let sack = Sacked { point: point as u32, window: window as u32, blocks, starts, ends, dups, listed };
+            Acknowledged { number: number as u8, length, sack }
         }
 
         fn t1(record: &mut Record, out: &mut [u8]) -> Answer {
-            unsafe { ffi::ow_t1(record, out.as_mut_ptr(), out.len()) }
+            let Record { head, held, places, cookie, .. } = record;
+            let mut told = [0; 2];
+            let number = unsafe { ffi::ow_lent_t1(head, held, places, cookie, out.as_mut_ptr(), out.len(), &mut told) };
+            answer(number, told)
         }
 
         fn t2(record: &mut Record, out: &mut [u8]) -> Answer {
-            unsafe { ffi::ow_t2(record, out.as_mut_ptr(), out.len()) }
+            let Record { head, held, places, cookie, .. } = record;
+            let mut told = [0; 2];
+            let number = unsafe { ffi::ow_lent_t2(head, held, places, cookie, out.as_mut_ptr(), out.len(), &mut told) };
+            answer(number, told)
         }
 
         fn t3(record: &mut Record) -> Answer {
-            unsafe { ffi::ow_t3(record) }
+            let mut told = [0; 2];
+            let number = unsafe { ffi::ow_lent_t3(&mut record.head, &record.held, &mut record.places, &mut told) };
+            answer(number, told)
         }
 
         fn rtt(record: &mut Record, sample: u32) -> Answer {
-            unsafe { ffi::ow_rtt(record, sample) }
+            let mut told = [0; 2];
+            let number = unsafe { ffi::ow_lent_rtt(&mut record.head, &record.held, &record.places, sample, &mut told) };
+            answer(number, told)
         }
 
         fn shutdown(record: &mut Record, out: &mut [u8]) -> Answer {
-            unsafe { ffi::ow_shutdown(record, out.as_mut_ptr(), out.len()) }
+            let Record { head, held, places, .. } = record;
+            let mut told = [0; 2];
+            let number = unsafe { ffi::ow_lent_shutdown(head, held, places, out.as_mut_ptr(), out.len(), &mut told) };
+            answer(number, told)
         }
 
         fn abort(record: &mut Record, cause: u8, tsn: u32, out: &mut [u8]) -> Answer {
-            unsafe { ffi::ow_abort(record, cause, tsn, out.as_mut_ptr(), out.len()) }
+            let Record { head, held, places, .. } = record;
+            let mut told = [0; 2];
+            let number = unsafe { ffi::ow_lent_abort(head, held, places, cause, tsn, out.as_mut_ptr(), out.len(), &mut told) };
+            answer(number, told)
         }
 
         fn error_stream(record: &mut Record, stream: u16, out: &mut [u8]) -> Answer {
-            unsafe { ffi::ow_error_stream(record, stream, out.as_mut_ptr(), out.len()) }
+            let Record { head, held, places, .. } = record;
+            let mut told = [0; 2];
+            let number = unsafe { ffi::ow_lent_error_stream(head, held, places, stream, out.as_mut_ptr(), out.len(), &mut told) };
+            answer(number, told)
         }
 
         fn error_stale(record: &mut Record, port: u16, tag: u32, late: u32, out: &mut [u8]) -> Answer {
-            unsafe { ffi::ow_error_stale(record, port, tag, late, out.as_mut_ptr(), out.len()) }
+            let Record { head, held, places, .. } = record;
+            let mut told = [0; 2];
+            let number = unsafe { ffi::ow_lent_error_stale(head, held, places, port, tag, late, out.as_mut_ptr(), out.len(), &mut told) };
+            answer(number, told)
         }
 
         fn heartbeat(record: &mut Record, value: [u8; 8], out: &mut [u8]) -> Answer {
-            unsafe { ffi::ow_heartbeat(record, ffi::Value { bytes: value }, out.as_mut_ptr(), out.len()) }
+            let Record { head, held, places, .. } = record;
+            let mut told = [0; 2];
+            let number = unsafe { ffi::ow_lent_heartbeat(head, held, places, &value, out.as_mut_ptr(), out.len(), &mut told) };
+            answer(number, told)
         }
     }
 }

@@ -261,7 +261,7 @@ fn sends_four_packets_at_a_time<L: Library>() {
     assert!(pair.run_until(MINUTE, |pair| hand_in(pair, all) && !pair.ends[0].endpoint.standing().has_outstanding()));
     pair.run_for(Duration::from_secs(1));
     // The congestion window is wide, and there is plenty to send.
-    assert!(pair.ends[0].endpoint.core().record().sending.path.control.cwnd > 20_000);
+    assert!(pair.ends[0].endpoint.core().record().head.sender.path.control.cwnd > 20_000);
     let before = sent(&pair, 0, DATA);
     hand_in(&mut pair, all + 100);
     pair.run_for(Duration::from_millis(1));

@@ -17,8 +17,7 @@ use std::collections::{HashSet, VecDeque};
 use std::net::{IpAddr, SocketAddr};
 use std::time::{Duration, Instant};
 
-/// Fewer where the proved library runs too, which may be emulated.
-const STEPS: u32 = if cfg!(feature = "proved") { 80_000 } else { 200_000 };
+const STEPS: u32 = 200_000;
 const PORTS: [u16; 2] = [5000, 5001];
 const FIRST_TSN: u32 = u32::MAX - 99;
 /// Where the tried endpoint is.
@@ -406,7 +405,7 @@ impl<L: Library> World<L> {
         }
         let standing = self.tried.standing();
         let tag = match self.chance.below(10) {
-            0 if self.knows_tags => self.tried.core().record().ends.peer_tag,
+            0 if self.knows_tags => self.tried.core().record().head.ends.peer_tag,
             1 => self.chance.number() as u32,
             _ if chunks[0][0] == INIT => 0,
             _ if self.knows_tags && self.chance.happens(0.4) => standing.my_tag,
@@ -428,8 +427,8 @@ impl<L: Library> World<L> {
     }
 
     fn random_chunk(&mut self) -> Vec<u8> {
-        let record = self.tried.core().record();
-        let (point, acked) = (record.receiving.keeping.point, record.sending.acked);
+        let head = self.tried.core().record().head;
+        let (point, acked) = (head.keeping.point, head.sender.acked);
         let near = |base: u32, by: u64| base.wrapping_add(by as u32).wrapping_sub(2).to_be_bytes();
         let flags = if self.chance.happens(0.3) { self.chance.number() as u8 } else { 3 };
         let mut random = |length: u64| (0..length).map(|_| self.chance.number() as u8).collect::<Vec<u8>>();

@@ -42,32 +42,13 @@ fn claims() -> String {
     let claims = &mut text;
     layouts! { claims:
         ow_ends Ends { local_port peer_port my_tag peer_tag streams_in streams_out }
-        ow_cookie Cookie { bytes len }
         ow_keeping Keeping { point come dups listed }
-        ow_held Held { used begin end unordered tsn stream ssn ppid len }
-        ow_receiving Receiving { keeping held next }
-        ow_chunk Chunk { tsn order stream ssn ppid len begin end unordered }
-        ow_place Place { status misses chunk }
         ow_control Control { cwnd ssthresh partial }
         ow_clock Clock { sampled srtt rttvar rto }
         ow_path Path { control clock flight running until tries }
-        ow_sending Sending { acked next_tsn advertised oldest places next path }
-        ow_association Record { state tries ends cookie receiving sending }
-        ow_answer Answer { number length over }
-        ow_peeked Peeked { number kind source tag window outs ins tsn at len }
-        ow_lent Lent { tag tsn streams }
-        ow_made Made { my_tag peer_tag streams_in streams_out my_tsn peer_tsn window }
-        ow_echoed Echoed { word made }
-        ow_verdict Verdict { at value fate number cause event }
-        ow_arrived Arrived { number count verdicts length }
-        ow_handed_in HandedIn { number chunks }
-        ow_transmitted Transmitted { number length resent first last }
-        ow_message Message { length stream unordered ssn ppid }
-        ow_delivered Delivered { number message }
-        ow_blocks Blocks { count starts ends }
-        ow_sacked Sacked { point window blocks dups listed }
-        ow_acknowledged Acknowledged { number length sack }
-        ow_value Value { bytes }
+        ow_sender Sender { acked next_tsn advertised oldest path }
+        ow_head Head { state tries cookie_len ends keeping sender }
+        ow_association Record { head held next_in places next_out cookie }
     }
     numbers! { claims:
         OW_PLACES ffi::PLACES,
@@ -81,6 +62,10 @@ fn claims() -> String {
         OW_LISTED ffi::LISTED,
         OW_BLOCKS ffi::BLOCKS,
         OW_VERDICTS ffi::VERDICTS,
+        OW_HELD_WORDS ffi::HELD_WORDS,
+        OW_PLACE_WORDS ffi::PLACE_WORDS,
+        OW_VERDICT_WORDS ffi::VERDICT_WORDS,
+        OW_VERSION ffi::VERSION,
         OW_HEAD Refusal::TAG.0,
         OW_STATE Refusal::STATE.0,
         OW_DUPLICATE Refusal::DUPLICATE.0,
@@ -170,28 +155,43 @@ fn a_wrong_claim_is_refused() {
     assert!(complaints("cc", "c", "_Static_assert", "CLAIM(OW_STALE == 16);\n").contains("OW_STALE"));
 }
 
-/// The declarations of the header and of `ffi`: the same functions, in C and in Rust.
+/// The functions that are linked: the same declarations in the header and in `ffi`, and as they are proved.
 #[test]
 fn every_function_is_declared_alike() {
-    let header = declarations(include_str!("../../include/oilwhisper.h"), "struct ow_");
-    let declared = declarations(include_str!("../src/ffi.rs"), "pub fn ow_");
-    let expected: Vec<String> = header.iter().map(|declaration| rust_of(declaration)).collect();
-    assert_eq!(expected.len(), 17);
-    for function in &expected {
-        assert!(declared.contains(function), "{} is not among {:#?}", function, declared);
+    let proved: Vec<String> = exported().iter().map(|declaration| rust_of_proved(declaration)).collect();
+    let header: Vec<String> = declared_in_c().iter().map(|declaration| rust_of_c(declaration)).collect();
+    let linked: Vec<String> = declarations(include_str!("../src/ffi.rs"), "pub fn ow_").iter().map(|declaration| in_numbers(declaration)).collect();
+    assert_eq!(proved.len(), 19);
+    for (place, others) in [("the header", header), ("ffi.rs", linked)] {
+        for function in &proved {
+            assert!(others.contains(function), "{} is not among those of {}: {:#?}", function, place, others);
+        }
+        assert_eq!(others.len(), proved.len(), "{}", place);
     }
-    assert_eq!(declared.len(), expected.len());
 }
 
-/// A `bool` that is neither 0 nor 1 means nothing in C. So an answer may have one, and what is lent may not, but for the chunks of a record.
+/// A `bool` that is neither 0 nor 1 means nothing in C. So an answer may have one, and what is lent may not.
 #[test]
-fn no_other_struct_has_a_bool() {
+fn only_answers_have_a_bool() {
     let header = include_str!("../../include/oilwhisper.h");
     let structs = header.split("\nstruct ow_").skip(1).filter_map(|after| after.split_once(" {"));
     let with_bool = structs.filter(|(_, fields)| fields.split('}').next().unwrap_or_default().contains("bool "));
     let mut names: Vec<&str> = with_bool.map(|(name, _)| name).collect();
     names.sort_unstable();
-    assert_eq!(names, ["answer", "chunk", "held", "message", "transmitted"]);
+    assert_eq!(names, ["answer", "held", "message", "place", "transmitted"]);
+}
+
+/// The exported functions of the proved crate, each without its promise and on one line.
+fn exported() -> Vec<String> {
+    let folder = Path::new(env!("CARGO_MANIFEST_DIR")).join("../crates/face/src");
+    let sources = std::fs::read_dir(folder).expect("the proved crate has sources").flatten();
+    let texts = sources.map(|source| std::fs::read_to_string(source.path()).expect("a source is text"));
+    texts.flat_map(|text| declarations(&text.replace("\n    ensures", ";"), "pub extern \"C\" fn ow_")).collect()
+}
+
+fn declared_in_c() -> Vec<String> {
+    let header = include_str!("../../include/oilwhisper.h");
+    ["uint32_t ow_", "void ow_"].iter().flat_map(|begins| declarations(header, begins)).collect()
 }
 
 /// The declarations of functions, each without its semicolon and on one line; one begins a line with these words.
@@ -199,43 +199,77 @@ fn declarations(text: &str, begins: &str) -> Vec<String> {
     let mut found = Vec::new();
     for (at, _) in text.match_indices(begins) {
         let starts_line = text[..at].chars().rev().take_while(|c| *c != '\n').all(char::is_whitespace);
-        let declaration = text[at..].split(';').next().unwrap_or_default();
-        if starts_line && declaration.contains('(') && !declaration.contains('{') {
-            let line = declaration.split_whitespace().collect::<Vec<_>>().join(" ");
+        let mut depth = 0;
+        // A semicolon within brackets is one of an array's type.
+        let ends = text[at..].find(|c| {
+            depth += i32::from(c == '[') - i32::from(c == ']');
+            c == ';' && depth == 0
+        });
+        if starts_line {
+            let line = text[at..at + ends.expect("a declaration ends")].split_whitespace().collect::<Vec<_>>().join(" ");
             found.push(line.replace("( ", "(").replace(", )", ")"));
         }
     }
     found
 }
 
-/// A declaration of C, `struct ow_peeked ow_peek(const uint8_t *packet, size_t packet_len)`, in Rust.
-fn rust_of(declaration: &str) -> String {
+/// A declaration of the proved crate, `pub extern "C" fn ow_lent_t3(k: &mut Kept, held: &[u32; 512], ...) -> u32`, as one of `ffi`.
+fn rust_of_proved(declaration: &str) -> String {
+    let (head, rest) = declaration.split_once('(').expect("a function has parameters");
+    let (parameters, answer) = rest.split_once(')').expect("parameters end");
+    let each = parameters.split(", ").filter(|parameter| !parameter.is_empty()).map(|parameter| {
+        let (name, of) = parameter.split_once(": ").expect("a name stands before the type");
+        match of {
+            "&mut Kept" => "head: *mut Head".into(),
+            "&[u8]" => format!("{name}: *const u8, {name}_len: usize"),
+            "&mut [u8]" => format!("{name}: *mut u8, {name}_len: usize"),
+            of => format!("{}: {}", name, of.replace("&mut ", "*mut ").replace('&', "*const ")),
+        }
+    });
+    format!("{}({}){}", head.replace("pub extern \"C\"", "pub"), each.collect::<Vec<_>>().join(", "), answer)
+}
+
+/// A declaration of C, `uint32_t ow_lent_t3(struct ow_head *head, const uint32_t held[OW_HELD_WORDS], ...)`, as one of `ffi`.
+fn rust_of_c(declaration: &str) -> String {
     let (head, parameters) = declaration.split_once('(').expect("a function has parameters");
     let (answer, name) = head.rsplit_once(' ').expect("an answer stands before the name");
-    let parameters: Vec<String> = parameters.trim_end_matches(')').split(", ").map(parameter_of).collect();
-    format!("pub fn {}({}) -> {}", name, parameters.join(", "), type_of(answer))
+    let parameters = parameters.trim_end_matches(')').split(", ").filter(|parameter| *parameter != "void").map(parameter_of);
+    let answer = if answer == "void" { String::new() } else { format!(" -> {}", type_of(answer)) };
+    in_numbers(&format!("pub fn {}({}){}", name, parameters.collect::<Vec<_>>().join(", "), answer))
 }
 
 fn parameter_of(parameter: &str) -> String {
+    let (parameter, count) = parameter.trim_end_matches(']').split_once('[').map_or((parameter, None), |(before, count)| (before, Some(count)));
     let (of, name) = parameter.rsplit_once(' ').expect("a type stands before the name");
-    match (name.strip_prefix('*'), of.strip_prefix("const ")) {
-        (Some(name), Some(of)) => format!("{}: *const {}", name, type_of(of)),
-        (Some(name), None) => format!("{}: *mut {}", name, type_of(of)),
-        (None, _) => format!("{}: {}", name, type_of(of)),
+    let (pointer, of) = of.strip_prefix("const ").map_or(("*mut", of), |of| ("*const", of));
+    match (name.strip_prefix('*'), count) {
+        (Some(name), _) => format!("{}: {} {}", name, pointer, type_of(of)),
+        (None, Some(count)) => format!("{}: {} [{}; {}]", name, pointer, type_of(of), count.replace("OW_", "")),
+        (None, None) => format!("{}: {}", name, type_of(of)),
     }
 }
 
-/// A type of C in Rust; a struct's name loses `ow_` and its underscores there.
-fn type_of(of: &str) -> String {
+fn type_of(of: &str) -> &str {
     match of {
-        "uint8_t" => "u8".into(),
-        "uint16_t" | "ow_stream" => "u16".into(),
-        "uint32_t" | "ow_tsn" => "u32".into(),
-        "size_t" => "usize".into(),
-        "struct ow_association" => "Record".into(),
-        _ => {
-            let words = of.strip_prefix("struct ow_").unwrap_or_else(|| panic!("{} is no type of the header", of)).split('_');
-            words.map(|word| word[..1].to_uppercase() + &word[1..]).collect()
-        }
+        "uint8_t" => "u8",
+        "uint16_t" | "ow_stream" | "ow_ssn" => "u16",
+        "uint32_t" | "ow_tsn" => "u32",
+        "size_t" => "usize",
+        "struct ow_head" => "Head",
+        _ => panic!("{} is no type that crosses", of),
     }
+}
+
+/// Counts as numbers in place of names.
+fn in_numbers(declaration: &str) -> String {
+    let counts = [
+        ("HELD_WORDS * PLACES", ffi::HELD_WORDS * ffi::PLACES),
+        ("PLACE_WORDS * PLACES", ffi::PLACE_WORDS * ffi::PLACES),
+        ("VERDICT_WORDS * VERDICTS", ffi::VERDICT_WORDS * ffi::VERDICTS),
+        ("STREAMS", ffi::STREAMS),
+        ("COOKIE_MOST", ffi::COOKIE_MOST),
+        ("BLOCKS", ffi::BLOCKS),
+        ("LISTED", ffi::LISTED),
+    ];
+    counts.iter().fold(declaration.into(), |text: String, (name, count)| text.replace(&format!("; {}]", name), &format!("; {}]", count)))
 }

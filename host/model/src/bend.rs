@@ -4,6 +4,9 @@ use crate::checksum;
 use crate::random::Random;
 use crate::record::*;
 
+/// The greatest length that a place can have: the core keeps it in 12 bits.
+const LENGTH_MOST: u16 = 4_095;
+
 /// One field gets a value that it should not have, or just another.
 pub fn record(r: &mut Random, a: &mut Association) {
     match r.below(4) {
@@ -56,7 +59,7 @@ fn receiving(r: &mut Random, k: &mut Receiving) {
         4 => k.keeping.point = near(r, k.keeping.point),
         5 => k.held[i].tsn = k.held[j].tsn,
         6 => k.held[i].used = !k.held[i].used,
-        7 => k.held[i].len = r.pick(&[0, 1, 512, 513, 65_535]),
+        7 => k.held[i].len = r.pick(&[0, 1, 512, 513, LENGTH_MOST]),
         8 => k.held[i].stream = r.pick(&[0, 127, 128, 65_535]),
         9 => k.held[i] = k.held[j],
         _ => k.held[i].tsn = near(r, k.held[i].tsn),
@@ -69,7 +72,7 @@ fn place(r: &mut Random, s: &mut Sending) {
     match r.below(8) {
         0 => s.places[i].status = r.pick(&[0, 1, 2, 3, 4, 5, 255]),
         1 => s.places[i].misses = r.pick(&[0, 3, 4, 255]),
-        2 => s.places[i].chunk.len = r.pick(&[0, 1, 512, 513, 65_535]),
+        2 => s.places[i].chunk.len = r.pick(&[0, 1, 512, 513, LENGTH_MOST]),
         3 => s.places[i].chunk.stream = r.pick(&[0, 127, 128, 65_535]),
         4 => s.places[i].chunk.tsn = near(r, s.places[i].chunk.tsn),
         5 => s.places[i].chunk.order = near(r, s.places[i].chunk.order),

@@ -1,96 +1,89 @@
 //! The model as a library, so that whatever runs on the proved one runs on it too.
 
-use model::record::{self, Association};
+pub mod alike;
+
+use alike::{record_of, shown, store, Alike};
+use model::record::Association;
 use model::{Core, Model};
-use oilwhisper::ffi::{Acknowledged, Answer, Arrived, Delivered, Echoed, HandedIn, Lent, Peeked, Record, Transmitted};
-use oilwhisper::library::Library;
-use std::mem::{align_of, size_of, transmute};
+use oilwhisper::ffi::Record;
+use oilwhisper::library::{Acknowledged, Answer, Arrived, Delivered, Echoed, HandedIn, Lent, Library, Peeked, Transmitted};
 
 pub struct Modelled;
 
-// The model's structs have the fields of the header's, in the same order and C's layout, as those of `ffi` have.
-const _: () = assert!(size_of::<Record>() == size_of::<Association>() && align_of::<Record>() == align_of::<Association>());
-
-fn lent(record: &mut Record) -> &mut Association {
-    unsafe { &mut *(record as *mut Record).cast() }
+/// The call is made of what the record shows.
+fn lent<Theirs: Alike<Ours>, Ours>(record: &mut Record, call: impl FnOnce(&mut Association) -> Theirs) -> Ours {
+    let mut a = shown(record);
+    let answer = call(&mut a);
+    store(&a, record);
+    answer.alike()
 }
 
 impl Library for Modelled {
     fn closed(port: u16) -> Record {
-        unsafe { transmute(Model.closed(port)) }
+        record_of(&Model.closed(port))
     }
 
     fn peek(packet: &[u8]) -> Peeked {
-        unsafe { transmute(Model.peek(packet)) }
+        Model.peek(packet).alike()
     }
 
     fn arrive(record: &mut Record, area: &mut [u8], packet: &[u8], values: Lent, cookie: &[u8], echoed: Echoed, out: &mut [u8]) -> Arrived {
-        unsafe {
-            transmute(Model.arrive(
-                lent(record),
-                area,
-                packet,
-                transmute::<Lent, record::Lent>(values),
-                cookie,
-                transmute::<Echoed, record::Echoed>(echoed),
-                out,
-            ))
-        }
+        lent(record, |a| Model.arrive(a, area, packet, values.alike(), cookie, echoed.alike(), out))
     }
 
     fn associate(record: &mut Record, tag: u32, tsn: u32, port: u16, streams: u16, out: &mut [u8]) -> Answer {
-        unsafe { transmute(Model.associate(lent(record), tag, tsn, port, streams, out)) }
+        lent(record, |a| Model.associate(a, tag, tsn, port, streams, out))
     }
 
     fn hand_in(record: &mut Record, area: &mut [u8], message: &[u8], stream: u16, unordered: u8, ppid: u32) -> HandedIn {
-        unsafe { transmute(Model.hand_in(lent(record), area, message, stream, unordered, ppid)) }
+        lent(record, |a| Model.hand_in(a, area, message, stream, unordered, ppid))
     }
 
     fn transmit(record: &mut Record, area: &[u8], out: &mut [u8]) -> Transmitted {
-        unsafe { transmute(Model.transmit(lent(record), area, out)) }
+        lent(record, |a| Model.transmit(a, area, out))
     }
 
     fn take(record: &mut Record, area: &[u8], out: &mut [u8]) -> Delivered {
-        unsafe { transmute(Model.take(lent(record), area, out)) }
+        lent(record, |a| Model.take(a, area, out))
     }
 
     fn sack(record: &mut Record, out: &mut [u8]) -> Acknowledged {
-        unsafe { transmute(Model.sack(lent(record), out)) }
+        lent(record, |a| Model.sack(a, out))
     }
 
     fn t1(record: &mut Record, out: &mut [u8]) -> Answer {
-        unsafe { transmute(Model.t1(lent(record), out)) }
+        lent(record, |a| Model.t1(a, out))
     }
 
     fn t2(record: &mut Record, out: &mut [u8]) -> Answer {
-        unsafe { transmute(Model.t2(lent(record), out)) }
+        lent(record, |a| Model.t2(a, out))
     }
 
     fn t3(record: &mut Record) -> Answer {
-        unsafe { transmute(Model.t3(lent(record))) }
+        lent(record, |a| Model.t3(a))
     }
 
     fn rtt(record: &mut Record, sample: u32) -> Answer {
-        unsafe { transmute(Model.rtt(lent(record), sample)) }
+        lent(record, |a| Model.rtt(a, sample))
     }
 
     fn shutdown(record: &mut Record, out: &mut [u8]) -> Answer {
-        unsafe { transmute(Model.shutdown(lent(record), out)) }
+        lent(record, |a| Model.shutdown(a, out))
     }
 
     fn abort(record: &mut Record, cause: u8, tsn: u32, out: &mut [u8]) -> Answer {
-        unsafe { transmute(Model.abort(lent(record), cause, tsn, out)) }
+        lent(record, |a| Model.abort(a, cause, tsn, out))
     }
 
     fn error_stream(record: &mut Record, stream: u16, out: &mut [u8]) -> Answer {
-        unsafe { transmute(Model.error_stream(lent(record), stream, out)) }
+        lent(record, |a| Model.error_stream(a, stream, out))
     }
 
     fn error_stale(record: &mut Record, port: u16, tag: u32, late: u32, out: &mut [u8]) -> Answer {
-        unsafe { transmute(Model.error_stale(lent(record), port, tag, late, out)) }
+        lent(record, |a| Model.error_stale(a, port, tag, late, out))
     }
 
     fn heartbeat(record: &mut Record, value: [u8; 8], out: &mut [u8]) -> Answer {
-        unsafe { transmute(Model.heartbeat(lent(record), value, out)) }
+        lent(record, |a| Model.heartbeat(a, value, out))
     }
 }

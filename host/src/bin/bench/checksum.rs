@@ -3,20 +3,21 @@
 
 use crate::clock::{self, opaque};
 use oilwhisper::library::{Library, Proved};
-use std::arch::x86_64::{_mm_crc32_u64, _mm_crc32_u8};
 
 const CHECKSUM: u8 = 3;
 
 extern "C" {
     fn sliced_ready();
     fn sliced_crc32c(bytes: *const u8, count: usize) -> u32;
+    fn has_crc32c_instruction() -> bool;
+    fn instruction_crc32c(bytes: *const u8, count: usize) -> u32;
 }
 
 /// Bytes per second.
 pub struct Speeds {
     pub proved: f64,
     pub sliced: f64,
-    /// None where the processor has no SSE4.2.
+    /// None where the processor has no instruction for it.
     pub instruction: Option<f64>,
 }
 
@@ -28,14 +29,9 @@ pub fn sliced(bytes: &[u8]) -> u32 {
     unsafe { sliced_crc32c(bytes.as_ptr(), bytes.len()) }
 }
 
-#[target_feature(enable = "sse4.2")]
+/// Only where the processor has one.
 unsafe fn instruction(bytes: &[u8]) -> u32 {
-    let mut eights = bytes.chunks_exact(8);
-    let mut c = 0xffff_ffff;
-    for eight in &mut eights {
-        c = _mm_crc32_u64(c, u64::from_le_bytes([eight[0], eight[1], eight[2], eight[3], eight[4], eight[5], eight[6], eight[7]]));
-    }
-    !eights.remainder().iter().fold(c as u32, |c, byte| _mm_crc32_u8(c, *byte))
+    instruction_crc32c(bytes.as_ptr(), bytes.len())
 }
 
 /// A packet with one chunk of a type that `ow_peek` does not look into, sealed.
@@ -53,7 +49,7 @@ pub fn speeds(length: usize) -> Speeds {
     assert_eq!(Proved::peek(&bytes).number, 0, "the sum of C is the one that the library asks for");
     bytes[8] ^= 1;
     assert_eq!(Proved::peek(&bytes).number, CHECKSUM);
-    let has_instruction = is_x86_feature_detected!("sse4.2");
+    let has_instruction = unsafe { has_crc32c_instruction() };
     if has_instruction {
         assert_eq!(unsafe { instruction(&bytes) }, sliced(&bytes));
     }

@@ -4,8 +4,8 @@ use crate::clock;
 use crate::ends::{open, Opened};
 use crate::paths::MESSAGE;
 use oilwhisper::calls::{AREA, OUTPUT, PAYLOAD};
-use oilwhisper::ffi::{Echoed, Lent, Record};
-use oilwhisper::library::{Library, Proved};
+use oilwhisper::ffi::Record;
+use oilwhisper::library::{Echoed, Lent, Library, Proved};
 
 pub const CALLS: [&str; 6] = ["arrive", "take", "sack", "hand_in", "transmit", "SACK arrives"];
 
@@ -71,7 +71,7 @@ pub fn fill(count: usize) -> Filled {
     assert!(count < AREA / PAYLOAD);
     let Opened { sender, receiver, .. } = open();
     let (mut sender, mut receiver) = (Lone::new(sender.record().clone()), Lone::new(receiver.record().clone()));
-    sender.record.sending.path.control.cwnd = CWND;
+    sender.record.head.sender.path.control.cwnd = CWND;
     let (mut handing_in, mut transmitting, mut arriving) = (sender.clone(), sender.clone(), receiver.clone());
     let mut packets = Vec::new();
     for _ in 0..=count {

@@ -10,9 +10,8 @@ mod paths;
 #[cfg(feature = "usrsctp")]
 mod usrsctp;
 
-use oilwhisper::ffi::{Arrived, Record};
+use oilwhisper::ffi::{Record, VERDICTS, VERDICT_WORDS};
 use paths::{Cost, Ours, Pair, MESSAGE};
-use std::arch::x86_64::__cpuid;
 use std::mem::size_of;
 
 const HELD: [usize; 4] = [0, 16, 64, 127];
@@ -28,24 +27,10 @@ fn main() {
         std::process::exit(2);
     }
     checksum::ready();
-    println!("{}", processor());
     for (name, print) in PARTS {
         if asked.is_empty() || asked.iter().any(|word| word == name) {
             print();
         }
-    }
-}
-
-/// An emulator of instructions gives its name where a hypervisor would.
-fn processor() -> &'static str {
-    // Later compilers hold this to be safe; 1.63 does not.
-    #[allow(unused_unsafe)]
-    let told = unsafe { __cpuid(0x4000_0000) };
-    match [told.ebx, told.ecx, told.edx].map(u32::to_le_bytes) {
-        [a, b, c] if [a, b, c].concat() == b"TCGTCGTCGTCG" => {
-            "This processor is emulated: no time below is one of real hardware, and ratios compare emulated instructions at best."
-        }
-        _ => "Times of this processor.",
     }
 }
 
@@ -79,15 +64,18 @@ fn print_path(name: &str, costs: impl Iterator<Item = Cost>) {
 
 fn print_checksums() {
     println!("\nChecksum, MB/s (ours is the whole of an ow_peek that refuses the packet for its checksum)");
-    println!("{:<8} {:>12} {:>16} {:>14} {:>22} {:>20}", "bytes", "Oilwhisper", "C sliced by 8", "SSE4.2", "ratio to C (aim 0.9)", "ratio to SSE4.2");
+    println!(
+        "{:<8} {:>12} {:>16} {:>14} {:>22} {:>22}",
+        "bytes", "Oilwhisper", "C sliced by 8", "instruction", "ratio to C (aim 0.9)", "ratio to instruction"
+    );
     for length in [540, 1472] {
         let speeds = checksum::speeds(length);
-        let (sse, ratio) = match speeds.instruction {
+        let (instruction, ratio) = match speeds.instruction {
             Some(speed) => (format!("{:.1}", speed * 1e-6), format!("{:.3}", speeds.proved / speed)),
             None => ("none".into(), "none".into()),
         };
         let (ours, c) = (speeds.proved * 1e-6, speeds.sliced * 1e-6);
-        println!("{:<8} {:>12.1} {:>16.1} {:>14} {:>22.3} {:>20}", length, ours, c, sse, ours / c, ratio);
+        println!("{:<8} {:>12.1} {:>16.1} {:>14} {:>22.3} {:>22}", length, ours, c, instruction, ours / c, ratio);
     }
 }
 
@@ -108,8 +96,8 @@ fn print_filling() {
 }
 
 fn print_needs() {
-    println!("\nBytes that a call needs on the stack, with its answer, and bytes that it copies or clears. The answer of ow_arrive");
-    println!("has {}, the record {}. Emulation does not change these.", size_of::<Arrived>(), size_of::<Record>());
+    println!("\nBytes that a call needs on the stack, with its answer, and bytes that it copies or clears. The record has {},", size_of::<Record>());
+    println!("and the words for verdicts, which the host lends from its stack, {}.", size_of::<[u32; VERDICT_WORDS * VERDICTS]>());
     println!("{:<22} {:>10} {:>10}", "", "stack", "copied");
     for needs in needs::all() {
         println!("{:<22} {:>10} {:>10}", needs.name, needs.stack, needs.copied);

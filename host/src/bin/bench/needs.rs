@@ -5,8 +5,7 @@ use crate::checksum;
 use crate::clock::copied;
 use crate::ends::{open, Opened};
 use crate::filling::{fill, Filled, Lone};
-use oilwhisper::ffi::{Echoed, Lent};
-use oilwhisper::library::{Library, Proved};
+use oilwhisper::library::{Echoed, Lent, Library, Proved};
 use std::alloc::{alloc, dealloc, Layout};
 use std::ffi::c_void;
 

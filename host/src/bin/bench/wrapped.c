@@ -29,8 +29,8 @@ uint64_t counted_bytes(void) {
 }
 
 /*
- * libusrsctp starts a thread of its own even when it is told to start none. No call of ours needs it, and from the second thread on an emulator on Arm keeps
- * every load and store in order, which makes both libraries several times slower. So it can be refused.
+ * libusrsctp starts a thread of its own even when it is told to start none. No call of ours needs it, and in a process of one thread the C library spares both
+ * libraries some of its locks. So it can be refused.
  */
 
 typedef int creating(pthread_t *, const pthread_attr_t *, void *(*)(void *), void *);

@@ -1,5 +1,5 @@
 /* A whole life through the header, between two records of one program: opened, a message of each kind sent, acknowledged and taken, shut down. */
-#include "oilwhisper_lent.h"
+#include "oilwhisper.h"
 
 #include <stdio.h>
 #include <stdlib.h>
@@ -22,13 +22,13 @@ static struct side ours, theirs;
 static uint8_t packet[OW_OUTPUT], reply[OW_OUTPUT], taken[OW_MESSAGE_MOST];
 static uint32_t verdicts[OW_VERDICT_WORDS * OW_VERDICTS];
 static const uint8_t cookie[4] = {1, 2, 3, 4};
-static const struct ow_lent no_lent;
-static const struct ow_echoed no_word;
+static const struct ow_lent no_lent = {0, 0, 0};
+static const struct ow_echoed no_word = {0, {0, 0, 0, 0, 0, 0, 0}};
 
 /* What the side makes of the packet's first `length` bytes: let in, its chunk accepted; the reply's length. */
-static size_t arrives(struct side *at, const uint8_t *bytes, size_t length, struct ow_lent lent, struct ow_echoed echoed, uint8_t event) {
+static size_t arrives(struct side *at, const void *bytes, size_t length, struct ow_lent lent, struct ow_echoed echoed, uint8_t event) {
     struct ow_arrived a =
-        ow_arrive(&at->record, at->received, sizeof at->received, verdicts, bytes, length, lent, cookie, sizeof cookie, echoed, reply, sizeof reply);
+        ow_arrive(&at->record, at->received, sizeof at->received, verdicts, (const uint8_t *)bytes, length, lent, cookie, sizeof cookie, echoed, reply, sizeof reply);
     CHECK(a.number == OW_DONE);
     CHECK(a.count >= 1);
     CHECK(ow_verdict_of(verdicts, 0).fate == OW_ACCEPTED);
@@ -162,6 +162,6 @@ int main(void) {
     sends(700, 5, 1, 10, 0);
     closes();
     others();
-    printf("face: a whole life through every call\n");
+    printf("header: a whole life through every call\n");
     return 0;
 }
