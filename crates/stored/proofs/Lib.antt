@@ -1,2 +1,0 @@
--- That each promise leaves one outcome.
-pub mod Unique
