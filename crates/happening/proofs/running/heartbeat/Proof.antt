@@ -1,0 +1,34 @@
+use borrow.Author.Needs.{needs}
+use Rattle.happening.specs.HappeningLaws.{goes}
+use Rattle.happening.specs.Happening.{lent}
+use Rattle.happening.proofs.running.heartbeat.Statement.{statement}
+use Rattle.happening.proofs.running.heartbeat.Tie as tie
+
+value-of-requires : tie.Need-value-of-requires
+value-of-requires c κs = search needs
+
+heartbeat-requires : tie.Need-heartbeat-requires
+heartbeat-requires c κs = search needs
+
+of-answered-requires : tie.Need-of-answered-requires
+of-answered-requires c κs = search needs
+
+with-head-requires : tie.Need-with-head-requires
+with-head-requires c κs = search needs
+
+same-length : tie.Need-same-length
+same-length c = search needs
+
+returns : tie.Need-returns
+returns c = λ received sent verdicts input cookie. rw (← c .before .before .before .before .before .before .before .before .before .value-of .ensures) (goes (c .before .before .before .before .before .before .before .before .before .before .before .before .before .before .args .a) (lent received sent verdicts input cookie _) (c .before .of-answered .ensures) (c .with-head .ensures) (c .before .before .before .before .before .heartbeat .ensures (c .before .before .before .before .before .before .before .before .before .before .before .before .before .before .args .a .«next_in») (c .before .before .before .before .before .before .before .before .before .before .before .before .before .before .args .a .«next_out») (c .before .before .before .before .before .before .before .before .before .before .before .before .before .before .args .a .cookie)))
+
+pub heartbeat-spec : {M : Type 1} → statement M
+heartbeat-spec =
+    tie.close
+    (tie.spec
+    value-of-requires
+    heartbeat-requires
+    of-answered-requires
+    with-head-requires
+    same-length
+    returns)
