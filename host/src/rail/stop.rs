@@ -56,7 +56,7 @@ extern "C" {
     fn signal(number: i32, handler: extern "C" fn(i32)) -> usize;
 }
 
-/// A handler that adds to a counter and does no more: Debian's signal-hook keeps vectors on the stack, which its emulator of x86-64 does not align for a handler.
+/// A handler that adds to a counter and does no more.
 fn hear_signals() {
     for number in [SIGINT, SIGTERM] {
         // C's `signal` is given a number that it knows and a function that lives as long as the process, and which may interrupt anything: it touches an
