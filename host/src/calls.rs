@@ -168,6 +168,21 @@ pub struct Init {
     pub tsn: u32,
 }
 
+impl Init {
+    /// What an association starts from, if this INIT is answered with such a tag, first TSN and number of streams (RFC 9260 section 5.1.1).
+    pub fn agreed(&self, my_tag: u32, my_tsn: u32, streams: u16) -> Made {
+        Made {
+            my_tag,
+            peer_tag: self.tag,
+            streams_in: self.outs.min(STREAMS_MOST),
+            streams_out: streams.min(STREAMS_MOST).min(self.ins),
+            my_tsn,
+            peer_tsn: self.tsn,
+            window: self.window,
+        }
+    }
+}
+
 /// What the host lends for the INIT ACK that answers an INIT.
 #[derive(Clone, Debug, Default, PartialEq, Eq)]
 pub struct Lent {
@@ -285,4 +300,18 @@ pub enum Expired {
     TriedAgain(usize),
     /// The tries are spent: the association is closed.
     Over,
+}
+
+#[cfg(test)]
+mod tests {
+    use super::*;
+
+    #[test]
+    fn streams_are_agreed_by_the_smaller_number() {
+        let init = Init { source: 5001, tag: 3, window: 2000, outs: 300, ins: 10, tsn: 4 };
+        let made = init.agreed(1, 2, 200);
+        assert_eq!((made.streams_in, made.streams_out), (128, 10));
+        let wide = Init { ins: 500, ..init }.agreed(1, 2, 200);
+        assert_eq!(wide.streams_out, 128);
+    }
 }

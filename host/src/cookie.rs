@@ -1,7 +1,7 @@
 //! State cookies (RFC 9260 section 5.1.3): what an association starts from, when the cookie was made and for whom, signed with a key that only this
 //! endpoint has and changes now and then. Nothing is kept for an INIT; only cookies that were used are remembered, until they are too old to be good anyway.
 
-use crate::calls::{Init, Made, STREAMS_MOST};
+use crate::calls::Made;
 use crate::random::Random;
 use crate::signature::{is_signed, sign, Key, SIGNATURE};
 use std::net::{IpAddr, SocketAddr};
@@ -110,19 +110,6 @@ impl CookieJar {
             self.present = self.source.key();
             self.changed = now;
         }
-    }
-}
-
-/// What an association starts from, if this INIT is answered with such a tag, first TSN and number of streams (RFC 9260 section 5.1.1).
-pub fn agreed(init: &Init, my_tag: u32, my_tsn: u32, streams: u16) -> Made {
-    Made {
-        my_tag,
-        peer_tag: init.tag,
-        streams_in: init.outs.min(STREAMS_MOST),
-        streams_out: streams.min(STREAMS_MOST).min(init.ins),
-        my_tsn,
-        peer_tsn: init.tsn,
-        window: init.window,
     }
 }
 
@@ -255,14 +242,5 @@ mod tests {
         let later = now + LIFETIME + Duration::from_millis(1);
         jar.spend(1, later);
         assert_eq!(jar.judge(&cookie, peer(), 5001, later), Judgement::Stale(MADE, Duration::from_millis(1)));
-    }
-
-    #[test]
-    fn streams_are_agreed_by_the_smaller_number() {
-        let init = Init { source: 5001, tag: 3, window: 2000, outs: 300, ins: 10, tsn: 4 };
-        let made = agreed(&init, 1, 2, 200);
-        assert_eq!((made.streams_in, made.streams_out), (128, 10));
-        let wide = agreed(&Init { ins: 500, ..init }, 1, 2, 200);
-        assert_eq!(wide.streams_out, 128);
     }
 }

@@ -3,7 +3,7 @@
 use crate::admission::Admission;
 use crate::calls::{Echoed, Init, Lent};
 use crate::config::Config;
-use crate::cookie::{agreed, CookieJar, Judgement};
+use crate::cookie::{CookieJar, Judgement};
 use crate::packet::source_port;
 use crate::random::Random;
 use std::net::{IpAddr, SocketAddr};
@@ -50,7 +50,7 @@ impl Door {
 
     /// An INIT is answered with this tag and first TSN of ours.
     pub fn invite(&mut self, init: &Init, from: SocketAddr, tag: u32, tsn: u32, now: Instant) -> Prepared {
-        let made = agreed(init, tag, tsn, self.streams);
+        let made = init.agreed(tag, tsn, self.streams);
         let cookie = self.jar.bake(made, from, init.source, now);
         Prepared { lent: Lent { tag, tsn, streams: self.streams, cookie }, ..Prepared::nothing() }
     }

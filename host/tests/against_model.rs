@@ -2,7 +2,6 @@
 //! itself, so that what is read from the words of a record, and written there, is what the model has.
 
 mod linked;
-mod modelled;
 
 use linked::Linked;
 use model::{drive, Model};

@@ -1,17 +1,15 @@
 //! What an endpoint does around the core, held on a clock that the test moves: on the model, and on the proved library where it is linked.
 
-mod modelled;
-#[macro_use]
 mod pair;
 
 use model::checksum;
-use modelled::Modelled;
+use modelled::on_both;
 use oilwhisper::calls::{Cause, Refusal, State};
 use oilwhisper::endpoint::{Config, Event, Why};
 use oilwhisper::library::Library;
-use oilwhisper::relay::Weather;
-use oilwhisper::tiles::{tile, Album, Plan};
 use pair::*;
+use rail::relay::Weather;
+use rail::tiles::{tile, Album, Plan};
 use std::time::Duration;
 
 const ROUGH: Weather = Weather { delay: Duration::from_millis(10), loss: 0.05, repeat: 0.03, reorder: 0.1, damage: 0.01 };

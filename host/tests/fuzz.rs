@@ -2,8 +2,6 @@
 //! between those of an honest association and the calls of a user. Held at every step: nothing of an association goes to an address that has not answered,
 //! every timer moves on or ends, and no queue and no memory grows; and where nobody knows a tag who should not, every message that was acknowledged is taken.
 
-mod modelled;
-
 use model::checksum;
 use modelled::Modelled;
 use oilwhisper::calls::{Cause, State};

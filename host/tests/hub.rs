@@ -1,21 +1,19 @@
 //! Many heads at one field computer, on a clock that the test moves: on the model, and on the proved library where it is linked.
 
-mod modelled;
-mod rail_world;
-#[macro_use]
 mod pair;
+mod rail_world;
 
-use modelled::Modelled;
+use modelled::on_both;
 use oilwhisper::calls::{Cause, Refusal, Shelf};
 use oilwhisper::event::Why;
 use oilwhisper::hub::{Event, HeadId, Hub, Settings};
 use oilwhisper::library::Library;
 use oilwhisper::packet::Datagram;
 use oilwhisper::random::{Random, Seeded};
-use oilwhisper::relay::Weather;
 use oilwhisper::tickets::Ticket;
-use oilwhisper::tiles::{tile, Album, Plan};
 use pair::{first_chunk, init_to, sealed, slow, stranger, ABORT, COOKIE_ECHO, DATA, INIT_ACK, MINUTE, SHUTDOWN_ACK, SHUTDOWN_COMPLETE};
+use rail::relay::Weather;
+use rail::tiles::{tile, Album, Plan};
 use rail_world::*;
 use std::iter::Peekable;
 use std::net::SocketAddr;
@@ -298,7 +296,7 @@ fn a_farewell_that_is_lost_is_said_again<L: Library>() {
     world.field.shutdown(field_id, now).expect("an established association shuts down");
     // Its SHUTDOWN COMPLETE finds no line; the head's T2 asks again.
     world.run_until(SECOND, |world| world.events.iter().any(|(_, event)| matches!(event, Event::Down { .. })));
-    world.outposts[0].back = oilwhisper::relay::Channel::new(slow(5), 1);
+    world.outposts[0].back = rail::relay::Channel::new(slow(5), 1);
     assert!(!world.outposts[0].is_down());
     assert!(world.run_until(SECOND * 10, |world| world.outposts[0].is_down()));
     assert_eq!(world.outposts[0].events.last(), Some(&Event::Down { why: Why::ShutDown, undelivered: Vec::new() }));

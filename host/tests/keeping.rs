@@ -1,10 +1,8 @@
 //! No tile is lost that was acknowledged, no association that is healthy, and a peer that is lost shows.
 
-mod modelled;
-#[macro_use]
 mod pair;
 
-use modelled::Modelled;
+use modelled::on_both;
 use oilwhisper::calls::{Refusal, State};
 use oilwhisper::endpoint::{Config, Event, Why};
 use oilwhisper::library::Library;

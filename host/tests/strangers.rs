@@ -1,17 +1,15 @@
 //! What packets from a third address can do: nothing to an association, whoever sends them. On the model and on the proved library, and over real sockets.
 
-mod modelled;
-#[macro_use]
 mod pair;
 
-use modelled::Modelled;
+use modelled::on_both;
 use oilwhisper::calls::{Refusal, State};
 use oilwhisper::endpoint::{Config, Endpoint, Event, Why};
 use oilwhisper::library::Library;
 use oilwhisper::random::Random;
-use oilwhisper::relay::Weather;
 use oilwhisper::udp::Line;
 use pair::*;
+use rail::relay::Weather;
 use std::net::{SocketAddr, UdpSocket};
 use std::time::{Duration, Instant};
 

@@ -66,7 +66,7 @@ static void pause_ms(unsigned ms)
     nanosleep(&time, NULL);
 }
 
-/* The plan. tests/interop/run's other side (host/src/bin/interop.rs) has it too, in its own words. */
+/* The plan. tests/interop/run's other side (host/rail/src/bin/interop.rs) has it too, in its own words. */
 
 static bool is_spread(void)
 {

@@ -1,10 +1,10 @@
 //! A library as one of the model's cores, so that the model's driver can make its calls of it. Bits of the tables that are nobody's are random in each record that is
 //! lent, and no call may read them: it leaves them, or clears them where it writes anew.
 
-use crate::modelled::alike::{record_of, shown, Alike};
 use model::random::Random;
 use model::record::{self, Association};
 use model::Core;
+use modelled::alike::{record_of, shown, Alike};
 use oilwhisper::ffi::{Record, HELD_WORDS, PLACE_WORDS};
 use oilwhisper::library::{self, Library};
 use std::marker::PhantomData;

@@ -8,7 +8,7 @@ use oilwhisper::calls::State;
 use oilwhisper::endpoint::{Config, Datagram, Endpoint, Event};
 use oilwhisper::library::Library;
 use oilwhisper::random::Random;
-use oilwhisper::relay::{Channel, Weather};
+use rail::relay::{Channel, Weather};
 use std::net::SocketAddr;
 use std::time::{Duration, Instant};
 
@@ -28,26 +28,6 @@ pub const COOKIE_ACK: u8 = 11;
 pub const SHUTDOWN_COMPLETE: u8 = 14;
 
 pub const MINUTE: Duration = Duration::from_secs(60);
-
-/// Runs each scenario on the model, and on the proved library where it is linked.
-macro_rules! on_both {
-    ($($scenario:ident)*) => {
-        mod on_the_model {
-            $(#[test]
-            fn $scenario() {
-                super::$scenario::<super::Modelled>();
-            })*
-        }
-
-        #[cfg(feature = "proved")]
-        mod on_the_proved_library {
-            $(#[test]
-            fn $scenario() {
-                super::$scenario::<oilwhisper::library::Proved>();
-            })*
-        }
-    };
-}
 
 /// Whether a packet is lost.
 pub type Loses = Box<dyn FnMut(&[u8]) -> bool>;

@@ -1,16 +1,14 @@
 //! The rail with the model in the library's place: the demonstration, both ends on addresses of their own, and what a user can get wrong.
 
-mod modelled;
-
 use modelled::Modelled;
 use oilwhisper::endpoint::{Config, Endpoint};
-use oilwhisper::rail::arguments::{parse, Command};
-use oilwhisper::rail::report::Ended;
-use oilwhisper::rail::stop::Stop;
-use oilwhisper::rail::view::Screen;
-use oilwhisper::rail::{demo, lone, Failure};
 use oilwhisper::random::Random;
 use oilwhisper::udp::Line;
+use rail::arguments::{parse, Command};
+use rail::report::Ended;
+use rail::stop::Stop;
+use rail::view::Screen;
+use rail::{demo, lone, Failure};
 use std::io::{Read, Write};
 use std::net::{TcpListener, TcpStream, UdpSocket};
 use std::path::PathBuf;

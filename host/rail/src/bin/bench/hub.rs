@@ -4,7 +4,7 @@
 use crate::clock::used;
 use oilwhisper::hub::Hub;
 use oilwhisper::library::Proved;
-use oilwhisper::load::{run, Crowd, Load, BAD_STRETCH};
+use rail::load::{run, Crowd, Load, BAD_STRETCH};
 use std::time::Duration;
 
 const HEADS: usize = 64;

@@ -2,10 +2,10 @@
 
 use super::parcel::is_name;
 use super::Failure;
-use crate::admission::Network;
-use crate::endpoint::Config;
-use crate::pcap::ENCAPSULATION;
 use crate::relay::Weather;
+use oilwhisper::admission::Network;
+use oilwhisper::endpoint::Config;
+use oilwhisper::pcap::ENCAPSULATION;
 use std::net::{Ipv4Addr, Ipv6Addr, SocketAddr, ToSocketAddrs};
 use std::path::PathBuf;
 use std::str::FromStr;

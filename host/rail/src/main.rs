@@ -1,11 +1,11 @@
 //! The rail's command.
 
 use oilwhisper::library::Proved;
-use oilwhisper::rail::arguments::{parse, Command, USAGE, VERSION};
-use oilwhisper::rail::report::Ended;
-use oilwhisper::rail::stop::Stop;
-use oilwhisper::rail::view::Screen;
-use oilwhisper::rail::{demo, lone, Failure};
+use rail::arguments::{parse, Command, USAGE, VERSION};
+use rail::report::Ended;
+use rail::stop::Stop;
+use rail::view::Screen;
+use rail::{demo, lone, Failure};
 use std::io::{self, Write};
 use std::process::ExitCode;
 

@@ -2,7 +2,6 @@
 
 use oilwhisper::association::{peek, Association};
 use oilwhisper::calls::{Echoed, Lent, Peeked, State, OUTPUT};
-use oilwhisper::cookie::agreed;
 use oilwhisper::library::Proved;
 
 const PORTS: [u16; 2] = [5000, 5001];
@@ -28,7 +27,7 @@ pub fn open() -> Opened {
         seen => panic!("{:?} in place of an INIT", seen),
     };
     let lent = Lent { tag: 2, tsn: FIRST_TSN, streams: STREAMS, cookie: vec![7; 32] };
-    let good = Echoed::Good(agreed(&fields, lent.tag, lent.tsn, lent.streams));
+    let good = Echoed::Good(fields.agreed(lent.tag, lent.tsn, lent.streams));
     let init_ack = answered(&mut receiver, &init, &lent, Echoed::Bad);
     let echo = answered(&mut sender, &init_ack, &Lent::default(), Echoed::Bad);
     let ack = answered(&mut receiver, &echo, &lent, good);

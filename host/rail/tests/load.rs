@@ -1,13 +1,9 @@
 //! Many heads over a bad stretch in simulated time, with a hostile sender beside them: a short run on the model and on the proved library where it is linked, a
 //! long one and what a head costs where they are asked for (`host/bench hub`, or natively on the model with `--ignored --nocapture`).
 
-mod modelled;
-#[macro_use]
-mod pair;
-
-use modelled::Modelled;
+use modelled::{on_both, Modelled};
 use oilwhisper::library::Library;
-use oilwhisper::load::{run, Crowd, Load, Outcome, BAD_STRETCH};
+use rail::load::{run, Crowd, Load, Outcome, BAD_STRETCH};
 use std::time::{Duration, Instant};
 
 const HEADS: usize = 64;

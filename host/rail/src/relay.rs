@@ -1,6 +1,6 @@
 //! A bad stretch between two UDP addresses: it drops, repeats, reorders and damages packets, as a seed decides.
 
-use crate::random::Seeded;
+use oilwhisper::random::Seeded;
 use std::cmp::{Ordering, Reverse};
 use std::collections::BinaryHeap;
 use std::io::{self, ErrorKind};

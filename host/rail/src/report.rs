@@ -1,7 +1,7 @@
 //! What is printed: progress, the table at the end, and the verdict.
 
-use crate::calls::Refusal;
-use crate::counts::Counts;
+use oilwhisper::calls::Refusal;
+use oilwhisper::counts::Counts;
 use std::fmt::Write;
 use std::net::{IpAddr, SocketAddr};
 use std::time::Duration;

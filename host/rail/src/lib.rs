@@ -3,18 +3,21 @@
 pub mod arguments;
 pub mod demo;
 pub mod lines;
+pub mod load;
 pub mod lone;
 pub mod page;
 pub mod parcel;
+pub mod relay;
 pub mod report;
 pub mod sender;
 pub mod source;
 pub mod stop;
 pub mod store;
 pub mod taker;
+pub mod tiles;
 pub mod view;
 
-use crate::pcap::{Capture, Pcap};
+use oilwhisper::pcap::{Capture, Pcap};
 use std::fmt;
 use std::io::{self, ErrorKind};
 use std::net::{Ipv4Addr, Ipv6Addr, SocketAddr, UdpSocket};

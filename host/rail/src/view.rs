@@ -2,10 +2,10 @@
 
 use super::report::{grouped, shown};
 use super::taker::{Field, Visit};
-use crate::calls::{Refusal, Shelf};
-use crate::hub::HeadId;
-use crate::library::Library;
 use crate::tiles::BANDS;
+use oilwhisper::calls::{Refusal, Shelf};
+use oilwhisper::hub::HeadId;
+use oilwhisper::library::Library;
 use std::collections::BTreeMap;
 use std::fmt::Write as _;
 use std::io::Write;

@@ -2,14 +2,12 @@
 //! program dies too; and every tile stands once in its folder, byte for byte. On the model, since only what runs natively can start itself.
 #![cfg(not(feature = "proved"))]
 
-mod modelled;
-
 use modelled::Modelled;
-use oilwhisper::rail::arguments::{parse, Command as Rail};
-use oilwhisper::rail::stop::Stop;
-use oilwhisper::rail::view::Screen;
-use oilwhisper::rail::{demo, lone};
 use oilwhisper::random::Seeded;
+use rail::arguments::{parse, Command as Rail};
+use rail::stop::Stop;
+use rail::view::Screen;
+use rail::{demo, lone};
 use std::collections::HashMap;
 use std::fs;
 use std::io;

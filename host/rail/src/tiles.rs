@@ -1,7 +1,7 @@
 //! What the rail carries: tiles of eight colour bands, each band a stream. A tile is a function of seed, band and index, so the far end can make the one it
 //! expects and compare every byte.
 
-use crate::random::Seeded;
+use oilwhisper::random::Seeded;
 use std::fmt;
 
 pub const BANDS: u16 = 8;

@@ -1,6 +1,6 @@
 //! What a tile travels as: the name of its head, its own name, and its bytes, on the stream of its band; and the receipts that come back when it is kept.
 
-use crate::calls::MESSAGE_MOST;
+use oilwhisper::calls::MESSAGE_MOST;
 
 /// The protocol identifiers, which go with every message unread.
 pub const TILE: u32 = 1;

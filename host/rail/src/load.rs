@@ -1,16 +1,16 @@
 //! A field computer with many heads in simulated time: every message that comes is compared with the one that was handed in, while somebody hostile sends too.
 //! And what a head costs.
 
-use crate::calls::Refusal;
-use crate::checksum;
-use crate::config::Config;
-use crate::counts::Counts;
-use crate::endpoint::{Endpoint, Event};
-use crate::hub::{self, HeadId, Hub, Settings};
-use crate::library::Library;
-use crate::packet::{ABORT, COOKIE_ECHO, DATA, INIT, SHUTDOWN_COMPLETE};
-use crate::random::{Random, Seeded};
 use crate::relay::{Channel, Mishaps, Weather};
+use oilwhisper::calls::Refusal;
+use oilwhisper::checksum;
+use oilwhisper::config::Config;
+use oilwhisper::counts::Counts;
+use oilwhisper::endpoint::{Endpoint, Event};
+use oilwhisper::hub::{self, HeadId, Hub, Settings};
+use oilwhisper::library::Library;
+use oilwhisper::packet::{ABORT, COOKIE_ECHO, DATA, INIT, SHUTDOWN_COMPLETE};
+use oilwhisper::random::{Random, Seeded};
 use std::cmp::Reverse;
 use std::collections::{BinaryHeap, HashMap};
 use std::net::SocketAddr;
@@ -270,7 +270,7 @@ impl<L: Library> World<L> {
                     }
                 }
                 hub::Event::Readable => self.take(id),
-                hub::Event::Down { why, .. } if why != crate::event::Why::ShutDown => {
+                hub::Event::Down { why, .. } if why != oilwhisper::event::Why::ShutDown => {
                     self.faults.push(format!("{:?} is down: {}", self.known.get(&id), why))
                 }
                 _ => {}

@@ -8,7 +8,29 @@ use model::{Core, Model};
 use oilwhisper::ffi::Record;
 use oilwhisper::library::{Acknowledged, Answer, Arrived, Delivered, Echoed, HandedIn, Lent, Library, Peeked, Transmitted};
 
+/// The model itself.
 pub struct Modelled;
+
+/// Runs each scenario on the model, and on the proved library where it is linked.
+#[macro_export]
+macro_rules! on_both {
+    ($($scenario:ident)*) => {
+        mod on_the_model {
+            $(#[test]
+            fn $scenario() {
+                super::$scenario::<$crate::Modelled>();
+            })*
+        }
+
+        #[cfg(feature = "proved")]
+        mod on_the_proved_library {
+            $(#[test]
+            fn $scenario() {
+                super::$scenario::<oilwhisper::library::Proved>();
+            })*
+        }
+    };
+}
 
 /// The call is made of what the record shows.
 fn lent<Theirs: Alike<Ours>, Ours>(record: &mut Record, call: impl FnOnce(&mut Association) -> Theirs) -> Ours {
