@@ -110,10 +110,9 @@ impl<L: Library> Association<L> {
     /// The buffer may have any length.
     pub fn take(&mut self, out: &mut [u8]) -> Result<Taken, NotTaken> {
         let answer = L::take(&mut self.record, &self.received, out);
-        let message = answer.message;
         match answer.number {
-            0 => Ok(Taken { length: message.length, stream: message.stream, unordered: message.unordered, ssn: message.ssn, ppid: message.ppid }),
-            ffi::SHORT => Err(NotTaken::Short(message.length)),
+            0 => Ok(answer.message),
+            ffi::SHORT => Err(NotTaken::Short(answer.message.length)),
             number => Err(NotTaken::Refused(Refusal(number))),
         }
     }
@@ -202,23 +201,11 @@ fn state_of(number: u8) -> State {
 
 fn echoed_for_c(echoed: Echoed) -> library::Echoed {
     let (word, made) = match echoed {
-        Echoed::Bad => (ffi::BAD, library::Made::default()),
-        Echoed::Stale(made) => (ffi::LATE, made_for_c(made)),
-        Echoed::Good(made) => (ffi::GOOD, made_for_c(made)),
+        Echoed::Bad => (ffi::BAD, Made::default()),
+        Echoed::Stale(made) => (ffi::LATE, made),
+        Echoed::Good(made) => (ffi::GOOD, made),
     };
     library::Echoed { word, made }
-}
-
-fn made_for_c(made: Made) -> library::Made {
-    library::Made {
-        my_tag: made.my_tag,
-        peer_tag: made.peer_tag,
-        streams_in: made.streams_in,
-        streams_out: made.streams_out,
-        my_tsn: made.my_tsn,
-        peer_tsn: made.peer_tsn,
-        window: made.window,
-    }
 }
 
 fn verdict_of(verdict: &library::Verdict) -> Verdict {

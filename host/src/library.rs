@@ -1,6 +1,7 @@
 //! The functions of the library over a whole record, with slices in place of pointers and counts. The proved library is one implementation; a model of it can be
 //! another.
 
+use crate::calls::{Made, Taken};
 use crate::ffi::{Record, BLOCKS, LISTED};
 
 #[derive(Clone, Copy, Debug, PartialEq, Eq)]
@@ -29,17 +30,6 @@ pub struct Lent {
     pub tag: u32,
     pub tsn: u32,
     pub streams: u16,
-}
-
-#[derive(Clone, Copy, Debug, Default, PartialEq, Eq)]
-pub struct Made {
-    pub my_tag: u32,
-    pub peer_tag: u32,
-    pub streams_in: u16,
-    pub streams_out: u16,
-    pub my_tsn: u32,
-    pub peer_tsn: u32,
-    pub window: u32,
 }
 
 #[derive(Clone, Copy, Debug, Default, PartialEq, Eq)]
@@ -82,18 +72,9 @@ pub struct Transmitted {
 }
 
 #[derive(Clone, Copy, Debug, PartialEq, Eq)]
-pub struct Message {
-    pub length: usize,
-    pub stream: u16,
-    pub unordered: bool,
-    pub ssn: u16,
-    pub ppid: u32,
-}
-
-#[derive(Clone, Copy, Debug, PartialEq, Eq)]
 pub struct Delivered {
     pub number: u8,
-    pub message: Message,
+    pub message: Taken,
 }
 
 /// What a SACK says. Entries behind the first `blocks`, and the first `listed`, are 0.
@@ -201,8 +182,11 @@ mod proved {
         cookie: [0; COOKIE_MOST],
     };
 
-    fn answer(number: u32, [length, over]: [usize; 2]) -> Answer {
-        Answer { number: number as u8, length, over: over != 0 }
+    fn answered(call: impl FnOnce(&mut [usize; 2]) -> u32) -> Answer {
+        let mut told = [0; 2];
+        let number = call(&mut told) as u8;
+        let [length, over] = told;
+        Answer { number, length, over: over != 0 }
     }
 
     fn verdict(words: &[u32]) -> Verdict {
@@ -289,11 +273,9 @@ mod proved {
 
         fn associate(record: &mut Record, tag: u32, tsn: u32, port: u16, streams: u16, out: &mut [u8]) -> Answer {
             let Record { head, held, next_in, places, next_out, cookie } = record;
-            let mut told = [0; 2];
-            let number = unsafe {
-                ffi::ow_lent_associate(head, held, next_in, places, next_out, cookie, tag, tsn, port, streams, out.as_mut_ptr(), out.len(), &mut told)
-            };
-            answer(number, told)
+            answered(|told| unsafe {
+                ffi::ow_lent_associate(head, held, next_in, places, next_out, cookie, tag, tsn, port, streams, out.as_mut_ptr(), out.len(), told)
+            })
         }
 
         fn hand_in(record: &mut Record, area: &mut [u8], message: &[u8], stream: u16, unordered: u8, ppid: u32) -> HandedIn {
@@ -331,7 +313,7 @@ mod proved {
             let mut told = [0; 5];
             let number = unsafe { ffi::ow_lent_take(head, held, next_in, places, area.as_ptr(), area.len(), out.as_mut_ptr(), out.len(), &mut told) };
             let [length, stream, unordered, ssn, ppid] = told;
-            let message = Message { length, stream: stream as u16, unordered: unordered != 0, ssn: ssn as u16, ppid: ppid as u32 };
+            let message = Taken { length, stream: stream as u16, unordered: unordered != 0, ssn: ssn as u16, ppid: ppid as u32 };
             Delivered { number: number as u8, message }
         }
 
@@ -346,63 +328,45 @@ mod proved {
 
         fn t1(record: &mut Record, out: &mut [u8]) -> Answer {
             let Record { head, held, places, cookie, .. } = record;
-            let mut told = [0; 2];
-            let number = unsafe { ffi::ow_lent_t1(head, held, places, cookie, out.as_mut_ptr(), out.len(), &mut told) };
-            answer(number, told)
+            answered(|told| unsafe { ffi::ow_lent_t1(head, held, places, cookie, out.as_mut_ptr(), out.len(), told) })
         }
 
         fn t2(record: &mut Record, out: &mut [u8]) -> Answer {
             let Record { head, held, places, cookie, .. } = record;
-            let mut told = [0; 2];
-            let number = unsafe { ffi::ow_lent_t2(head, held, places, cookie, out.as_mut_ptr(), out.len(), &mut told) };
-            answer(number, told)
+            answered(|told| unsafe { ffi::ow_lent_t2(head, held, places, cookie, out.as_mut_ptr(), out.len(), told) })
         }
 
         fn t3(record: &mut Record) -> Answer {
-            let mut told = [0; 2];
-            let number = unsafe { ffi::ow_lent_t3(&mut record.head, &record.held, &mut record.places, &mut told) };
-            answer(number, told)
+            answered(|told| unsafe { ffi::ow_lent_t3(&mut record.head, &record.held, &mut record.places, told) })
         }
 
         fn rtt(record: &mut Record, sample: u32) -> Answer {
-            let mut told = [0; 2];
-            let number = unsafe { ffi::ow_lent_rtt(&mut record.head, &record.held, &record.places, sample, &mut told) };
-            answer(number, told)
+            answered(|told| unsafe { ffi::ow_lent_rtt(&mut record.head, &record.held, &record.places, sample, told) })
         }
 
         fn shutdown(record: &mut Record, out: &mut [u8]) -> Answer {
             let Record { head, held, places, .. } = record;
-            let mut told = [0; 2];
-            let number = unsafe { ffi::ow_lent_shutdown(head, held, places, out.as_mut_ptr(), out.len(), &mut told) };
-            answer(number, told)
+            answered(|told| unsafe { ffi::ow_lent_shutdown(head, held, places, out.as_mut_ptr(), out.len(), told) })
         }
 
         fn abort(record: &mut Record, cause: u8, tsn: u32, out: &mut [u8]) -> Answer {
             let Record { head, held, places, .. } = record;
-            let mut told = [0; 2];
-            let number = unsafe { ffi::ow_lent_abort(head, held, places, cause, tsn, out.as_mut_ptr(), out.len(), &mut told) };
-            answer(number, told)
+            answered(|told| unsafe { ffi::ow_lent_abort(head, held, places, cause, tsn, out.as_mut_ptr(), out.len(), told) })
         }
 
         fn error_stream(record: &mut Record, stream: u16, out: &mut [u8]) -> Answer {
             let Record { head, held, places, .. } = record;
-            let mut told = [0; 2];
-            let number = unsafe { ffi::ow_lent_error_stream(head, held, places, stream, out.as_mut_ptr(), out.len(), &mut told) };
-            answer(number, told)
+            answered(|told| unsafe { ffi::ow_lent_error_stream(head, held, places, stream, out.as_mut_ptr(), out.len(), told) })
         }
 
         fn error_stale(record: &mut Record, port: u16, tag: u32, late: u32, out: &mut [u8]) -> Answer {
             let Record { head, held, places, .. } = record;
-            let mut told = [0; 2];
-            let number = unsafe { ffi::ow_lent_error_stale(head, held, places, port, tag, late, out.as_mut_ptr(), out.len(), &mut told) };
-            answer(number, told)
+            answered(|told| unsafe { ffi::ow_lent_error_stale(head, held, places, port, tag, late, out.as_mut_ptr(), out.len(), told) })
         }
 
         fn heartbeat(record: &mut Record, value: [u8; 8], out: &mut [u8]) -> Answer {
             let Record { head, held, places, .. } = record;
-            let mut told = [0; 2];
-            let number = unsafe { ffi::ow_lent_heartbeat(head, held, places, &value, out.as_mut_ptr(), out.len(), &mut told) };
-            answer(number, told)
+            answered(|told| unsafe { ffi::ow_lent_heartbeat(head, held, places, &value, out.as_mut_ptr(), out.len(), told) })
         }
     }
 }

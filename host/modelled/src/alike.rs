@@ -1,6 +1,7 @@
 //! The library's types and the model's, one for the other: the model has a struct for each place of a record, the library words.
 
 use model::record::{self, Association};
+use oilwhisper::calls;
 use oilwhisper::ffi::{self, Record, COOKIE_MOST, HELD_WORDS, PLACES, PLACE_WORDS, STREAMS};
 use oilwhisper::library;
 
@@ -29,11 +30,11 @@ same_fields! {
     library::Answer, record::Answer { number length over }
     library::Peeked, record::Peeked { number kind source tag window outs ins tsn at len }
     library::Lent, record::Lent { tag tsn streams }
-    library::Made, record::Made { my_tag peer_tag streams_in streams_out my_tsn peer_tsn window }
+    calls::Made, record::Made { my_tag peer_tag streams_in streams_out my_tsn peer_tsn window }
     library::Verdict, record::Verdict { at value fate number cause event }
     library::HandedIn, record::HandedIn { number chunks }
     library::Transmitted, record::Transmitted { number length resent first last }
-    library::Message, record::Message { length stream unordered ssn ppid }
+    calls::Taken, record::Message { length stream unordered ssn ppid }
     ffi::Ends, record::Ends { local_port peer_port my_tag peer_tag streams_in streams_out }
     ffi::Keeping, record::Keeping { point come dups listed }
     ffi::Control, record::Control { cwnd ssthresh partial }
