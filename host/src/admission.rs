@@ -17,6 +17,7 @@ impl Network {
         (bits <= width(address)).then_some(Network { address, bits })
     }
 
+    /// Whether this address is of the network.
     pub fn contains(&self, address: IpAddr) -> bool {
         let leading = u32::from(self.bits) + 128 - u32::from(width(self.address));
         let differing = number(self.address) ^ number(address);
@@ -30,6 +31,7 @@ impl From<IpAddr> for Network {
     }
 }
 
+/// A text that names neither an address nor a network.
 #[derive(Clone, Copy, Debug, PartialEq, Eq)]
 pub struct NoNetwork;
 
@@ -71,7 +73,7 @@ fn number(address: IpAddr) -> u128 {
 }
 
 #[derive(Clone, Debug)]
-pub struct Admission {
+pub(crate) struct Admission {
     pub listens: bool,
     networks: Option<Vec<Network>>,
     left: Option<u64>,

@@ -34,6 +34,7 @@ pub fn peek<L: Library>(packet: &[u8]) -> Peeked {
 }
 
 impl<L: Library> Association<L> {
+    /// A closed association at this port of ours.
     pub fn closed(port: u16) -> Association<L> {
         Association::from_record(L::closed(port))
     }
@@ -43,22 +44,27 @@ impl<L: Library> Association<L> {
         Association { record, received: vec![0; AREA].into_boxed_slice(), to_send: vec![0; AREA].into_boxed_slice(), library: PhantomData }
     }
 
+    /// The record as it stands.
     pub fn record(&self) -> &ffi::Record {
         &self.record
     }
 
+    /// Whether there is no association.
     pub fn is_closed(&self) -> bool {
         state_of(self.record.head.state) == State::Closed
     }
 
+    /// The tag that packets to the peer show; 0 until it is known.
     pub fn peer_tag(&self) -> u32 {
         self.record.head.ends.peer_tag
     }
 
+    /// The peer's SCTP port; 0 until it is known.
     pub fn peer_port(&self) -> u16 {
         self.record.head.ends.peer_port
     }
 
+    /// What the host may know of the record now.
     pub fn standing(&self) -> Standing {
         let head = &self.record.head;
         let free = self.record.chunks_held().filter(|place| !place.used).count();
@@ -75,6 +81,7 @@ impl<L: Library> Association<L> {
         }
     }
 
+    /// What came and was not taken.
     pub fn shelf(&self) -> Shelf {
         let keeping = &self.record.head.keeping;
         let in_order = self.record.chunks_held().filter(|place| place.used && !place.unordered);
@@ -85,6 +92,7 @@ impl<L: Library> Association<L> {
         }
     }
 
+    /// A packet arrives: a verdict for each of its chunks, and what is to be answered at once is written to `out`.
     pub fn arrive(&mut self, packet: &[u8], lent: &Lent, echoed: Echoed, out: &mut [u8]) -> Answer<Arrived> {
         let values = library::Lent { tag: lent.tag, tsn: lent.tsn, streams: lent.streams };
         let answer = L::arrive(&mut self.record, &mut self.received, packet, values, &lent.cookie, echoed_for_c(echoed), out);
@@ -92,6 +100,7 @@ impl<L: Library> Association<L> {
         answered(answer.number, Arrived { verdicts, reply: answer.length })
     }
 
+    /// Asks the peer at this port for an association, with our tag, our first TSN and the streams wanted for sending: an INIT is written.
     pub fn associate(&mut self, tag: u32, tsn: u32, port: u16, streams: u16, out: &mut [u8]) -> Answer<usize> {
         sent(L::associate(&mut self.record, tag, tsn, port, streams, out))
     }
@@ -102,6 +111,7 @@ impl<L: Library> Association<L> {
         answered(answer.number, answer.chunks)
     }
 
+    /// A packet of DATA, as far as flight and the peer's window allow; of length 0 where nothing goes out.
     pub fn transmit(&mut self, out: &mut [u8]) -> Answer<Transmitted> {
         let answer = L::transmit(&mut self.record, &self.to_send, out);
         answered(answer.number, Transmitted { length: answer.length, resent: answer.resent, first: answer.first, last: answer.last })
@@ -122,44 +132,54 @@ impl<L: Library> Association<L> {
         matches!(self.take(&mut []), Err(NotTaken::Short(_)))
     }
 
+    /// A SACK of what has come.
     pub fn sack(&mut self, out: &mut [u8]) -> Answer<Acknowledged> {
         let answer = L::sack(&mut self.record, out);
         answered(answer.number, Acknowledged { length: answer.length, window: answer.sack.window })
     }
 
+    /// T1 has expired: INIT or COOKIE ECHO again.
     pub fn t1(&mut self, out: &mut [u8]) -> Answer<Expired> {
         expired(L::t1(&mut self.record, out))
     }
 
+    /// T2 has expired: SHUTDOWN or SHUTDOWN ACK again.
     pub fn t2(&mut self, out: &mut [u8]) -> Answer<Expired> {
         expired(L::t2(&mut self.record, out))
     }
 
+    /// T3 has expired: what is outstanding is marked, and `transmit` sends it again.
     pub fn t3(&mut self) -> Answer<Expired> {
         expired(L::t3(&mut self.record))
     }
 
+    /// No more messages: a SHUTDOWN is written now, or when all is acknowledged.
     pub fn shutdown(&mut self, out: &mut [u8]) -> Answer<usize> {
         sent(L::shutdown(&mut self.record, out))
     }
 
+    /// Closes at once; an ABORT is written, where the peer's tag is known.
     pub fn abort(&mut self, cause: Cause, out: &mut [u8]) -> Answer<usize> {
         let (number, tsn) = cause_for_c(cause);
         sent(L::abort(&mut self.record, number, tsn, out))
     }
 
+    /// Tells the peer that a stream is not agreed.
     pub fn error_stream(&mut self, stream: u16, out: &mut [u8]) -> Answer<usize> {
         sent(L::error_stream(&mut self.record, stream, out))
     }
 
+    /// Tells the peer at this port, with this tag, that its cookie came so many microseconds too late.
     pub fn error_stale(&mut self, port: u16, tag: u32, late: u32, out: &mut [u8]) -> Answer<usize> {
         sent(L::error_stale(&mut self.record, port, tag, late, out))
     }
 
+    /// A HEARTBEAT with a value that the peer's answer brings back.
     pub fn heartbeat(&mut self, value: [u8; 8], out: &mut [u8]) -> Answer<usize> {
         sent(L::heartbeat(&mut self.record, value, out))
     }
 
+    /// A round trip was measured.
     pub fn rtt(&mut self, sample: Duration) -> Answer<()> {
         let milliseconds = u32::try_from(sample.as_millis()).unwrap_or(u32::MAX);
         sent(L::rtt(&mut self.record, milliseconds)).map(|_| ())

@@ -14,15 +14,24 @@ pub const STREAMS_MOST: u16 = 128;
 /// Of a SACK, one place's worth of window.
 pub const PAYLOAD: usize = 512;
 
+/// RFC 9260 section 4.
 #[derive(Clone, Copy, Debug, PartialEq, Eq)]
 pub enum State {
+    /// There is no association.
     Closed,
+    /// An INIT was sent.
     CookieWait,
+    /// A cookie was echoed.
     CookieEchoed,
+    /// Both ends send and take.
     Established,
+    /// We shut down when all is acknowledged.
     ShutdownPending,
+    /// A SHUTDOWN was sent.
     ShutdownSent,
+    /// The peer shuts down; what was handed in still goes out.
     ShutdownReceived,
+    /// A SHUTDOWN ACK was sent.
     ShutdownAckSent,
 }
 
@@ -53,17 +62,28 @@ impl State {
 pub struct Refusal(pub u8);
 
 impl Refusal {
+    /// Port or tag.
     pub const TAG: Refusal = Refusal(4);
+    /// Not for this state.
     pub const STATE: Refusal = Refusal(7);
+    /// DATA that has come before.
     pub const DUPLICATE: Refusal = Refusal(11);
+    /// Every place is held and no message can be taken.
     pub const WEDGED: Refusal = Refusal(12);
+    /// DATA too far ahead.
     pub const FAR: Refusal = Refusal(13);
+    /// DATA for a stream that is not agreed.
     pub const STRAY: Refusal = Refusal(14);
+    /// No message to take.
     pub const NOTHING: Refusal = Refusal(17);
+    /// No room to send.
     pub const FULL: Refusal = Refusal(20);
+    /// DATA that contradicts a held chunk.
     pub const CLASHING: Refusal = Refusal(21);
+    /// DATA half the circle from the point.
     pub const OPPOSITE: Refusal = Refusal(24);
 
+    /// The number in words.
     pub fn meaning(self) -> &'static str {
         match self.0 {
             1 => "record outside its bounds",
@@ -102,13 +122,17 @@ impl fmt::Display for Refusal {
 
 impl std::error::Error for Refusal {}
 
+/// What was asked for, or the number that refuses it.
 pub type Answer<T> = Result<T, Refusal>;
 
 /// What the host may know of a record between calls.
 #[derive(Clone, Copy, Debug, PartialEq, Eq)]
 pub struct Standing {
+    /// Where the association is in its life.
     pub state: State,
+    /// How long the timers run.
     pub rto: Duration,
+    /// The tag that packets to us show.
     pub my_tag: u32,
     /// The streams agreed for sending.
     pub streams_out: u16,
@@ -145,14 +169,20 @@ pub struct Shelf {
     pub held: Vec<(u16, u16)>,
 }
 
+/// What a packet is, before it arrives.
 #[derive(Clone, Copy, Debug, PartialEq, Eq)]
 pub enum Peeked {
+    /// It is not well formed.
     Refused(Refusal),
+    /// Its first chunk is nothing that the host has to know of.
     Nothing,
+    /// An INIT, for which the host makes a cookie.
     Init(Init),
     /// Where the echoed cookie stands in the packet.
     Echo {
+        /// The cookie's first byte in the packet.
         at: usize,
+        /// The bytes of the cookie.
         len: usize,
     },
 }
@@ -160,11 +190,17 @@ pub enum Peeked {
 /// The fields of an INIT, and the port that it came from.
 #[derive(Clone, Copy, Debug, PartialEq, Eq)]
 pub struct Init {
+    /// The port that the packet came from.
     pub source: u16,
+    /// The peer's tag.
     pub tag: u32,
+    /// The window that the peer offers.
     pub window: u32,
+    /// The streams that the peer wants to send on.
     pub outs: u16,
+    /// The streams that the peer takes at most.
     pub ins: u16,
+    /// The peer's first TSN.
     pub tsn: u32,
 }
 
@@ -186,114 +222,177 @@ impl Init {
 /// What the host lends for the INIT ACK that answers an INIT.
 #[derive(Clone, Debug, Default, PartialEq, Eq)]
 pub struct Lent {
+    /// Our tag.
     pub tag: u32,
+    /// Our first TSN.
     pub tsn: u32,
+    /// The streams wanted for sending.
     pub streams: u16,
+    /// What the peer is to echo.
     pub cookie: Vec<u8>,
 }
 
 /// What a cookie was made from.
 #[derive(Clone, Copy, Debug, Default, PartialEq, Eq)]
 pub struct Made {
+    /// Our tag.
     pub my_tag: u32,
+    /// The peer's tag.
     pub peer_tag: u32,
+    /// The streams agreed for receiving.
     pub streams_in: u16,
+    /// The streams agreed for sending.
     pub streams_out: u16,
+    /// Our first TSN.
     pub my_tsn: u32,
+    /// The peer's first TSN.
     pub peer_tsn: u32,
+    /// The peer's window.
     pub window: u32,
 }
 
 /// The host's word on an echoed cookie.
 #[derive(Clone, Copy, Debug, PartialEq, Eq)]
 pub enum Echoed {
+    /// Not ours, or changed, or used; or there is none.
     Bad,
+    /// Ours, and past its lifetime.
     Stale(Made),
+    /// Ours.
     Good(Made),
 }
 
+/// What became of a chunk.
 #[derive(Clone, Copy, Debug, PartialEq, Eq)]
 pub enum Fate {
+    /// It was taken in.
     Accepted,
+    /// It was refused.
     Refused(Refusal),
-    Skipped { reported: bool },
-    Stopped { reported: bool },
+    /// Of an unknown type, and left aside.
+    Skipped {
+        /// Whether the peer is told.
+        reported: bool,
+    },
+    /// Of an unknown type that ends the packet.
+    Stopped {
+        /// Whether the peer is told.
+        reported: bool,
+    },
+    /// Behind a chunk that ended the packet.
     Unread,
 }
 
 /// The call that a verdict names, which is the host's to make.
 #[derive(Clone, Copy, Debug, PartialEq, Eq)]
 pub enum Named {
+    /// None.
     NoCall,
+    /// `error_stream`, with this stream.
     ErrorStream(u16),
+    /// `error_stale`.
     ErrorStale,
+    /// `abort`.
     Abort(Cause),
 }
 
 /// Why the host aborts.
 #[derive(Clone, Copy, Debug, PartialEq, Eq)]
 pub enum Cause {
+    /// For reasons of its own.
     User,
+    /// DATA with this TSN had no payload.
     NoData(u32),
+    /// The peer broke the protocol.
     Violation,
 }
 
 /// What a chunk caused.
 #[derive(Clone, Copy, Debug, PartialEq, Eq)]
 pub enum Turn {
+    /// Nothing.
     None,
+    /// The association is established.
     Up,
+    /// The peer has aborted.
     Aborted,
+    /// Our echo came too late for the peer.
     StaleCookie,
+    /// The peer's INIT ACK had a host name.
     HostName,
+    /// Both ends have shut down.
     ShutDown,
 }
 
+/// Of one chunk.
 #[derive(Clone, Copy, Debug, PartialEq, Eq)]
 pub struct Verdict {
     /// Where the chunk begins in the packet.
     pub at: usize,
+    /// What became of it.
     pub fate: Fate,
+    /// The call that it asks for.
     pub named: Named,
+    /// What it caused.
     pub turn: Turn,
 }
 
+/// Of a packet that was let in.
 #[derive(Clone, Debug, PartialEq, Eq)]
 pub struct Arrived {
+    /// One for each chunk, in their order.
     pub verdicts: Vec<Verdict>,
+    /// The bytes of the reply; 0 for none.
     pub reply: usize,
 }
 
+/// A packet of DATA.
 #[derive(Clone, Copy, Debug, PartialEq, Eq)]
 pub struct Transmitted {
+    /// Its bytes; 0 for none.
     pub length: usize,
+    /// Whether a chunk in it was sent before, so that its round trip must not be measured.
     pub resent: bool,
+    /// The TSN of its first chunk.
     pub first: u32,
+    /// The TSN of its last chunk.
     pub last: u32,
 }
 
+/// A message that was taken.
 #[derive(Clone, Copy, Debug, PartialEq, Eq)]
 pub struct Taken {
+    /// Its bytes.
     pub length: usize,
+    /// The stream that it came on.
     pub stream: u16,
+    /// Whether it is out of its stream's order.
     pub unordered: bool,
+    /// Its number in its stream, on the circle of 2^16.
     pub ssn: u16,
+    /// The number that the peer's host gave it.
     pub ppid: u32,
 }
 
+/// Why no message was taken.
 #[derive(Clone, Copy, Debug, PartialEq, Eq)]
 pub enum NotTaken {
+    /// There is none, or the call is refused.
     Refused(Refusal),
     /// The buffer is too short for the message, which has so many bytes.
     Short(usize),
 }
 
+/// A SACK.
 #[derive(Clone, Copy, Debug, PartialEq, Eq)]
 pub struct Acknowledged {
+    /// Its packet's bytes.
     pub length: usize,
+    /// The window that it offers.
     pub window: u32,
 }
 
+/// What came of a timer.
 #[derive(Clone, Copy, Debug, PartialEq, Eq)]
 pub enum Expired {
     /// So many bytes go out; 0 for none.

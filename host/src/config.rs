@@ -5,6 +5,7 @@ use crate::heartbeat;
 use crate::silence;
 use std::time::Duration;
 
+/// What an endpoint, and every association of a hub, is set to.
 #[derive(Clone, Debug)]
 pub struct Config {
     /// Our SCTP port, inside UDP.

@@ -4,16 +4,26 @@ use crate::calls::Refusal;
 
 const NUMBERS: usize = 28;
 
+/// What an endpoint, an association or a hub did, in numbers.
 #[derive(Clone, Copy, Debug, Default, PartialEq, Eq)]
 pub struct Counts {
+    /// Packets that went out.
     pub packets_sent: u64,
+    /// Packets that came, refused ones too.
     pub packets_received: u64,
+    /// Bytes of the packets that went out.
     pub bytes_sent: u64,
+    /// Messages that were handed in.
     pub messages_in: u64,
+    /// Messages that were taken.
     pub messages_out: u64,
+    /// Packets with a chunk that was sent before.
     pub resent: u64,
+    /// SACKs that went out.
     pub acknowledgements: u64,
+    /// Timers that expired.
     pub expiries: u64,
+    /// Replies of a handshake that were repeated.
     pub last_words: u64,
     /// INITs and cookies that nobody is asked about, since no association is taken up.
     pub turned_away: u64,
@@ -23,12 +33,14 @@ pub struct Counts {
 }
 
 impl Counts {
+    /// One more of this number.
     pub fn refuse(&mut self, refusal: Refusal) {
         if let Some(count) = self.refused.get_mut(usize::from(refusal.0)) {
             *count += 1;
         }
     }
 
+    /// The sum of both.
     pub fn and(&self, other: &Counts) -> Counts {
         let mut refused = self.refused;
         for (sum, more) in refused.iter_mut().zip(other.refused) {

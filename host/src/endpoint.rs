@@ -16,6 +16,51 @@ pub use crate::config::Config;
 pub use crate::event::{Event, Why};
 pub use crate::packet::Datagram;
 
+/// One end. `udp::Line` puts one on a socket; here two of them have a network in memory:
+///
+#[cfg_attr(feature = "proved", doc = "```")]
+#[cfg_attr(not(feature = "proved"), doc = "```ignore")]
+/// use oilwhisper::endpoint::{Config, Endpoint, Event, Why};
+/// use oilwhisper::library::Proved;
+/// use oilwhisper::random::Random;
+/// use std::net::SocketAddr;
+/// use std::time::Instant;
+///
+/// /// Carries packets to and fro until neither end has one.
+/// fn carry(ends: &mut [Endpoint<Proved>; 2], at: [SocketAddr; 2], now: Instant) {
+///     let mut has_moved = true;
+///     while std::mem::take(&mut has_moved) {
+///         for n in 0..2 {
+///             ends[n].flush(now);
+///             while let Some(datagram) = ends[n].outgoing() {
+///                 ends[1 - n].arrive(&datagram.packet, at[n], now);
+///                 has_moved = true;
+///             }
+///         }
+///     }
+/// }
+///
+/// # fn main() -> Result<(), Box<dyn std::error::Error>> {
+/// let now = Instant::now();
+/// let at = ["192.0.2.1:9899".parse()?, "192.0.2.2:9899".parse()?];
+/// let end = |port| Ok::<_, std::io::Error>(Endpoint::new(Config::at_port(port), Random::from_system()?, now));
+/// let mut ends = [end(5000)?, end(5001)?];
+///
+/// ends[0].associate(at[1], 5001, now)?;
+/// carry(&mut ends, at, now);
+/// assert_eq!([ends[0].event(), ends[1].event()], [Some(Event::Up); 2]);
+///
+/// ends[0].hand_in(b"painted rock", 3, false, 0)?;
+/// carry(&mut ends, at, now);
+/// let (taken, message) = ends[1].take().expect("it has come");
+/// assert_eq!((taken.stream, message), (3, &b"painted rock"[..]));
+///
+/// ends[0].shutdown(now)?;
+/// carry(&mut ends, at, now);
+/// assert_eq!(ends[1].event(), Some(Event::Down(Why::ShutDown)));
+/// # Ok(())
+/// # }
+/// ```
 pub struct Endpoint<L> {
     config: Config,
     tools: Tools,
@@ -27,6 +72,7 @@ pub struct Endpoint<L> {
 }
 
 impl<L: Library> Endpoint<L> {
+    /// An endpoint without an association.
     pub fn new(config: Config, random: Random, now: Instant) -> Endpoint<L> {
         let mut tools = Tools::new(&config, random);
         let front = Front::new(&config, &mut tools, now);
@@ -34,14 +80,17 @@ impl<L: Library> Endpoint<L> {
         Endpoint { config, tools, front, session, finished: None, message: vec![0; MESSAGE_MOST].into_boxed_slice() }
     }
 
+    /// The association's record, in the core's own terms.
     pub fn core(&self) -> &Association<L> {
         self.session.core()
     }
 
+    /// Where the association stands now.
     pub fn standing(&self) -> Standing {
         self.session.standing()
     }
 
+    /// What it did so far, in all its associations.
     pub fn counts(&self) -> &Counts {
         &self.session.outbox.counts
     }
@@ -51,6 +100,7 @@ impl<L: Library> Endpoint<L> {
         self.session.silence(now)
     }
 
+    /// Where packets to the peer go.
     pub fn peer(&self) -> Option<SocketAddr> {
         self.session.peer()
     }
@@ -107,6 +157,7 @@ impl<L: Library> Endpoint<L> {
         self.session.shutdown(&mut self.tools, now)
     }
 
+    /// Closes at once, and tells the peer.
     pub fn abort(&mut self, cause: Cause, now: Instant) -> Answer<()> {
         self.session.abort(cause, &mut self.tools, now)
     }

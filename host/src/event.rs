@@ -4,9 +4,12 @@ use crate::calls::Cause;
 use std::fmt;
 use std::time::Duration;
 
+/// What happened.
 #[derive(Clone, Copy, Debug, PartialEq, Eq)]
 pub enum Event {
+    /// The association is established.
     Up,
+    /// It is over.
     Down(Why),
     /// The peer owes an answer and has not been heard for so long. The association is still up, or still asked for.
     Quiet(Duration),
@@ -14,13 +17,20 @@ pub enum Event {
     Heard,
 }
 
+/// Why an association is over.
 #[derive(Clone, Copy, Debug, PartialEq, Eq)]
 pub enum Why {
+    /// Both ends have shut down, and all was delivered.
     ShutDown,
+    /// The peer has aborted it.
     PeerAborted,
+    /// This end has aborted it.
     WeAborted(Cause),
+    /// The cookie came back to the peer too late.
     StaleCookie,
+    /// The peer wants a host name resolved, which nobody does.
     HostName,
+    /// The peer does not answer.
     NoAnswer,
     /// Another association with the same peer has taken its place.
     BeganAnew,

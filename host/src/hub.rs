@@ -37,9 +37,12 @@ impl HeadId {
     }
 }
 
+/// What happened to an association.
 #[derive(Clone, Debug, PartialEq, Eq)]
 pub enum Event {
+    /// It is established.
     Up {
+        /// Where the peer is.
         peer: SocketAddr,
         /// The streams agreed for sending.
         streams: u16,
@@ -54,17 +57,23 @@ pub enum Event {
     Quiet(Duration),
     /// A peer that was quiet is heard again.
     Heard,
+    /// Packets to the peer go elsewhere from now on.
     Moved {
+        /// Where they went.
         from: SocketAddr,
+        /// Where they go.
         to: SocketAddr,
     },
     /// It is over. What came and was acknowledged can still be taken; of these messages nobody knows whether the peer has them.
     Down {
+        /// How it came to its end.
         why: Why,
+        /// The messages that were not acknowledged.
         undelivered: Vec<Ticket>,
     },
 }
 
+/// What a hub is set to.
 #[derive(Clone, Debug)]
 pub struct Settings {
     /// What every association is set to, and who may come.
@@ -107,6 +116,59 @@ enum Sender {
     Head(HeadId),
 }
 
+/// The hub. `udp::Station` puts one on a socket; here a field computer has two heads, each an endpoint, and a network in memory:
+///
+#[cfg_attr(feature = "proved", doc = "```")]
+#[cfg_attr(not(feature = "proved"), doc = "```ignore")]
+/// use oilwhisper::endpoint::{Config, Endpoint};
+/// use oilwhisper::hub::{Event, Hub, Settings};
+/// use oilwhisper::library::Proved;
+/// use oilwhisper::random::Random;
+/// use std::net::SocketAddr;
+/// use std::time::Instant;
+///
+/// # fn main() -> Result<(), Box<dyn std::error::Error>> {
+/// let now = Instant::now();
+/// let field_at: SocketAddr = "192.0.2.1:9899".parse()?;
+/// let mut field = Hub::<Proved>::new(Settings::for_heads(Config::on_a_rail(5001), 64), Random::from_system()?, now);
+/// let mut heads = Vec::new();
+/// for at in ["192.0.2.11:9899", "192.0.2.12:9899"] {
+///     let mut head = Endpoint::<Proved>::new(Config::on_a_rail(5000), Random::from_system()?, now);
+///     head.associate(field_at, 5001, now)?;
+///     heads.push((at.parse::<SocketAddr>()?, head));
+/// }
+///
+/// let mut came = Vec::new();
+/// while came.len() < heads.len() {
+///     for (at, head) in &mut heads {
+///         // Refused until the association is up; `hand_in` of a hub gives a ticket, and its delivery is an event.
+///         if head.counts().messages_in == 0 {
+///             let _ = head.hand_in(at.to_string().as_bytes(), 0, false, 0);
+///         }
+///         head.flush(now);
+///         while let Some(datagram) = head.outgoing() {
+///             field.arrive(&datagram.packet, *at, now);
+///         }
+///     }
+///     while let Some((id, event)) = field.event() {
+///         if event == Event::Readable {
+///             while let Some((_, message)) = field.take(id) {
+///                 came.push(String::from_utf8(message.to_vec())?);
+///             }
+///         }
+///     }
+///     field.flush(now);
+///     while let Some(datagram) = field.outgoing() {
+///         for (_, head) in heads.iter_mut().filter(|(at, _)| *at == datagram.to) {
+///             head.arrive(&datagram.packet, field_at, now);
+///         }
+///     }
+/// }
+/// came.sort();
+/// assert_eq!(came, ["192.0.2.11:9899", "192.0.2.12:9899"]);
+/// # Ok(())
+/// # }
+/// ```
 pub struct Hub<L> {
     settings: Settings,
     tools: Tools,
@@ -130,6 +192,7 @@ pub struct Hub<L> {
 }
 
 impl<L: Library> Hub<L> {
+    /// A hub without associations.
     pub fn new(settings: Settings, random: Random, now: Instant) -> Hub<L> {
         let mut tools = Tools::new(&settings.common, random);
         let front = Front::new(&settings.common, &mut tools, now);
@@ -162,14 +225,17 @@ impl<L: Library> Hub<L> {
         self.heads.keys().copied()
     }
 
+    /// Where an association stands now; none where it is not there.
     pub fn standing(&self, head: HeadId) -> Option<Standing> {
         self.heads.get(&head).map(|head| head.session.standing())
     }
 
+    /// Where packets to its peer go.
     pub fn peer(&self, head: HeadId) -> Option<SocketAddr> {
         self.heads.get(&head).map(|head| head.peer)
     }
 
+    /// What it did so far.
     pub fn counts(&self, head: HeadId) -> Option<&Counts> {
         self.heads.get(&head).map(|head| &head.session.outbox.counts)
     }
@@ -259,6 +325,7 @@ impl<L: Library> Hub<L> {
         answer
     }
 
+    /// Closes an association at once, and tells the peer.
     pub fn abort(&mut self, head: HeadId, cause: Cause, now: Instant) -> Answer<()> {
         let answer = self.heads.get_mut(&head).ok_or(Refusal::STATE)?.session.abort(cause, &mut self.tools, now);
         self.settle(head, now);

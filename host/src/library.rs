@@ -4,116 +4,188 @@
 use crate::calls::{Made, Taken};
 use crate::ffi::{Record, BLOCKS, LISTED};
 
+/// Of most calls.
 #[derive(Clone, Copy, Debug, PartialEq, Eq)]
 pub struct Answer {
+    /// 0, or what refuses it.
     pub number: u8,
+    /// Bytes of the packet that was written; 0 for none.
     pub length: usize,
+    /// Whether an expiry closed the association.
     pub over: bool,
 }
 
+/// The first chunk of a packet; what does not belong to its kind is 0.
 #[derive(Clone, Copy, Debug, PartialEq, Eq)]
 pub struct Peeked {
+    /// 0, or what refuses it.
     pub number: u8,
+    /// `ffi::SAW_NOTHING`, `SAW_INIT` or `SAW_COOKIE_ECHO`.
     pub kind: u8,
+    /// Of an INIT: the port that it came from.
     pub source: u16,
+    /// Of an INIT: the peer's tag.
     pub tag: u32,
+    /// Of an INIT: the peer's window.
     pub window: u32,
+    /// Of an INIT: the streams that the peer wants to send on.
     pub outs: u16,
+    /// Of an INIT: the streams that the peer takes at most.
     pub ins: u16,
+    /// Of an INIT: the peer's first TSN.
     pub tsn: u32,
+    /// Of a COOKIE ECHO: the cookie's first byte.
     pub at: usize,
+    /// Of a COOKIE ECHO: the cookie's bytes.
     pub len: usize,
 }
 
+/// For the INIT ACK that answers an INIT.
 #[derive(Clone, Copy, Debug, Default, PartialEq, Eq)]
 pub struct Lent {
+    /// Our tag.
     pub tag: u32,
+    /// Our first TSN.
     pub tsn: u32,
+    /// The streams wanted for sending.
     pub streams: u16,
 }
 
+/// The host's word on an echoed cookie.
 #[derive(Clone, Copy, Debug, Default, PartialEq, Eq)]
 pub struct Echoed {
+    /// `ffi::BAD`, `LATE` or `GOOD`.
     pub word: u8,
+    /// What the cookie was made from.
     pub made: Made,
 }
 
+/// What became of a chunk.
 #[derive(Clone, Copy, Debug, PartialEq, Eq)]
 pub struct Verdict {
+    /// Its first byte in the packet.
     pub at: usize,
+    /// The TSN or the stream that the named call takes.
     pub value: u32,
+    /// One of the fates in `ffi`.
     pub fate: u8,
+    /// 0, or what refuses it.
     pub number: u8,
+    /// The call that it names.
     pub cause: u8,
+    /// What it caused.
     pub event: u8,
 }
 
 /// A verdict for each chunk of the packet.
 #[derive(Clone, Debug, PartialEq, Eq)]
 pub struct Arrived {
+    /// 0, or what refuses the packet.
     pub number: u8,
+    /// In the order of the chunks.
     pub verdicts: Vec<Verdict>,
+    /// Bytes of the reply; 0 for none.
     pub length: usize,
 }
 
+/// Of a message that was handed in.
 #[derive(Clone, Copy, Debug, PartialEq, Eq)]
 pub struct HandedIn {
+    /// 0, or what refuses it.
     pub number: u8,
+    /// Into how many it was cut.
     pub chunks: usize,
 }
 
+/// A packet of DATA.
 #[derive(Clone, Copy, Debug, PartialEq, Eq)]
 pub struct Transmitted {
+    /// 0, or what refuses it.
     pub number: u8,
+    /// Its bytes; 0 for none.
     pub length: usize,
+    /// Whether a chunk in it was sent before.
     pub resent: bool,
+    /// The TSN of its first chunk.
     pub first: u32,
+    /// The TSN of its last chunk.
     pub last: u32,
 }
 
+/// Of a message that is taken.
 #[derive(Clone, Copy, Debug, PartialEq, Eq)]
 pub struct Delivered {
+    /// 0, or what refuses it.
     pub number: u8,
+    /// The message; for a buffer that is too short its length alone.
     pub message: Taken,
 }
 
 /// What a SACK says. Entries behind the first `blocks`, and the first `listed`, are 0.
 #[derive(Clone, Copy, Debug, PartialEq, Eq)]
 pub struct Sacked {
+    /// All up to this TSN have come.
     pub point: u32,
+    /// The window offered.
     pub window: u32,
+    /// How many gap blocks there are.
     pub blocks: usize,
+    /// Where each begins, from the point on.
     pub starts: [u16; BLOCKS],
+    /// Where each ends.
     pub ends: [u16; BLOCKS],
+    /// TSNs that came again.
     pub dups: [u32; LISTED],
+    /// How many of them.
     pub listed: usize,
 }
 
+/// A SACK as a packet, and what it says.
 #[derive(Clone, Copy, Debug, PartialEq, Eq)]
 pub struct Acknowledged {
+    /// 0, or what refuses it.
     pub number: u8,
+    /// Bytes of the packet.
     pub length: usize,
+    /// What it says.
     pub sack: Sacked,
 }
 
 /// What each call does and answers stands in `include/oilwhisper.h`.
 pub trait Library {
+    /// A closed record.
     fn closed(port: u16) -> Record;
+    /// A packet before it arrives.
     fn peek(packet: &[u8]) -> Peeked;
+    /// A packet arrives.
     fn arrive(record: &mut Record, area: &mut [u8], packet: &[u8], lent: Lent, cookie: &[u8], echoed: Echoed, out: &mut [u8]) -> Arrived;
+    /// Asks for an association.
     fn associate(record: &mut Record, tag: u32, tsn: u32, port: u16, streams: u16, out: &mut [u8]) -> Answer;
+    /// A message to send.
     fn hand_in(record: &mut Record, area: &mut [u8], message: &[u8], stream: u16, unordered: u8, ppid: u32) -> HandedIn;
+    /// A packet of DATA.
     fn transmit(record: &mut Record, area: &[u8], out: &mut [u8]) -> Transmitted;
+    /// The next message that came.
     fn take(record: &mut Record, area: &[u8], out: &mut [u8]) -> Delivered;
+    /// A SACK.
     fn sack(record: &mut Record, out: &mut [u8]) -> Acknowledged;
+    /// T1 has expired.
     fn t1(record: &mut Record, out: &mut [u8]) -> Answer;
+    /// T2 has expired.
     fn t2(record: &mut Record, out: &mut [u8]) -> Answer;
+    /// T3 has expired.
     fn t3(record: &mut Record) -> Answer;
+    /// A round trip of so many milliseconds.
     fn rtt(record: &mut Record, sample: u32) -> Answer;
+    /// No more messages.
     fn shutdown(record: &mut Record, out: &mut [u8]) -> Answer;
+    /// The end, at once.
     fn abort(record: &mut Record, cause: u8, tsn: u32, out: &mut [u8]) -> Answer;
+    /// An ERROR for a stream that is not agreed.
     fn error_stream(record: &mut Record, stream: u16, out: &mut [u8]) -> Answer;
+    /// An ERROR for a cookie that came too late.
     fn error_stale(record: &mut Record, port: u16, tag: u32, late: u32, out: &mut [u8]) -> Answer;
+    /// A HEARTBEAT.
     fn heartbeat(record: &mut Record, value: [u8; 8], out: &mut [u8]) -> Answer;
 }
 

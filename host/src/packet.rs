@@ -3,15 +3,25 @@
 use std::net::SocketAddr;
 use std::time::Instant;
 
+/// Type of a chunk: RFC 9260 section 3.3.1.
 pub const DATA: u8 = 0;
+/// Type of a chunk: RFC 9260 section 3.3.2.
 pub const INIT: u8 = 1;
+/// Type of a chunk: RFC 9260 section 3.3.3.
 pub const INIT_ACK: u8 = 2;
+/// Type of a chunk: RFC 9260 section 3.3.6.
 pub const HEARTBEAT_ACK: u8 = 5;
+/// Type of a chunk: RFC 9260 section 3.3.7.
 pub const ABORT: u8 = 6;
+/// Type of a chunk: RFC 9260 section 3.3.9.
 pub const SHUTDOWN_ACK: u8 = 8;
+/// Type of a chunk: RFC 9260 section 3.3.10.
 pub const ERROR: u8 = 9;
+/// Type of a chunk: RFC 9260 section 3.3.11.
 pub const COOKIE_ECHO: u8 = 10;
+/// Type of a chunk: RFC 9260 section 3.3.12.
 pub const COOKIE_ACK: u8 = 11;
+/// Type of a chunk: RFC 9260 section 3.3.13.
 pub const SHUTDOWN_COMPLETE: u8 = 14;
 
 /// Of an ABORT's or a SHUTDOWN COMPLETE's flags: the tag is the one of the packet that it answers.
@@ -20,13 +30,15 @@ pub const T: u8 = 1;
 /// A packet on its way out.
 #[derive(Clone, Debug, PartialEq, Eq)]
 pub struct Datagram {
+    /// Where it goes.
     pub to: SocketAddr,
+    /// The SCTP packet, which is all that the UDP datagram has.
     pub packet: Vec<u8>,
 }
 
 /// A packet that has come.
 #[derive(Clone, Copy, Debug)]
-pub struct Incoming<'a> {
+pub(crate) struct Incoming<'a> {
     pub packet: &'a [u8],
     pub from: SocketAddr,
     pub at: Instant,
@@ -35,14 +47,17 @@ pub struct Incoming<'a> {
 /// The bytes before the first chunk.
 pub const HEADER: usize = 12;
 
+/// The port that it came from.
 pub fn source_port(packet: &[u8]) -> Option<u16> {
     half(packet.get(0..2)?)
 }
 
+/// The port that it goes to.
 pub fn destination_port(packet: &[u8]) -> Option<u16> {
     half(packet.get(2..4)?)
 }
 
+/// The tag that it shows.
 pub fn tag(packet: &[u8]) -> Option<u32> {
     match packet.get(4..8)? {
         [a, b, c, d] => Some(u32::from_be_bytes([*a, *b, *c, *d])),

@@ -15,18 +15,21 @@ const UDP: u8 = 17;
 const UDP_HEADER: usize = 8;
 const HOPS: u8 = 64;
 
+/// A capture.
 pub struct Pcap<W: Write> {
     file: W,
     failed: Option<io::Error>,
 }
 
 impl Pcap<File> {
+    /// A capture in a new file.
     pub fn create(path: &Path) -> io::Result<Pcap<File>> {
         Pcap::new(File::create(path)?)
     }
 }
 
 impl<W: Write> Pcap<W> {
+    /// A capture that is written here: its head comes first.
     pub fn new(mut file: W) -> io::Result<Pcap<W>> {
         file.write_all(&0xa1b2_c3d4u32.to_le_bytes())?;
         file.write_all(&2u16.to_le_bytes())?;
@@ -44,6 +47,7 @@ impl<W: Write> Pcap<W> {
         }
     }
 
+    /// The end: all is written when this has returned, or the first failure is told.
     pub fn close(&mut self) -> io::Result<()> {
         match self.failed.take() {
             Some(e) => Err(e),
@@ -145,6 +149,7 @@ fn internet_checksum(parts: &[&[u8]]) -> u16 {
     !(sum as u16)
 }
 
+/// A capture that several ends write to.
 pub type Capture = Arc<Mutex<Pcap<File>>>;
 
 /// One end's view of a capture. Several ends can share one.
@@ -176,10 +181,12 @@ impl Tap {
         Tap { writes_received: true, ..self }
     }
 
+    /// A packet went there.
     pub fn sent(&self, to: SocketAddr, packet: &[u8]) {
         self.write(self.here_for(to), self.behind.get(&to).copied().unwrap_or(to), packet);
     }
 
+    /// A packet came from there.
     pub fn received(&self, from: SocketAddr, packet: &[u8]) {
         if self.writes_received {
             self.write(from, self.here_for(from), packet);

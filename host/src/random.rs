@@ -17,20 +17,24 @@ impl Random {
         Ok(Random::from_key(key))
     }
 
+    /// The stream of this key, which tests repeat.
     pub fn from_key(key: Key) -> Random {
         Random { key, counter: 0 }
     }
 
+    /// The next 32 bytes.
     pub fn key(&mut self) -> Key {
         self.counter += 1;
         sign(&self.key, &self.counter.to_be_bytes())
     }
 
+    /// The next eight bytes.
     pub fn bytes(&mut self) -> [u8; 8] {
         let code = self.key();
         [code[0], code[1], code[2], code[3], code[4], code[5], code[6], code[7]]
     }
 
+    /// The next 32 bits.
     pub fn word(&mut self) -> u32 {
         (u64::from_be_bytes(self.bytes()) >> 32) as u32
     }
@@ -51,10 +55,12 @@ impl Random {
 pub struct Seeded(u64);
 
 impl Seeded {
+    /// The numbers of this seed.
     pub fn new(seed: u64) -> Seeded {
         Seeded(seed)
     }
 
+    /// The next number.
     pub fn number(&mut self) -> u64 {
         self.0 = self.0.wrapping_add(0x9e37_79b9_7f4a_7c15);
         let mut mixed = self.0;

@@ -8,7 +8,7 @@ use std::collections::VecDeque;
 pub struct Ticket(pub u64);
 
 #[derive(Debug)]
-pub struct Tickets {
+pub(crate) struct Tickets {
     next: u64,
     /// The TSN up to which the peer has all.
     point: u32,

@@ -1,4 +1,42 @@
 //! An endpoint or a hub on a UDP socket: each datagram is one SCTP packet (RFC 6951).
+//!
+#![cfg_attr(feature = "proved", doc = "```")]
+#![cfg_attr(not(feature = "proved"), doc = "```ignore")]
+//! use oilwhisper::endpoint::{Config, Endpoint};
+//! use oilwhisper::hub::{Event, Hub, Settings};
+//! use oilwhisper::library::Proved;
+//! use oilwhisper::random::Random;
+//! use oilwhisper::udp::{Line, Station};
+//! use std::net::UdpSocket;
+//! use std::time::{Duration, Instant};
+//!
+//! # fn main() -> Result<(), Box<dyn std::error::Error>> {
+//! let (now, turn) = (Instant::now(), Duration::from_millis(1));
+//! let hub = Hub::<Proved>::new(Settings::for_heads(Config::on_a_rail(5001), 64), Random::from_system()?, now);
+//! let mut field = Station::new(hub, UdpSocket::bind("127.0.0.1:0")?, None);
+//!
+//! let mut head = Endpoint::<Proved>::new(Config::on_a_rail(5000), Random::from_system()?, now);
+//! head.associate(field.wire.address()?, 5001, now)?;
+//! let mut head = Line::new(head, UdpSocket::bind("127.0.0.1:0")?, None);
+//!
+//! let mut came = None;
+//! while came.is_none() {
+//!     // Refused until the association is up.
+//!     if head.endpoint.counts().messages_in == 0 {
+//!         let _ = head.endpoint.hand_in(b"painted rock", 0, false, 0);
+//!     }
+//!     head.turn(turn)?;
+//!     field.turn(turn)?;
+//!     while let Some((id, event)) = field.hub.event() {
+//!         if event == Event::Readable {
+//!             came = field.hub.take(id).map(|(_, message)| message.to_vec());
+//!         }
+//!     }
+//! }
+//! assert_eq!(came.as_deref(), Some(&b"painted rock"[..]));
+//! # Ok(())
+//! # }
+//! ```
 
 use crate::endpoint::Endpoint;
 use crate::hub::Hub;
@@ -24,10 +62,12 @@ pub struct Wire {
 }
 
 impl Wire {
+    /// A socket, and where what passes it is written down.
     pub fn new(socket: UdpSocket, tap: Option<Tap>) -> Wire {
         Wire { socket, tap, trouble: None, patience: None, buffer: [0; BUFFER] }
     }
 
+    /// Where the socket stands.
     pub fn address(&self) -> io::Result<SocketAddr> {
         self.socket.local_addr()
     }
@@ -74,15 +114,19 @@ impl Wire {
 
 /// An endpoint on a socket.
 pub struct Line<L> {
+    /// The endpoint.
     pub endpoint: Endpoint<L>,
+    /// Its socket.
     pub wire: Wire,
 }
 
 impl<L: Library> Line<L> {
+    /// An endpoint on a socket, and where what passes is written down.
     pub fn new(endpoint: Endpoint<L>, socket: UdpSocket, tap: Option<Tap>) -> Line<L> {
         Line { endpoint, wire: Wire::new(socket, tap) }
     }
 
+    /// Where its socket stands.
     pub fn address(&self) -> io::Result<SocketAddr> {
         self.wire.address()
     }
@@ -113,11 +157,14 @@ impl<L: Library> Line<L> {
 
 /// A hub on a socket.
 pub struct Station<L> {
+    /// The hub.
     pub hub: Hub<L>,
+    /// Its socket.
     pub wire: Wire,
 }
 
 impl<L: Library> Station<L> {
+    /// A hub on a socket, and where what passes is written down.
     pub fn new(hub: Hub<L>, socket: UdpSocket, tap: Option<Tap>) -> Station<L> {
         Station { hub, wire: Wire::new(socket, tap) }
     }
