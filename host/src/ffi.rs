@@ -13,7 +13,7 @@ pub const BLOCKS: usize = 64;
 /// Chunks of a packet, at most.
 pub const VERDICTS: usize = 365;
 
-/// Words of one place for receiving, one for sending, and of a verdict.
+/// Words of a place for receiving.
 pub const HELD_WORDS: usize = 4;
 /// Words of a place for sending.
 pub const PLACE_WORDS: usize = 8;

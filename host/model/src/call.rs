@@ -28,25 +28,135 @@ impl fmt::Debug for Bytes {
 /// `out` and `area` are how many bytes of the buffers are lent.
 #[derive(Clone, Debug)]
 pub enum Call {
-    Closed { port: u16 },
-    Peek { packet: Bytes },
-    Arrive { packet: Bytes, lent: Lent, cookie: Bytes, echoed: Echoed, area: usize, out: usize },
-    Associate { tag: u32, tsn: u32, port: u16, streams: u16, out: usize },
-    HandIn { message: Bytes, stream: u16, unordered: u8, ppid: u32, area: usize },
-    Transmit { area: usize, out: usize },
-    Take { area: usize, out: usize },
-    Sack { out: usize },
-    T1 { out: usize },
-    T2 { out: usize },
+    /// `closed`.
+    Closed {
+        /// Our port.
+        port: u16,
+    },
+    /// `peek`.
+    Peek {
+        /// The packet.
+        packet: Bytes,
+    },
+    /// `arrive`.
+    Arrive {
+        /// The packet.
+        packet: Bytes,
+        /// For the INIT ACK.
+        lent: Lent,
+        /// For the INIT ACK.
+        cookie: Bytes,
+        /// The host's word on an echoed cookie.
+        echoed: Echoed,
+        /// Bytes of the area that are lent.
+        area: usize,
+        /// Bytes of the output that are lent.
+        out: usize,
+    },
+    /// `associate`.
+    Associate {
+        /// Our tag.
+        tag: u32,
+        /// Our first TSN.
+        tsn: u32,
+        /// The peer's port.
+        port: u16,
+        /// The streams wanted for sending.
+        streams: u16,
+        /// Bytes of the output that are lent.
+        out: usize,
+    },
+    /// `hand_in`.
+    HandIn {
+        /// Its bytes.
+        message: Bytes,
+        /// Its stream.
+        stream: u16,
+        /// 0 for one in its stream's order.
+        unordered: u8,
+        /// The number that goes with it.
+        ppid: u32,
+        /// Bytes of the area that are lent.
+        area: usize,
+    },
+    /// `transmit`.
+    Transmit {
+        /// Bytes of the area that are lent.
+        area: usize,
+        /// Bytes of the output that are lent.
+        out: usize,
+    },
+    /// `take`.
+    Take {
+        /// Bytes of the area that are lent.
+        area: usize,
+        /// Bytes of the output that are lent.
+        out: usize,
+    },
+    /// `sack`.
+    Sack {
+        /// Bytes of the output that are lent.
+        out: usize,
+    },
+    /// `t1`.
+    T1 {
+        /// Bytes of the output that are lent.
+        out: usize,
+    },
+    /// `t2`.
+    T2 {
+        /// Bytes of the output that are lent.
+        out: usize,
+    },
+    /// `t3`.
     T3,
-    Rtt { sample: u32 },
-    Shutdown { out: usize },
-    Abort { cause: u8, tsn: u32, out: usize },
-    ErrorStream { stream: u16, out: usize },
-    ErrorStale { port: u16, tag: u32, late: u32, out: usize },
-    Heartbeat { value: [u8; 8], out: usize },
+    /// `rtt`.
+    Rtt {
+        /// Milliseconds.
+        sample: u32,
+    },
+    /// `shutdown`.
+    Shutdown {
+        /// Bytes of the output that are lent.
+        out: usize,
+    },
+    /// `abort`.
+    Abort {
+        /// Its cause.
+        cause: u8,
+        /// The TSN that goes with the cause.
+        tsn: u32,
+        /// Bytes of the output that are lent.
+        out: usize,
+    },
+    /// `error_stream`.
+    ErrorStream {
+        /// The stream.
+        stream: u16,
+        /// Bytes of the output that are lent.
+        out: usize,
+    },
+    /// `error_stale`.
+    ErrorStale {
+        /// The peer's port.
+        port: u16,
+        /// The peer's tag.
+        tag: u32,
+        /// Microseconds.
+        late: u32,
+        /// Bytes of the output that are lent.
+        out: usize,
+    },
+    /// `heartbeat`.
+    Heartbeat {
+        /// What the answer is to bring back.
+        value: [u8; 8],
+        /// Bytes of the output that are lent.
+        out: usize,
+    },
 }
 
+/// The calls' names.
 pub const KINDS: [&str; 17] = [
     "closed",
     "peek",
@@ -92,19 +202,29 @@ impl Call {
     }
 }
 
+/// What a call answered.
 #[derive(Clone, Debug, PartialEq, Eq)]
 pub enum Reply {
+    /// Of `closed`, whose record is the buffers'.
     Closed,
+    /// Of `peek`.
     Peeked(Peeked),
+    /// Of `arrive`.
     Arrived(Box<Arrived>),
+    /// Of most calls.
     Answer(Answer),
+    /// Of `hand_in`.
     HandedIn(HandedIn),
+    /// Of `transmit`.
     Transmitted(Transmitted),
+    /// Of `take`.
     Delivered(Delivered),
+    /// Of `sack`.
     Acknowledged(Box<Acknowledged>),
 }
 
 impl Reply {
+    /// 0, or what refuses it.
     pub fn number(&self) -> u8 {
         match self {
             Reply::Closed => 0,
@@ -132,9 +252,13 @@ impl Reply {
 
 /// The record and what is lent with it.
 pub struct Buffers {
+    /// The record.
     pub a: Association,
+    /// The area for receiving.
     pub receive: Vec<u8>,
+    /// The area for sending.
     pub send: Vec<u8>,
+    /// The output.
     pub out: Vec<u8>,
 }
 
@@ -142,6 +266,7 @@ pub struct Buffers {
 pub const GUARD: usize = 64;
 
 impl Buffers {
+    /// Empty buffers beside this record.
     pub fn new(a: Association) -> Buffers {
         Buffers { a, receive: vec![0; AREA + GUARD], send: vec![0; AREA + GUARD], out: vec![0; MESSAGE_MOST + GUARD] }
     }
@@ -149,6 +274,7 @@ impl Buffers {
 
 /// Whatever makes a call: a core, or one that a test has bent.
 pub trait Maker: Sync {
+    /// Makes the call, and answers what it answered.
     fn make(&self, call: &Call, b: &mut Buffers) -> Reply;
 }
 

@@ -5,31 +5,43 @@ use crate::random::Random;
 /// Each number is "one in so many"; 0 is never.
 #[derive(Clone, Copy, Debug)]
 pub struct Faults {
+    /// Packets that are lost.
     pub lose: usize,
+    /// Packets that come twice.
     pub repeat: usize,
+    /// Packets with a bit changed.
     pub damage: usize,
     /// Milliseconds, from and to: what comes later may overtake.
     pub delay: (usize, usize),
 }
 
 impl Faults {
+    /// A good channel.
     pub const NONE: Faults = Faults { lose: 0, repeat: 0, damage: 0, delay: (1, 1) };
+    /// A bad one.
     pub const MANY: Faults = Faults { lose: 12, repeat: 10, damage: 40, delay: (1, 60) };
 }
 
 /// What a channel brings: when, to which end, and the bytes.
 #[derive(Clone, Debug)]
 pub struct Carried {
+    /// When it comes.
     pub at: u64,
+    /// To which end.
     pub to: usize,
+    /// The packet.
     pub packet: Vec<u8>,
 }
 
+/// What is under way, and what was done to it.
 #[derive(Default)]
 pub struct Channel {
     under_way: Vec<Carried>,
+    /// How many were lost.
     pub lost: usize,
+    /// How many were repeated.
     pub repeated: usize,
+    /// How many were damaged.
     pub damaged: usize,
 }
 
@@ -38,6 +50,7 @@ fn falls(random: &mut Random, one_in: usize) -> bool {
 }
 
 impl Channel {
+    /// A packet goes to this end.
     pub fn send(&mut self, random: &mut Random, faults: Faults, now: u64, to: usize, packet: &[u8]) {
         if falls(random, faults.lose) {
             self.lost += 1;
@@ -61,6 +74,7 @@ impl Channel {
         self.under_way.push(Carried { at, to, packet });
     }
 
+    /// When the next one comes.
     pub fn next_at(&self) -> Option<u64> {
         self.under_way.iter().map(|c| c.at).min()
     }

@@ -51,6 +51,7 @@ fn run(mut c: u32, bytes: &[u8]) -> u32 {
     c
 }
 
+/// The checksum of these bytes.
 pub fn crc32c(bytes: &[u8]) -> u32 {
     !run(!0, bytes)
 }
@@ -65,6 +66,7 @@ pub fn is_sealed(packet: &[u8]) -> bool {
     packet[8..12] == of_packet(packet).to_le_bytes()
 }
 
+/// Writes a packet's checksum into it.
 pub fn seal(packet: &mut [u8]) {
     let sum = of_packet(packet);
     packet[8..12].copy_from_slice(&sum.to_le_bytes());

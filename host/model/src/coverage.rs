@@ -8,29 +8,37 @@ use crate::cases::{Met, CASES};
 /// Chunk types by number; all others together.
 pub const TYPES: usize = 17;
 
+/// How often each thing was met.
 #[derive(Clone, Default)]
 pub struct Coverage {
+    /// Calls in all.
     pub calls: usize,
     /// By call and number answered.
     pub answered: [[usize; 32]; KINDS.len()],
     /// By call and the state that it was made in.
     pub states: [[usize; 8]; KINDS.len()],
-    /// Of verdicts: by number, by fate, by event, by cause.
+    /// Verdicts by number.
     pub numbers: [usize; 32],
+    /// Verdicts by fate.
     pub fates: [usize; 7],
+    /// Verdicts by event.
     pub events: [usize; 6],
+    /// Verdicts by cause.
     pub causes: [usize; 14],
-    /// By the state before the packet and the type of its first chunk: let in, and not refused.
+    /// Packets that were let in, by the state before and the type of the first chunk.
     pub rows: [[usize; TYPES]; 8],
+    /// Of `rows`, those that were not refused.
     pub accepted: [[usize; TYPES]; 8],
-    /// Packets that were answered by one; expiries that closed.
+    /// Packets that were answered by one.
     pub replies: usize,
+    /// Expiries that closed.
     pub expiries: usize,
     /// By case.
     pub cases: [usize; CASES.len()],
 }
 
 impl Coverage {
+    /// One more call.
     pub fn note(&mut self, met: &Met<'_>) {
         let Met { before, call, reply, .. } = *met;
         let (kind, number) = (call.kind(), usize::from(reply.number()));
@@ -120,6 +128,7 @@ impl Coverage {
         missing
     }
 
+    /// What another drive has met.
     pub fn add(&mut self, other: &Coverage) {
         fn each(a: &mut [usize], b: &[usize]) {
             a.iter_mut().zip(b).for_each(|(x, y)| *x += y);

@@ -17,6 +17,8 @@
 //! - `tries` of the association is 0 in a state that does not wait, else the record is outside its bounds.
 //! - Values of a refused call are 0, but for the length that a take needs.
 
+#![warn(missing_docs)]
+
 mod arrive;
 mod association;
 mod bend;

@@ -12,10 +12,12 @@ fn distance(n: i64, a: i64, b: i64) -> Option<i64> {
     }
 }
 
+/// On the circle of TSNs.
 pub fn tsn_distance(a: u32, b: u32) -> Option<i64> {
     distance(1 << 32, i64::from(a), i64::from(b))
 }
 
+/// On the circle of SSNs.
 pub fn ssn_distance(a: u16, b: u16) -> Option<i64> {
     distance(1 << 16, i64::from(a), i64::from(b))
 }

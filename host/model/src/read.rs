@@ -3,41 +3,64 @@
 use crate::checksum;
 use crate::record::{PACKET_LEAST, PACKET_MOST};
 
+/// Type of a chunk: RFC 9260 section 3.3.1.
 pub const DATA: u8 = 0;
+/// Type of a chunk: RFC 9260 section 3.3.2.
 pub const INIT: u8 = 1;
+/// Type of a chunk: RFC 9260 section 3.3.3.
 pub const INIT_ACK: u8 = 2;
+/// Type of a chunk: RFC 9260 section 3.3.4.
 pub const SACK: u8 = 3;
+/// Type of a chunk: RFC 9260 section 3.3.5.
 pub const HEARTBEAT: u8 = 4;
+/// Type of a chunk: RFC 9260 section 3.3.6.
 pub const HEARTBEAT_ACK: u8 = 5;
+/// Type of a chunk: RFC 9260 section 3.3.7.
 pub const ABORT: u8 = 6;
+/// Type of a chunk: RFC 9260 section 3.3.8.
 pub const SHUTDOWN: u8 = 7;
+/// Type of a chunk: RFC 9260 section 3.3.9.
 pub const SHUTDOWN_ACK: u8 = 8;
+/// Type of a chunk: RFC 9260 section 3.3.10.
 pub const ERROR: u8 = 9;
+/// Type of a chunk: RFC 9260 section 3.3.11.
 pub const COOKIE_ECHO: u8 = 10;
+/// Type of a chunk: RFC 9260 section 3.3.12.
 pub const COOKIE_ACK: u8 = 11;
+/// Type of a chunk: RFC 9260 section 3.3.13.
 pub const SHUTDOWN_COMPLETE: u8 = 14;
 
+/// Type of a parameter.
 pub const STATE_COOKIE: u16 = 7;
+/// Type of a parameter.
 pub const HOST_NAME: u16 = 11;
 
+/// The 16 bits that stand there.
 pub fn be16(b: &[u8], at: usize) -> u16 {
     u16::from_be_bytes([b[at], b[at + 1]])
 }
 
+/// The 32 bits that stand there.
 pub fn be32(b: &[u8], at: usize) -> u32 {
     u32::from_be_bytes([b[at], b[at + 1], b[at + 2], b[at + 3]])
 }
 
+/// With the padding to a multiple of 4.
 pub fn padded(n: usize) -> usize {
     (n + 3) / 4 * 4
 }
 
+/// The common header.
 pub struct Header {
+    /// The port that the packet came from.
     pub source: u16,
+    /// The port that it goes to.
     pub destination: u16,
+    /// The tag that it shows.
     pub tag: u32,
 }
 
+/// A packet's header.
 pub fn header(packet: &[u8]) -> Header {
     Header { source: be16(packet, 0), destination: be16(packet, 2), tag: be32(packet, 4) }
 }
@@ -45,20 +68,19 @@ pub fn header(packet: &[u8]) -> Header {
 /// A chunk: where it begins in the packet, and its bytes without the padding.
 #[derive(Clone, Copy)]
 pub struct Seen<'a> {
+    /// Where it begins in the packet.
     pub at: usize,
+    /// The whole chunk.
     pub bytes: &'a [u8],
 }
 
 impl<'a> Seen<'a> {
+    /// Its type.
     pub fn kind(self) -> u8 {
         self.bytes[0]
     }
 
-    /// The T bit of ABORT and SHUTDOWN COMPLETE.
-    pub fn t(self) -> bool {
-        self.bytes[1] & 1 == 1
-    }
-
+    /// What stands behind type, flags and length.
     pub fn value(self) -> &'a [u8] {
         &self.bytes[4..]
     }
@@ -91,12 +113,9 @@ pub fn heads(packet: &[u8]) -> impl Iterator<Item = (u8, usize)> + '_ {
     })
 }
 
+/// Whether there is an ABORT among the chunks.
 pub fn has_abort(packet: &[u8]) -> bool {
     heads(packet).any(|h| h.0 == ABORT)
-}
-
-pub fn is_known(kind: u8) -> bool {
-    kind <= COOKIE_ACK || kind == SHUTDOWN_COMPLETE
 }
 
 // ---- The checks of a whole packet
@@ -173,27 +192,39 @@ pub fn check_shape(packet: &[u8]) -> u8 {
 
 // ---- Unknown chunks and parameters, by their two high bits: 00 stop, 01 stop and report, 10 skip, 11 skip and report
 
+/// Whether what follows is unread.
 pub fn stops(high: u8) -> bool {
     high & 2 == 0
 }
 
+/// Whether the peer is told.
 pub fn reports(high: u8) -> bool {
     high & 1 == 1
 }
 
 // ---- Fields
 
+/// A DATA chunk.
 pub struct Data<'a> {
+    /// It begins a message.
     pub begin: bool,
+    /// It ends a message.
     pub end: bool,
+    /// It is out of its stream's order.
     pub unordered: bool,
+    /// Its TSN.
     pub tsn: u32,
+    /// Its stream.
     pub stream: u16,
+    /// Its number in its stream.
     pub ssn: u16,
+    /// The number that goes with it.
     pub ppid: u32,
+    /// Its payload.
     pub payload: &'a [u8],
 }
 
+/// The fields of a DATA chunk.
 pub fn data(c: Seen<'_>) -> Data<'_> {
     let b = c.bytes;
     Data {
@@ -211,13 +242,19 @@ pub fn data(c: Seen<'_>) -> Data<'_> {
 /// INIT and INIT ACK; `outs` and `ins` are the streams that its sender wants to send on, and takes at most.
 #[derive(Clone, Copy)]
 pub struct Init {
+    /// Its sender's tag.
     pub tag: u32,
+    /// Its sender's window.
     pub window: u32,
+    /// The streams to send on.
     pub outs: u16,
+    /// The streams taken at most.
     pub ins: u16,
+    /// Its sender's first TSN.
     pub tsn: u32,
 }
 
+/// The fields of an INIT or an INIT ACK.
 pub fn init(c: Seen<'_>) -> Init {
     let b = c.bytes;
     Init { tag: be32(b, 4), window: be32(b, 8), outs: be16(b, 12), ins: be16(b, 14), tsn: be32(b, 16) }
@@ -271,12 +308,17 @@ pub fn reported_parameters(c: Seen<'_>) -> Vec<&[u8]> {
     found
 }
 
+/// A SACK chunk; its duplicates are not looked at.
 pub struct SackRead {
+    /// All up to this TSN have come.
     pub point: u32,
+    /// The window offered.
     pub window: u32,
+    /// Gap blocks: start and end.
     pub blocks: Vec<(u16, u16)>,
 }
 
+/// The fields of a SACK.
 pub fn sack(c: Seen<'_>) -> SackRead {
     let b = c.bytes;
     let count = usize::from(be16(b, 12));

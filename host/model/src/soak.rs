@@ -14,13 +14,18 @@ const SACK_DELAY: u64 = 200;
 /// A message, from which its bytes follow.
 #[derive(Clone, Copy, Debug, PartialEq, Eq)]
 pub struct Due {
+    /// Its number.
     pub id: u32,
+    /// Its stream.
     pub stream: u16,
+    /// Whether it is out of its stream's order.
     pub unordered: bool,
+    /// Its bytes.
     pub length: usize,
 }
 
 impl Due {
+    /// What it is.
     pub fn bytes(self) -> Vec<u8> {
         let mut b = vec![0; self.length];
         Random::new(u64::from(self.id) << 8 | 0x51).fill(&mut b);
@@ -46,18 +51,28 @@ struct End {
     shut: bool,
 }
 
+/// What came of a soak.
 #[derive(Clone, Debug, Default)]
 pub struct Report {
+    /// Messages taken at each end.
     pub taken: [usize; 2],
+    /// Packets with a chunk that was sent before.
     pub resent: usize,
+    /// Packets that the channel lost.
     pub lost: usize,
+    /// How often each number was answered.
     pub refused: Vec<usize>,
+    /// Calls in all.
     pub calls: usize,
+    /// How long it took, in its own time.
     pub milliseconds: u64,
+    /// The last TSN that came in order at each end.
     pub points: [u32; 2],
+    /// The state of each end.
     pub states: [u8; 2],
 }
 
+/// Both hosts and the channel.
 pub struct Soak<'c> {
     core: &'c dyn Core,
     random: Random,
@@ -65,6 +80,7 @@ pub struct Soak<'c> {
     channel: Channel,
     ends: [End; 2],
     now: u64,
+    /// What came of it so far.
     pub report: Report,
 }
 
@@ -117,6 +133,7 @@ impl<'c> Soak<'c> {
         self.faults = faults;
     }
 
+    /// This end hands in a message when it can.
     pub fn hand_in_later(&mut self, from: usize, m: Due) {
         let other = &mut self.ends[1 - from];
         if m.unordered {

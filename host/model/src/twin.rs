@@ -9,9 +9,13 @@ use crate::record::{Association, ACCEPTED, MESSAGE_MOST};
 /// The first difference: which call it was, and what differs.
 #[derive(Debug)]
 pub struct Difference {
+    /// The seed of the run.
     pub seed: u64,
+    /// Which call it was.
     pub number: usize,
+    /// The call.
     pub call: String,
+    /// What differs.
     pub what: String,
 }
 
@@ -21,6 +25,7 @@ impl fmt::Display for Difference {
     }
 }
 
+/// The end.
 pub struct Twin<'m> {
     makers: [&'m dyn Maker; 2],
     sides: [Buffers; 2],
@@ -30,10 +35,12 @@ pub struct Twin<'m> {
 }
 
 impl<'m> Twin<'m> {
+    /// An end that begins with this record, on two makers.
     pub fn new(left: &'m dyn Maker, right: &'m dyn Maker, a: Association) -> Twin<'m> {
         Twin { makers: [left, right], sides: [Buffers::new(a), Buffers::new(a)], patience: 1, calls: 0 }
     }
 
+    /// Its record, which both have.
     pub fn record(&self) -> &Association {
         &self.sides[0].a
     }
@@ -44,6 +51,7 @@ impl<'m> Twin<'m> {
         self.sides[1].a = *a;
     }
 
+    /// The first bytes of what the last call wrote.
     pub fn out(&self, length: usize) -> &[u8] {
         &self.sides[0].out[..length]
     }

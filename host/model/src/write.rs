@@ -22,10 +22,12 @@ pub fn item(kind: u16, value: &[u8]) -> Vec<u8> {
     p
 }
 
+/// Zeros up to a multiple of 4.
 pub fn pad(bytes: &mut Vec<u8>) {
     bytes.resize(padded(bytes.len()), 0);
 }
 
+/// A DATA chunk.
 pub fn data(c: &Chunk, payload: &[u8]) -> Vec<u8> {
     let mut v = Vec::with_capacity(12 + payload.len());
     v.extend_from_slice(&c.tsn.to_be_bytes());
@@ -37,6 +39,7 @@ pub fn data(c: &Chunk, payload: &[u8]) -> Vec<u8> {
     chunk(read::DATA, flags, &v)
 }
 
+/// The fixed fields of an INIT or INIT ACK.
 pub fn init_fields(i: read::Init) -> Vec<u8> {
     let mut v = Vec::with_capacity(16);
     v.extend_from_slice(&i.tag.to_be_bytes());
@@ -60,6 +63,7 @@ pub fn init_ack(i: read::Init, cookie: &[u8], reports: &[&[u8]]) -> Vec<u8> {
     chunk(read::INIT_ACK, 0, &v)
 }
 
+/// A SACK chunk.
 pub fn sack(s: &Sacked) -> Vec<u8> {
     let mut v = Vec::with_capacity(336);
     v.extend_from_slice(&s.point.to_be_bytes());
@@ -76,6 +80,7 @@ pub fn sack(s: &Sacked) -> Vec<u8> {
     chunk(read::SACK, 0, &v)
 }
 
+/// A SHUTDOWN chunk.
 pub fn shutdown(point: u32) -> Vec<u8> {
     chunk(read::SHUTDOWN, 0, &point.to_be_bytes())
 }
