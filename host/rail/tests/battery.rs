@@ -2,22 +2,20 @@
 //! program dies too; and every tile stands once in its folder, byte for byte. On the model, since only what runs natively can start itself.
 #![cfg(not(feature = "proved"))]
 
-use modelled::Modelled;
+mod yard;
+
 use oilwhisper::random::Seeded;
-use rail::arguments::{parse, Command as Rail};
 use rail::stop::Stop;
-use rail::view::Screen;
-use rail::{demo, lone};
 use std::collections::HashMap;
 use std::fs;
 use std::io;
-use std::net::{SocketAddr, UdpSocket};
-use std::path::{Path, PathBuf};
+use std::path::Path;
 use std::process::{Child, Command, Stdio};
 use std::sync::atomic::{AtomicBool, Ordering};
 use std::sync::Arc;
 use std::thread;
 use std::time::{Duration, Instant};
+use yard::*;
 
 /// What a process of this test is asked to be.
 const LINE: &str = "OILWHISPER_RAIL";
@@ -29,15 +27,7 @@ fn rail() {
         Ok(line) => line,
         Err(_) => return,
     };
-    let words: Vec<String> = line.split_whitespace().map(str::to_string).collect();
-    let (stop, out) = (Stop::on_signals(), &mut io::stdout());
-    let ended = match parse(&words) {
-        Ok(Rail::Head(asked)) => lone::head::<Modelled>(&asked, &stop, out),
-        Ok(Rail::Field(asked)) => lone::field::<Modelled>(&asked, &stop, &mut Screen::new(out, false)),
-        Ok(Rail::Demo(asked)) => demo::run::<Modelled>(&asked, &stop, out),
-        other => panic!("{:?}", other),
-    };
-    match ended {
+    match run(&line, &Stop::on_signals(), &mut io::stdout()) {
         Ok(ended) => {
             println!("{}{}", ended.table, ended.verdict);
             std::process::exit(if ended.faults.is_empty() { 0 } else { 1 });
@@ -91,70 +81,6 @@ impl Drop for Process {
     }
 }
 
-/// A line between one head and the field computer, which can be pulled.
-struct Cable {
-    address: SocketAddr,
-    is_pulled: Arc<AtomicBool>,
-    is_over: Arc<AtomicBool>,
-    carrier: Option<thread::JoinHandle<()>>,
-}
-
-impl Cable {
-    fn to(field: SocketAddr) -> Cable {
-        let here = UdpSocket::bind("127.0.0.1:0").expect("there is a free port");
-        let there = UdpSocket::bind("127.0.0.1:0").expect("there is a free port");
-        let address = here.local_addr().expect("it has an address");
-        let (is_pulled, is_over) = (Arc::new(AtomicBool::new(false)), Arc::new(AtomicBool::new(false)));
-        let (pulled, over) = (is_pulled.clone(), is_over.clone());
-        let carrier = thread::spawn(move || {
-            let mut buffer = [0; 2048];
-            let mut head = None;
-            for socket in [&here, &there] {
-                socket.set_nonblocking(true).expect("a socket need not wait");
-            }
-            while !over.load(Ordering::Relaxed) {
-                let mut moved = false;
-                while let Ok((length, from)) = here.recv_from(&mut buffer) {
-                    (head, moved) = (Some(from), true);
-                    if !pulled.load(Ordering::Relaxed) {
-                        let _ = there.send_to(&buffer[..length], field);
-                    }
-                }
-                while let Ok((length, _)) = there.recv_from(&mut buffer) {
-                    moved = true;
-                    if let Some(head) = head.filter(|_| !pulled.load(Ordering::Relaxed)) {
-                        let _ = here.send_to(&buffer[..length], head);
-                    }
-                }
-                if !moved {
-                    thread::sleep(Duration::from_micros(300));
-                }
-            }
-        });
-        Cable { address, is_pulled, is_over, carrier: Some(carrier) }
-    }
-
-    fn pull(&self, is_pulled: bool) {
-        self.is_pulled.store(is_pulled, Ordering::Relaxed);
-    }
-}
-
-impl Drop for Cable {
-    fn drop(&mut self) {
-        self.is_over.store(true, Ordering::Relaxed);
-        if let Some(carrier) = self.carrier.take() {
-            let _ = carrier.join();
-        }
-    }
-}
-
-fn scratch(name: &str) -> PathBuf {
-    let path = std::env::temp_dir().join(format!("{}-battery-{}", std::process::id(), name));
-    let _ = fs::remove_dir_all(&path);
-    fs::create_dir_all(&path).expect("there is room for a folder");
-    path
-}
-
 /// So many tiles in folders for each band; head, band and name with their bytes.
 fn photograph(folder: &Path, head: &str, tiles: u32, chance: &mut Seeded) -> HashMap<String, Vec<u8>> {
     let mut made = HashMap::new();
@@ -194,13 +120,9 @@ fn compare(kept: &Path, made: &HashMap<String, Vec<u8>>) {
     assert!(listed.iter().all(|tile| made.contains_key(tile)));
 }
 
-fn free_address() -> SocketAddr {
-    UdpSocket::bind("127.0.0.1:0").and_then(|socket| socket.local_addr()).expect("there is a free port")
-}
-
 #[test]
 fn every_tile_stands_once_whoever_loses_power_or_line() {
-    let here = scratch("day");
+    let here = scratch("battery-day");
     let (kept, log) = (here.join("kept"), here.join("log"));
     let mut chance = Seeded::new(8);
     let names = ["north", "south", "west"];
@@ -211,7 +133,8 @@ fn every_tile_stands_once_whoever_loses_power_or_line() {
     let at = free_address();
     let field_line = format!("field {} --to {} --heartbeat 1 --unanswered 0", at, kept.display());
     let mut field = Process::start(&field_line, &log);
-    let cables: Vec<Cable> = names.iter().map(|_| Cable::to(at)).collect();
+    let pulled: Vec<Arc<AtomicBool>> = names.iter().map(|_| Arc::default()).collect();
+    let cables: Vec<Cable> = pulled.iter().cloned().map(|pulled| Cable::to(at, move |_| pulled.load(Ordering::Relaxed))).collect();
     let head_line =
         |n: usize| format!("head {} --name {} --from {} --heartbeat 1 --unanswered 1", cables[n].address, names[n], here.join(names[n]).display());
     let mut heads: Vec<Option<Process>> = (0..names.len()).map(|n| Some(Process::start(&head_line(n), &log))).collect();
@@ -229,7 +152,7 @@ fn every_tile_stands_once_whoever_loses_power_or_line() {
             if let Some(is_well) = process.ended() {
                 assert!(is_well, "{}", fs::read_to_string(&log).unwrap_or_default());
                 *head = None;
-            } else if kills < 12 && chance.below(8) == 0 && !cables[n].is_pulled.load(Ordering::Relaxed) {
+            } else if kills < 12 && chance.below(8) == 0 && !pulled[n].load(Ordering::Relaxed) {
                 process.kill();
                 kills += 1;
                 *process = Process::start(&head_line(n), &log);
@@ -237,10 +160,10 @@ fn every_tile_stands_once_whoever_loses_power_or_line() {
         }
         match round {
             // A short while, which the association outlives, and one that it does not.
-            4 => cables[0].pull(true),
-            10 => cables[0].pull(false),
-            6 => cables[1].pull(true),
-            60 => cables[1].pull(false),
+            4 => pulled[0].store(true, Ordering::Relaxed),
+            10 => pulled[0].store(false, Ordering::Relaxed),
+            6 => pulled[1].store(true, Ordering::Relaxed),
+            60 => pulled[1].store(false, Ordering::Relaxed),
             8 => {
                 field.kill();
                 thread::sleep(Duration::from_millis(200));
@@ -260,7 +183,7 @@ fn every_tile_stands_once_whoever_loses_power_or_line() {
 /// A folder that nothing can be written to for a while, as a full disk: nothing is taken, nothing is lost, and it goes on by itself.
 #[test]
 fn a_folder_that_cannot_be_written_loses_nothing() {
-    let here = scratch("full");
+    let here = scratch("battery-full");
     let (kept, log) = (here.join("kept"), here.join("log"));
     let made = photograph(&here.join("east"), "east", 300, &mut Seeded::new(9));
     fs::create_dir_all(&kept).expect("a folder can be made");

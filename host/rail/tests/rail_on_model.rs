@@ -1,32 +1,17 @@
 //! The rail with the model in the library's place: the demonstration, both ends on addresses of their own, and what a user can get wrong.
 
+mod yard;
+
 use modelled::Modelled;
 use oilwhisper::endpoint::{Config, Endpoint};
 use oilwhisper::random::Random;
 use oilwhisper::udp::Line;
-use rail::arguments::{parse, Command};
 use rail::report::Ended;
 use rail::stop::Stop;
-use rail::view::Screen;
-use rail::{demo, lone, Failure};
-use std::io::{Read, Write};
-use std::net::{TcpListener, TcpStream, UdpSocket};
-use std::path::PathBuf;
+use std::net::UdpSocket;
 use std::time::{Duration, Instant};
-use std::{env, fs, io, thread};
-
-/// Runs a command line; how it ended, and what it said before.
-fn run_until(line: &str, stop: &Stop) -> Result<(Ended, String), Failure> {
-    let words: Vec<String> = line.split_whitespace().map(str::to_string).collect();
-    let mut out = Vec::new();
-    let ended = match parse(&words)? {
-        Command::Help | Command::Version => panic!("'{}' asks for a text", line),
-        Command::Demo(asked) => demo::run::<Modelled>(&asked, stop, &mut out),
-        Command::Head(asked) => lone::head::<Modelled>(&asked, stop, &mut out),
-        Command::Field(asked) => lone::field::<Modelled>(&asked, stop, &mut Screen::new(&mut out, false)),
-    };
-    ended.map(|ended| (ended, String::from_utf8_lossy(&out).into_owned()))
-}
+use std::{fs, io, thread};
+use yard::*;
 
 fn well(line: &str) -> (Ended, String) {
     let (ended, said) = run_until(line, &Stop::default()).unwrap_or_else(|failure| panic!("{}", failure));
@@ -46,10 +31,6 @@ fn complaint(line: &str) -> String {
 fn value<'a>(ended: &'a Ended, row: &str) -> &'a str {
     let line = ended.table.lines().find_map(|line| line.trim_start().strip_prefix(row));
     line.unwrap_or_else(|| panic!("no row '{}' in\n{}", row, ended.table)).trim()
-}
-
-fn scratch(name: &str) -> PathBuf {
-    env::temp_dir().join(format!("{}-{}", std::process::id(), name))
 }
 
 #[test]
@@ -81,8 +62,9 @@ fn both_circles_close_in_fair_weather() {
 
 #[test]
 fn a_head_sends_to_a_field_computer_on_real_addresses_and_both_write_captures() {
-    let (sent, received) = (scratch("head.pcap"), scratch("field.pcap"));
-    let port = free_port();
+    let here = scratch("captures");
+    let (sent, received) = (here.join("head.pcap"), here.join("field.pcap"));
+    let port = free_address().port();
     let field_line = format!("field 127.0.0.1:{} --count 1 --pcap {}", port, received.display());
     let field = thread::spawn(move || well(&field_line));
     let (head, _) = well(&format!("head 127.0.0.1:{} --messages 400 --pcap {}", port, sent.display()));
@@ -93,13 +75,13 @@ fn a_head_sends_to_a_field_computer_on_real_addresses_and_both_write_captures() 
         let bytes = fs::read(&capture).expect("the capture was written");
         assert_eq!(bytes[..4], [0xd4, 0xc3, 0xb2, 0xa1]);
         assert!(bytes.len() > 10_000);
-        fs::remove_file(capture).expect("the capture can be removed");
     }
+    fs::remove_dir_all(here).expect("the folder can be removed");
 }
 
 #[test]
 fn a_field_computer_at_all_addresses_serves_one_head_after_another() {
-    let port = free_port();
+    let port = free_address().port();
     let field_line = format!("field {} --count 2", port);
     let field = thread::spawn(move || well(&field_line));
     // Of both kinds, where the machine has both.
@@ -114,55 +96,13 @@ fn a_field_computer_at_all_addresses_serves_one_head_after_another() {
     assert!(said.contains(&format!("56 tiles from south at {}:", other)), "{}", said);
 }
 
-/// What a browser gets.
-fn page_at(port: u16) -> String {
-    let mut stream = TcpStream::connect(("127.0.0.1", port)).expect("the view is served");
-    stream.write_all(b"GET / HTTP/1.1\r\nHost: localhost\r\n\r\n").expect("it can be asked");
-    let mut page = String::new();
-    stream.read_to_string(&mut page).expect("it answers");
-    page
-}
-
-#[test]
-fn a_page_shows_every_head_and_its_tiles() {
-    let port = free_port();
-    let view = TcpListener::bind("127.0.0.1:0").and_then(|listener| listener.local_addr()).expect("there is a free port").port();
-    let stops: Vec<Stop> = (0..3).map(|_| Stop::default()).collect();
-    let lines = [
-        format!("field 127.0.0.1:{} --view {}", port, view),
-        format!("head 127.0.0.1:{} --name north --messages 60000000", port),
-        format!("head 127.0.0.1:{} --name south --messages 100", port),
-    ];
-    let mut runs = Vec::new();
-    for (line, stop) in lines.into_iter().zip(stops.clone()) {
-        runs.push(thread::spawn(move || run_until(&line, &stop).unwrap_or_else(|failure| panic!("{}", failure))));
-        thread::sleep(Duration::from_millis(300));
-    }
-    thread::sleep(Duration::from_millis(2000));
-    let page = page_at(view);
-    assert!(page.contains("<h2>north at 127.0.0.1:") && page.contains(": up, heard 0."), "{}", page);
-    assert!(page.contains("<h2>south at 127.0.0.1:") && page.contains(": gone, "), "{}", page);
-    assert!(page.contains("<tr><th>band 0: 100</th><td class=t title=\"tile 60: taken\">"), "{}", page);
-    stops.iter().rev().for_each(|stop| {
-        stop.ask();
-        thread::sleep(Duration::from_millis(300));
-    });
-    for run in runs {
-        let (ended, _) = run.join().expect("it ends");
-        assert!(ended.faults.is_empty(), "{:?}", ended);
-    }
-}
-
 /// A field computer and a head that have begun, each with what stops it.
-fn begun(messages: u32) -> [(Stop, thread::JoinHandle<(Ended, String)>); 2] {
-    let port = free_port();
-    let lines = [format!("field 127.0.0.1:{}", port), format!("head 127.0.0.1:{} --tries 0 --messages {}", port, messages)];
-    let ends = lines.map(|line| {
-        let stop = Stop::default();
-        let asked = stop.clone();
-        let run = thread::spawn(move || run_until(&line, &asked).unwrap_or_else(|failure| panic!("{}", failure)));
+fn begun(messages: u32) -> [Begun; 2] {
+    let at = free_address();
+    let ends = [format!("field {}", at), format!("head {} --tries 0 --messages {}", at, messages)].map(|line| {
+        let begun = begin(line);
         thread::sleep(Duration::from_millis(500));
-        (stop, run)
+        begun
     });
     thread::sleep(Duration::from_millis(500));
     ends
@@ -211,11 +151,8 @@ fn who_is_stopped_twice_aborts_and_tells_the_other() {
 
 #[test]
 fn a_head_says_where_nobody_listens_and_can_be_stopped() {
-    let stop = Stop::default();
-    let asked = stop.clone();
-    let line = format!("head 127.0.0.1:{}", free_port());
-    let address = line.split(' ').nth(1).map(str::to_string).unwrap_or_default();
-    let head = thread::spawn(move || run_until(&line, &asked).unwrap_or_else(|failure| panic!("{}", failure)));
+    let address = free_address();
+    let (stop, head) = begin(format!("head {}", address));
     thread::sleep(Duration::from_millis(2500));
     stop.ask();
     let (head, said) = head.join().expect("the head ends");
@@ -225,14 +162,11 @@ fn a_head_says_where_nobody_listens_and_can_be_stopped() {
 
 #[test]
 fn a_head_no_longer_says_that_nobody_listens_where_somebody_does() {
-    let stop = Stop::default();
-    let asked = stop.clone();
-    let address = format!("127.0.0.1:{}", free_port());
-    let line = format!("head {}", address);
-    let head = thread::spawn(move || run_until(&line, &asked).unwrap_or_else(|failure| panic!("{}", failure)));
+    let address = free_address();
+    let (stop, head) = begin(format!("head {}", address));
     // The head asks again a second after its first INIT found nobody.
     thread::sleep(Duration::from_millis(500));
-    let _mute = UdpSocket::bind(&address).expect("the port is still free");
+    let _mute = UdpSocket::bind(address).expect("the port is still free");
     thread::sleep(Duration::from_millis(2000));
     stop.ask();
     let (_, said) = head.join().expect("the head ends");
@@ -244,9 +178,7 @@ fn a_head_says_why_the_answer_is_refused() {
     let peer = UdpSocket::bind("127.0.0.1:0").expect("there is a free port");
     let address = peer.local_addr().expect("it has an address");
     peer.set_read_timeout(Some(Duration::from_secs(20))).expect("it can wait");
-    let stop = Stop::default();
-    let asked = stop.clone();
-    let head = thread::spawn(move || run_until(&format!("head {}", address), &asked).unwrap_or_else(|failure| panic!("{}", failure)));
+    let (stop, head) = begin(format!("head {}", address));
     let (_, from) = peer.recv_from(&mut [0; 2048]).expect("it is asked");
     peer.send_to(b"not today", from).expect("loopback carries it");
     thread::sleep(Duration::from_millis(2500));
@@ -257,26 +189,20 @@ fn a_head_says_why_the_answer_is_refused() {
 
 #[test]
 fn a_head_from_a_network_that_is_not_admitted_gets_no_answer() {
-    let port = free_port();
-    let stops = [Stop::default(), Stop::default()];
-    let lines = [format!("field 127.0.0.1:{} --admit 192.0.2.0/24", port), format!("head 127.0.0.1:{}", port)];
-    let mut runs = Vec::new();
-    for (line, stop) in lines.into_iter().zip(stops.clone()) {
-        runs.push(thread::spawn(move || run_until(&line, &stop).unwrap_or_else(|failure| panic!("{}", failure))));
-        thread::sleep(Duration::from_millis(500));
-    }
-    thread::sleep(Duration::from_millis(2500));
-    stops.iter().for_each(Stop::ask);
-    let ended: Vec<_> = runs.into_iter().map(|run| run.join().expect("it ends")).collect();
-    assert_eq!(ended[0].0.verdict, "no head came");
-    assert!(ended[1].1.contains(&format!("  no answer from 127.0.0.1:{} yet\n", port)), "{}", ended[1].1);
+    let at = free_address();
+    let (stop_field, field) = begin(format!("field {} --admit 192.0.2.0/24", at));
+    thread::sleep(Duration::from_millis(500));
+    let (stop_head, head) = begin(format!("head {}", at));
+    thread::sleep(Duration::from_millis(3000));
+    [stop_field, stop_head].iter().for_each(Stop::ask);
+    assert_eq!(field.join().expect("it ends").0.verdict, "no head came");
+    let (_, said) = head.join().expect("it ends");
+    assert!(said.contains(&format!("  no answer from {} yet\n", at)), "{}", said);
 }
 
 #[test]
 fn a_demonstration_that_is_stopped_loses_nothing_that_was_handed_in() {
-    let stop = Stop::default();
-    let asked = stop.clone();
-    let demo = thread::spawn(move || run_until("demo --messages 60000000", &asked).unwrap_or_else(|failure| panic!("{}", failure)));
+    let (stop, demo) = begin("demo --messages 60000000".to_string());
     thread::sleep(Duration::from_millis(1500));
     stop.ask();
     let (demo, _) = demo.join().expect("the demonstration ends");
@@ -302,11 +228,13 @@ fn an_address_of_another_machine_is_named() {
 
 #[test]
 fn a_file_that_cannot_be_written_is_named_before_anything_is_sent() {
-    let path = scratch("no-such-folder").join("x.pcap");
+    let here = scratch("unwritable");
+    let path = here.join("no-such-folder").join("x.pcap");
     for line in ["demo", "field 127.0.0.1:0", "head 127.0.0.1:9"] {
         let said = complaint(&format!("{} --pcap {}", line, path.display()));
         assert!(said.starts_with(&format!("cannot write {}: ", path.display())), "{}", said);
     }
+    fs::remove_dir_all(here).expect("the folder can be removed");
 }
 
 #[test]
@@ -319,9 +247,4 @@ fn a_peer_that_nothing_can_be_sent_to_stops_nobody() {
     let mut line = Line::new(endpoint, socket, None);
     line.turn(Duration::ZERO).expect("the line goes on");
     assert_eq!(line.trouble().map(io::Error::kind), Some(io::ErrorKind::PermissionDenied));
-}
-
-fn free_port() -> u16 {
-    let socket = UdpSocket::bind("127.0.0.1:0").expect("there is a free port");
-    socket.local_addr().expect("it has an address").port()
 }
