@@ -4,43 +4,15 @@
  *
  *     head PORT COUNT
  */
-#include <arpa/inet.h>
 #include <netinet/in.h>
-#include <poll.h>
 #include <stdio.h>
 #include <stdlib.h>
 #include <string.h>
 #include <sys/socket.h>
-#include <time.h>
 #include <unistd.h>
 
+#include "loop.h"
 #include "oilwhisper_host.h"
-
-static uint64_t now(void)
-{
-    struct timespec time;
-    clock_gettime(CLOCK_MONOTONIC, &time);
-    return (uint64_t)time.tv_sec * 1000 + (uint64_t)time.tv_nsec / 1000000;
-}
-
-static void fail(const char *what)
-{
-    perror(what);
-    exit(1);
-}
-
-static void send_all(owh_hub *hub, int socket)
-{
-    uint8_t packet[OWH_PACKET_MOST];
-    struct sockaddr_storage to;
-    socklen_t to_length;
-    size_t length;
-    while ((length = owh_outgoing(hub, packet, &to, &to_length)) > 0) {
-        /* A packet that cannot be sent is as good as lost: it is sent again when its time has come. */
-        if (sendto(socket, packet, length, 0, (const struct sockaddr *)&to, to_length) < 0)
-            perror("sendto");
-    }
-}
 
 int main(int argc, char **argv)
 {
@@ -72,17 +44,7 @@ int main(int argc, char **argv)
     while (!is_down) {
         owh_flush(hub, now());
         send_all(hub, descriptor);
-        int64_t wait = owh_wait(hub, now());
-        struct pollfd polled = {.fd = descriptor, .events = POLLIN};
-        if (poll(&polled, 1, wait < 0 || wait > 60000 ? 60000 : (int)wait) > 0) {
-            uint8_t packet[2048];
-            struct sockaddr_storage from;
-            socklen_t from_length = sizeof from;
-            ssize_t length = recvfrom(descriptor, packet, sizeof packet, 0, (struct sockaddr *)&from, &from_length);
-            if (length >= 0)
-                owh_arrive(hub, packet, (size_t)length, (const struct sockaddr *)&from, from_length, now());
-        }
-        owh_expire(hub, now());
+        wait_for_packet(hub, descriptor);
         struct owh_event event;
         while (owh_event(hub, &event)) {
             if (event.kind == OWH_UP)
