@@ -1,9 +1,12 @@
 //! Two endpoints on a clock that the test moves, with a channel each way, and what a stranger may send to either.
 
 // Each test file uses a part of this.
-#![allow(dead_code)]
+#![allow(dead_code, unused_imports)]
 
 use model::checksum;
+pub use model::read::{
+    ABORT, COOKIE_ACK, COOKIE_ECHO, DATA, HEARTBEAT, HEARTBEAT_ACK, INIT, INIT_ACK, SACK, SHUTDOWN, SHUTDOWN_ACK, SHUTDOWN_COMPLETE,
+};
 use oilwhisper::calls::State;
 use oilwhisper::endpoint::{Config, Datagram, Endpoint, Event};
 use oilwhisper::library::Library;
@@ -14,20 +17,41 @@ use std::time::{Duration, Instant};
 
 pub const PORTS: [u16; 2] = [5000, 5001];
 
-pub const DATA: u8 = 0;
-pub const INIT: u8 = 1;
-pub const INIT_ACK: u8 = 2;
-pub const SACK: u8 = 3;
-pub const HEARTBEAT: u8 = 4;
-pub const HEARTBEAT_ACK: u8 = 5;
-pub const ABORT: u8 = 6;
-pub const SHUTDOWN: u8 = 7;
-pub const SHUTDOWN_ACK: u8 = 8;
-pub const COOKIE_ECHO: u8 = 10;
-pub const COOKIE_ACK: u8 = 11;
-pub const SHUTDOWN_COMPLETE: u8 = 14;
-
 pub const MINUTE: Duration = Duration::from_secs(60);
+
+/// What happens on a clock that the test moves.
+pub trait Clocked {
+    fn now(&mut self) -> &mut Instant;
+
+    /// All that happens at this moment.
+    fn settle(&mut self);
+
+    /// When something happens next.
+    fn next_moment(&self) -> Option<Instant>;
+
+    /// Moves the clock from moment to moment until the end is reached; false where so much time passes before.
+    fn run_until(&mut self, most: Duration, mut is_reached: impl FnMut(&mut Self) -> bool) -> bool {
+        let deadline = *self.now() + most;
+        loop {
+            self.settle();
+            if is_reached(self) {
+                return true;
+            }
+            self.settle();
+            match self.next_moment() {
+                Some(next) if next <= deadline => *self.now() = (*self.now()).max(next),
+                _ => {
+                    *self.now() = deadline;
+                    return false;
+                }
+            }
+        }
+    }
+
+    fn run_for(&mut self, time: Duration) {
+        self.run_until(time, |_| false);
+    }
+}
 
 /// Whether a packet is lost.
 pub type Loses = Box<dyn FnMut(&[u8]) -> bool>;
@@ -106,43 +130,6 @@ impl<L: Library> Pair<L> {
         self.ends[end].endpoint.arrive(packet, from, now);
     }
 
-    /// Moves the clock from moment to moment until the end is reached; false where so much time passes before.
-    pub fn run_until(&mut self, most: Duration, mut is_reached: impl FnMut(&mut Pair<L>) -> bool) -> bool {
-        let deadline = self.now + most;
-        loop {
-            self.settle();
-            if is_reached(self) {
-                return true;
-            }
-            self.settle();
-            let moments = self.ends.iter().flat_map(|end| [end.endpoint.next_moment(), end.channel.next()]);
-            match moments.flatten().min() {
-                Some(next) if next <= deadline => self.now = self.now.max(next),
-                _ => {
-                    self.now = deadline;
-                    return false;
-                }
-            }
-        }
-    }
-
-    pub fn run_for(&mut self, time: Duration) {
-        self.run_until(time, |_| false);
-    }
-
-    /// All that happens at this moment.
-    fn settle(&mut self) {
-        loop {
-            let mut moved = false;
-            for n in 0..2 {
-                moved |= self.step(n);
-            }
-            if !moved {
-                return;
-            }
-        }
-    }
-
     fn step(&mut self, n: usize) -> bool {
         let now = self.now;
         let (here, there) = match (&mut self.ends, n) {
@@ -173,6 +160,21 @@ impl<L: Library> Pair<L> {
         }
         here.events.extend(std::iter::from_fn(|| here.endpoint.event()));
         moved
+    }
+}
+
+impl<L: Library> Clocked for Pair<L> {
+    fn now(&mut self) -> &mut Instant {
+        &mut self.now
+    }
+
+    fn settle(&mut self) {
+        while self.step(0) | self.step(1) {}
+    }
+
+    fn next_moment(&self) -> Option<Instant> {
+        let moments = self.ends.iter().flat_map(|end| [end.endpoint.next_moment(), end.channel.next()]);
+        moments.flatten().min()
     }
 }
 

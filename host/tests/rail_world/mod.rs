@@ -3,6 +3,7 @@
 // Each test file uses a part of this.
 #![allow(dead_code)]
 
+pub use crate::pair::Clocked;
 use oilwhisper::config::Config;
 use oilwhisper::hub::{Event, HeadId, Hub, Settings};
 use oilwhisper::library::Library;
@@ -129,35 +130,6 @@ impl<L: Library> World<L> {
         self.events.iter().filter(|(of, _)| *of == id).map(|(_, event)| event).collect()
     }
 
-    /// Moves the clock from moment to moment until the end is reached; false where so much time passes before.
-    pub fn run_until(&mut self, most: Duration, mut is_reached: impl FnMut(&mut World<L>) -> bool) -> bool {
-        let deadline = self.now + most;
-        loop {
-            self.settle();
-            if is_reached(self) {
-                return true;
-            }
-            self.settle();
-            let of_heads = self.outposts.iter().flat_map(|outpost| [outpost.hub.next_moment(), outpost.forth.next(), outpost.back.next()]);
-            match of_heads.chain([self.field.next_moment()]).flatten().min() {
-                Some(next) if next <= deadline => self.now = self.now.max(next),
-                _ => {
-                    self.now = deadline;
-                    return false;
-                }
-            }
-        }
-    }
-
-    pub fn run_for(&mut self, time: Duration) {
-        self.run_until(time, |_| false);
-    }
-
-    /// All that happens at this moment.
-    fn settle(&mut self) {
-        while self.step_field() | self.step_outposts() {}
-    }
-
     fn step_field(&mut self) -> bool {
         let now = self.now;
         let mut moved = false;
@@ -228,5 +200,20 @@ impl<L: Library> World<L> {
             }
         }
         moved
+    }
+}
+
+impl<L: Library> Clocked for World<L> {
+    fn now(&mut self) -> &mut Instant {
+        &mut self.now
+    }
+
+    fn settle(&mut self) {
+        while self.step_field() | self.step_outposts() {}
+    }
+
+    fn next_moment(&self) -> Option<Instant> {
+        let of_heads = self.outposts.iter().flat_map(|outpost| [outpost.hub.next_moment(), outpost.forth.next(), outpost.back.next()]);
+        of_heads.chain([self.field.next_moment()]).flatten().min()
     }
 }
