@@ -1,7 +1,7 @@
 //! The core behind safe calls. It adds no test of its own: whatever a call is handed, the core answers.
 
 use crate::calls::{
-    Acknowledged, Answer, Arrived, Cause, Echoed, Expired, Fate, Init, Lent, Made, Named, NotTaken, Peeked, Refusal, Shelf, Standing, State, Taken,
+    Acknowledged, Answer, Arrived, Cause, Echoed, Expired, Fate, Lent, Made, Named, NotTaken, Peeked, Refusal, Shelf, Standing, State, Taken,
     Transmitted, Turn, Verdict, AREA, PAYLOAD,
 };
 use crate::ffi;
@@ -25,9 +25,7 @@ pub fn peek<L: Library>(packet: &[u8]) -> Peeked {
         return Peeked::Refused(Refusal(seen.number));
     }
     match seen.kind {
-        ffi::SAW_INIT => {
-            Peeked::Init(Init { source: seen.source, tag: seen.tag, window: seen.window, outs: seen.outs, ins: seen.ins, tsn: seen.tsn })
-        }
+        ffi::SAW_INIT => Peeked::Init(seen.init),
         ffi::SAW_COOKIE_ECHO => Peeked::Echo { at: seen.at, len: seen.len },
         _ => Peeked::Nothing,
     }

@@ -1,7 +1,7 @@
 //! The functions of the library over a whole record, with slices in place of pointers and counts. The proved library is one implementation; a model of it can be
 //! another.
 
-use crate::calls::{Made, Taken};
+use crate::calls::{Init, Made, Taken};
 use crate::ffi::{Record, BLOCKS, LISTED};
 
 /// Of most calls.
@@ -22,18 +22,8 @@ pub struct Peeked {
     pub number: u8,
     /// `ffi::SAW_NOTHING`, `SAW_INIT` or `SAW_COOKIE_ECHO`.
     pub kind: u8,
-    /// Of an INIT: the port that it came from.
-    pub source: u16,
-    /// Of an INIT: the peer's tag.
-    pub tag: u32,
-    /// Of an INIT: the peer's window.
-    pub window: u32,
-    /// Of an INIT: the streams that the peer wants to send on.
-    pub outs: u16,
-    /// Of an INIT: the streams that the peer takes at most.
-    pub ins: u16,
-    /// Of an INIT: the peer's first TSN.
-    pub tsn: u32,
+    /// Of an INIT: its fields.
+    pub init: Init,
     /// Of a COOKIE ECHO: the cookie's first byte.
     pub at: usize,
     /// Of a COOKIE ECHO: the cookie's bytes.
@@ -287,18 +277,8 @@ mod proved {
             let mut told = [0; 9];
             let number = unsafe { ffi::ow_lent_peek(packet.as_ptr(), packet.len(), &mut told) } as u8;
             let [kind, source, tag, window, outs, ins, tsn, at, len] = told;
-            Peeked {
-                number,
-                kind: kind as u8,
-                source: source as u16,
-                tag: tag as u32,
-                window: window as u32,
-                outs: outs as u16,
-                ins: ins as u16,
-                tsn: tsn as u32,
-                at,
-                len,
-            }
+            let init = Init { source: source as u16, tag: tag as u32, window: window as u32, outs: outs as u16, ins: ins as u16, tsn: tsn as u32 };
+            Peeked { number, kind: kind as u8, init, at, len }
         }
 
         fn arrive(record: &mut Record, area: &mut [u8], packet: &[u8], lent: Lent, cookie: &[u8], echoed: Echoed, out: &mut [u8]) -> Arrived {

@@ -28,7 +28,6 @@ macro_rules! same_fields {
 
 same_fields! {
     library::Answer, record::Answer { number length over }
-    library::Peeked, record::Peeked { number kind source tag window outs ins tsn at len }
     library::Lent, record::Lent { tag tsn streams }
     calls::Made, record::Made { my_tag peer_tag streams_in streams_out my_tsn peer_tsn window }
     library::Verdict, record::Verdict { at value fate number cause event }
@@ -40,6 +39,20 @@ same_fields! {
     ffi::Control, record::Control { cwnd ssthresh partial }
     ffi::Clock, record::Clock { sampled srtt rttvar rto }
     ffi::Held, record::Held { used begin end unordered tsn stream ssn ppid len }
+}
+
+impl Alike<library::Peeked> for record::Peeked {
+    fn alike(self) -> library::Peeked {
+        let record::Peeked { number, kind, source, tag, window, outs, ins, tsn, at, len } = self;
+        library::Peeked { number, kind, init: calls::Init { source, tag, window, outs, ins, tsn }, at, len }
+    }
+}
+
+impl Alike<record::Peeked> for library::Peeked {
+    fn alike(self) -> record::Peeked {
+        let library::Peeked { number, kind, init: calls::Init { source, tag, window, outs, ins, tsn }, at, len } = self;
+        record::Peeked { number, kind, source, tag, window, outs, ins, tsn, at, len }
+    }
 }
 
 impl Alike<library::Echoed> for record::Echoed {
