@@ -106,9 +106,9 @@ pub fn run<L: Library>(demo: &Demo, stop: &Stop, progress: &mut dyn Write) -> Re
         Some(path) => Some((path, start_capture(path)?)),
         None => None,
     };
-    let ended = run_ends::<L>(demo, stop, capture.as_ref().map(|(_, capture)| capture), progress)?;
+    let mut ended = run_ends::<L>(demo, stop, capture.as_ref().map(|(_, capture)| capture), progress)?;
     if let Some((path, capture)) = capture {
-        end_capture(path, &capture)?;
+        ended.faults.extend(end_capture(path, &capture).err().map(|failure| failure.0));
     }
     Ok(ended)
 }

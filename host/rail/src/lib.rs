@@ -50,13 +50,15 @@ pub fn bind(address: SocketAddr) -> Result<UdpSocket, Failure> {
         }
         bound => bound,
     };
-    bound.map_err(|e| {
-        Failure(match e.kind() {
-            ErrorKind::AddrInUse => format!("cannot use {}: the port is in use; stop the program that has it, or choose another port", address),
-            ErrorKind::AddrNotAvailable => format!("cannot use {}: it is no address of this machine", address),
-            ErrorKind::PermissionDenied => format!("cannot use {}: ports below 1024 need root; choose another port", address),
-            _ => format!("cannot use {}: {}", address, e),
-        })
+    bound.map_err(|e| unusable(address, &e))
+}
+
+fn unusable(address: SocketAddr, e: &io::Error) -> Failure {
+    Failure(match e.kind() {
+        ErrorKind::AddrInUse => format!("cannot use {}: the port is in use; stop the program that has it, or choose another port", address),
+        ErrorKind::AddrNotAvailable => format!("cannot use {}: it is no address of this machine", address),
+        ErrorKind::PermissionDenied => format!("cannot use {}: ports below 1024 need root; choose another port", address),
+        _ => format!("cannot use {}: {}", address, e),
     })
 }
 

@@ -43,11 +43,10 @@ impl Recording {
         self.0.as_ref().map(|(_, capture)| Tap::new(capture.clone(), here).writes_received())
     }
 
-    fn end(&self) -> Result<(), Failure> {
-        match &self.0 {
-            Some((path, capture)) => end_capture(path, capture),
-            None => Ok(()),
-        }
+    /// A capture that broke off is a fault, and takes nothing from what came.
+    fn end(&self, ended: Ended) -> Ended {
+        let broken = self.0.as_ref().and_then(|(path, capture)| end_capture(path, capture).err());
+        Ended { faults: ended.faults.into_iter().chain(broken.map(|failure| failure.0)).collect(), ..ended }
     }
 }
 
@@ -158,7 +157,6 @@ pub fn head<L: Library>(arguments: &arguments::Head, stop: &Stop, out: &mut dyn 
     while ended.is_ok() && !head.has_aborted() && stop.wish() != Wish::Abort && Instant::now() < until {
         ended = head.turn(TURN);
     }
-    recording.end()?;
     let counts = head.line.endpoint.counts();
     let mut table = Table::default();
     table.count("tiles handed in", counts.messages_in);
@@ -178,7 +176,7 @@ pub fn head<L: Library>(arguments: &arguments::Head, stop: &Stop, out: &mut dyn 
     } else {
         format!("the field computer keeps all {} tiles", grouped(total))
     };
-    Ok(Ended { table: table.text(), faults, verdict, was_stopped: head.was_stopped() })
+    Ok(recording.end(Ended { table: table.text(), faults, verdict, was_stopped: head.was_stopped() }))
 }
 
 fn verdict(sum: &Sum, heads: u64, to: Option<&Path>, was_stopped: bool) -> String {
@@ -248,8 +246,7 @@ pub fn field<L: Library>(arguments: &arguments::Field, stop: &Stop, screen: &mut
     while was_stopped && stop.wish() != Wish::Abort && Instant::now() < until {
         field.turn(TURN)?;
     }
-    recording.end()?;
-    Ok(ended(arguments, &field, was_stopped, busy))
+    Ok(recording.end(ended(arguments, &field, was_stopped, busy)))
 }
 
 fn ended<L: Library>(arguments: &arguments::Field, field: &Field<L>, was_stopped: bool, busy: Duration) -> Ended {

@@ -8,8 +8,8 @@ use oilwhisper::random::Seeded;
 use rail::stop::Stop;
 use std::collections::HashMap;
 use std::fs;
-use std::io;
-use std::path::Path;
+use std::io::{self, Write};
+use std::path::{Path, PathBuf};
 use std::process::{Child, Command, Stdio};
 use std::sync::atomic::{AtomicBool, Ordering};
 use std::sync::Arc;
@@ -39,14 +39,22 @@ fn rail() {
     }
 }
 
+fn this() -> PathBuf {
+    std::env::current_exe().expect("this program has a path")
+}
+
 /// A process that is killed when nobody has it any more.
 struct Process(Child);
 
 impl Process {
     fn start(line: &str, log: &Path) -> Process {
+        Process::start_by(Command::new(this()), line, log)
+    }
+
+    /// By a command that has this program's path, or ends with it.
+    fn start_by(mut command: Command, line: &str, log: &Path) -> Process {
         let log = fs::OpenOptions::new().create(true).append(true).open(log).expect("a log can be written");
-        let this = std::env::current_exe().expect("this program has a path");
-        let child = Command::new(this)
+        let child = command
             .args(["rail", "--exact", "--nocapture", "--test-threads=1"])
             .env(LINE, line)
             .stdin(Stdio::null())
@@ -210,5 +218,52 @@ fn a_folder_that_cannot_be_written_loses_nothing() {
     }
     field.terminate();
     compare(&kept, &made);
+    fs::remove_dir_all(here).expect("the folder can be removed");
+}
+
+/// Makes a small disk where its first argument says, puts a weight on it, and goes on as the command behind.
+const ON_A_SMALL_DISK: &str = "mount -t tmpfs -o size=1m tmpfs \"$1\" && head -c 900000 /dev/zero >\"$1/weight\" && shift && exec \"$@\"";
+
+/// A disk that only the command behind sees, where this machine lets it have one.
+fn on_a_small_disk(mount: &Path) -> Command {
+    let mut command = Command::new("unshare");
+    command.args(["-r", "-m", "sh", "-c", ON_A_SMALL_DISK, "sh"]).arg(mount);
+    command
+}
+
+/// A disk that is full: nothing is taken, nothing is lost, and it goes on by itself when there is room.
+#[test]
+fn a_full_disk_loses_nothing() {
+    let here = scratch("battery-disk");
+    let (kept, log) = (here.join("kept"), here.join("log"));
+    fs::create_dir_all(&kept).expect("a folder can be made");
+    if !on_a_small_disk(&kept).arg("true").output().map_or(false, |run| run.status.success()) {
+        // Past what the test runner keeps to itself.
+        let _ = writeln!(io::stderr(), "a_full_disk_loses_nothing: SKIPPED, since this machine lets nobody mount a small disk");
+        return;
+    }
+    let made = photograph(&here.join("east"), "east", 60, &mut Seeded::new(10));
+    let at = free_address();
+    let mut command = on_a_small_disk(&kept);
+    command.arg(this());
+    let mut field = Process::start_by(command, &format!("field {} --to {}", at, kept.display()), &log);
+    let mut head = Process::start(&format!("head {} --name east --from {}", at, here.join("east").display()), &log);
+    let said = || fs::read_to_string(&log).unwrap_or_default();
+    let wait_for = |what: &str, is_there: &mut dyn FnMut() -> bool| {
+        let start = Instant::now();
+        while !is_there() {
+            assert!(start.elapsed() < Duration::from_secs(60), "{}: {}", what, said());
+            thread::sleep(Duration::from_millis(50));
+        }
+    };
+    wait_for("it is told", &mut || said().contains("a tile cannot be kept"));
+    thread::sleep(Duration::from_secs(2));
+    assert!(said().contains("No space left on device"), "{}", said());
+    assert_eq!((head.ended(), field.ended()), (None, None));
+    let disk = PathBuf::from(format!("/proc/{}/root", field.0.id())).join(kept.strip_prefix("/").expect("it is a whole path"));
+    fs::remove_file(disk.join("weight")).expect("there is room again");
+    wait_for("the head ends", &mut || head.ended() == Some(true));
+    compare(&disk, &made);
+    field.terminate();
     fs::remove_dir_all(here).expect("the folder can be removed");
 }

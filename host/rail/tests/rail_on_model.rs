@@ -8,7 +8,10 @@ use oilwhisper::random::Random;
 use oilwhisper::udp::Line;
 use rail::report::Ended;
 use rail::stop::Stop;
+use std::fs::File;
+use std::io::Read;
 use std::net::UdpSocket;
+use std::process::Command;
 use std::time::{Duration, Instant};
 use std::{fs, io, thread};
 use yard::*;
@@ -234,6 +237,23 @@ fn a_file_that_cannot_be_written_is_named_before_anything_is_sent() {
         let said = complaint(&format!("{} --pcap {}", line, path.display()));
         assert!(said.starts_with(&format!("cannot write {}: ", path.display())), "{}", said);
     }
+    fs::remove_dir_all(here).expect("the folder can be removed");
+}
+
+#[test]
+fn a_capture_that_breaks_off_is_told_and_takes_no_tile() {
+    let here = scratch("broken");
+    let pipe = here.join("pipe");
+    assert!(Command::new("mkfifo").arg(&pipe).status().map_or(false, |status| status.success()));
+    let (at, path) = (free_address(), pipe.clone());
+    // As a disk that is full after the first bytes.
+    let reader = thread::spawn(move || File::open(path).and_then(|mut pipe| pipe.read_exact(&mut [0; 24])));
+    let (_, field) = begin(format!("field {} --count 1 --pcap {}", at, pipe.display()));
+    reader.join().expect("the reader ends").expect("a capture begins with its head");
+    well(&format!("head {} --messages 400", at));
+    let (field, _) = field.join().expect("the field computer ends");
+    assert_eq!(field.verdict, "all 450 tiles of 1 head came once, in order, byte for byte");
+    assert_eq!(field.faults, [format!("cannot write {}: Broken pipe (os error 32)", pipe.display())]);
     fs::remove_dir_all(here).expect("the folder can be removed");
 }
 
