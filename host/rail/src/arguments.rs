@@ -1,8 +1,8 @@
 //! What the command line asks for.
 
-use super::parcel::is_name;
-use super::Failure;
+use crate::parcel::is_name;
 use crate::relay::Weather;
+use crate::Failure;
 use oilwhisper::admission::Network;
 use oilwhisper::endpoint::Config;
 use oilwhisper::pcap::ENCAPSULATION;

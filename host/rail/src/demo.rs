@@ -1,15 +1,15 @@
 //! The demonstration: heads and a field computer over loopback UDP, with a relay before each head that drops, repeats, reorders and damages packets. Each head's
 //! first TSN is 100 below 2^32 and its first band has more than 65,536 tiles, so that the numbers of both circles go round.
 
-use super::arguments::{Demo, FIELD_PORT, HEAD_PORT};
-use super::report::{grouped, per_second, plural, silence, Ended, Table};
-use super::sender::{Asking, Sender, Stage};
-use super::source::Source;
-use super::stop::{Stop, Wish};
-use super::taker::{Field, Sink};
-use super::{bind, end_capture, start_capture, Failure};
+use crate::arguments::{Demo, FIELD_PORT, HEAD_PORT};
 use crate::relay::{Channel, Mishaps, Relay};
+use crate::report::{grouped, per_second, plural, silence, Ended, Table};
+use crate::sender::{Asking, Sender, Stage};
+use crate::source::Source;
+use crate::stop::{Stop, Wish};
+use crate::taker::{Field, Sink};
 use crate::tiles::{Album, Plan, BANDS};
+use crate::{bind, end_capture, start_capture, Failure};
 use oilwhisper::counts::Counts;
 use oilwhisper::endpoint::{Config, Endpoint};
 use oilwhisper::hub::{Hub, Settings};

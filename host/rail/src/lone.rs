@@ -1,16 +1,16 @@
 //! One end of the rail by itself, on a real address.
 
-use super::arguments;
-use super::page::Page;
-use super::report::{grouped, per_second, plural, shown, silence, Ended, Table};
-use super::sender::{Asking, Sender, Stage};
-use super::source::Source;
-use super::stop::{Stop, Wish};
-use super::store::Store;
-use super::taker::{Field, Sink, Sum};
-use super::view::{self, Screen, View};
-use super::{bind, end_capture, start_capture, Failure};
+use crate::arguments;
+use crate::page::Page;
+use crate::report::{grouped, per_second, plural, shown, silence, Ended, Table};
+use crate::sender::{Asking, Sender, Stage};
+use crate::source::Source;
+use crate::stop::{Stop, Wish};
+use crate::store::Store;
+use crate::taker::{Field, Sink, Sum};
 use crate::tiles::BANDS;
+use crate::view::{self, Screen, View};
+use crate::{bind, end_capture, start_capture, Failure};
 use oilwhisper::endpoint::{Config, Endpoint};
 use oilwhisper::hub::{Hub, Settings};
 use oilwhisper::library::Library;

@@ -1,6 +1,6 @@
 //! Serves one page over HTTP, to this machine alone.
 
-use super::Failure;
+use crate::Failure;
 use std::io::{self, ErrorKind, Read, Write};
 use std::net::{SocketAddr, TcpListener, TcpStream};
 use std::sync::atomic::{AtomicBool, Ordering};

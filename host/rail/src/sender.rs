@@ -1,10 +1,10 @@
 //! A head over its line: hands in tiles, notes which the field computer keeps, and when the line is lost asks again and sends those that it does not keep.
 
-use super::parcel::{names_in, Parcel, RECEIPT, TILE};
-use super::report::shown;
-use super::source::{Source, Tile};
-use super::stop::{Heeded, Stop, Wish};
-use super::Failure;
+use crate::parcel::{names_in, Parcel, RECEIPT, TILE};
+use crate::report::shown;
+use crate::source::{Source, Tile};
+use crate::stop::{Heeded, Stop, Wish};
+use crate::Failure;
 use oilwhisper::calls::{Cause, Refusal, State};
 use oilwhisper::endpoint::{Event, Why};
 use oilwhisper::library::Library;

@@ -1,10 +1,10 @@
 //! What a head has to send: the tiles of a folder, ROOT/BAND/NAME, or tiles that are made for trying; and a journal of those that the field computer keeps, so
 //! that a head which lost its power sends the others alone.
 
-use super::lines::Lines;
-use super::parcel::{is_name, CONTENT_MOST, NAME_MOST};
-use super::Failure;
+use crate::lines::Lines;
+use crate::parcel::{is_name, CONTENT_MOST, NAME_MOST};
 use crate::tiles::{tile, Plan, BANDS};
+use crate::Failure;
 use std::collections::{HashSet, VecDeque};
 use std::fs;
 use std::io;

@@ -1,9 +1,9 @@
 //! The field computer's folder: ROOT/HEAD/BAND/NAME for each tile, and ROOT/manifest.txt with a line for each. A tile is written beside its place, synced and
 //! renamed, so that it stands there whole or not at all; it is kept for certain when `seal` has returned.
 
-use super::lines::Lines;
-use super::parcel::Parcel;
-use super::Failure;
+use crate::lines::Lines;
+use crate::parcel::Parcel;
+use crate::Failure;
 use sha2::{Digest, Sha256};
 use std::collections::{BTreeSet, HashSet};
 use std::fs::{self, File};

@@ -1,11 +1,11 @@
 //! The field computer over its socket: takes the tiles of many heads in turns, compares or keeps each, and sends a receipt when it is kept for certain.
 
-use super::parcel::{receipt, Parcel, RECEIPT, TILE};
-use super::report::{plural, shown};
-use super::stop::{Heeded, Stop, Wish};
-use super::store::{Kept, Store};
-use super::Failure;
+use crate::parcel::{receipt, Parcel, RECEIPT, TILE};
+use crate::report::{plural, shown};
+use crate::stop::{Heeded, Stop, Wish};
+use crate::store::{Kept, Store};
 use crate::tiles::{Album, BANDS};
+use crate::Failure;
 use oilwhisper::calls::{Cause, State, Taken};
 use oilwhisper::event::Why;
 use oilwhisper::hub::{Event, HeadId};

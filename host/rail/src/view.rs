@@ -1,7 +1,7 @@
 //! What the operator sees: a line for each head, redrawn on a terminal, and one page with the tiles of each band.
 
-use super::report::{grouped, shown};
-use super::taker::{Field, Visit};
+use crate::report::{grouped, shown};
+use crate::taker::{Field, Visit};
 use crate::tiles::BANDS;
 use oilwhisper::calls::{Refusal, Shelf};
 use oilwhisper::hub::HeadId;

@@ -211,11 +211,7 @@ fn a_folder_that_cannot_be_written_loses_nothing() {
     field = Process::start(&format!("field {} --to {}", at, kept.display()), &log);
     thread::sleep(Duration::from_secs(2));
     fs::remove_file(kept.join("east")).expect("the file can be removed");
-    let start = Instant::now();
-    while head.ended().is_none() {
-        assert!(start.elapsed() < Duration::from_secs(60), "{}", fs::read_to_string(&log).unwrap_or_default());
-        thread::sleep(Duration::from_millis(50));
-    }
+    wait_for(|| fs::read_to_string(&log).unwrap_or_default(), || head.ended().is_some());
     field.terminate();
     compare(&kept, &made);
     fs::remove_dir_all(here).expect("the folder can be removed");
@@ -249,20 +245,13 @@ fn a_full_disk_loses_nothing() {
     let mut field = Process::start_by(command, &format!("field {} --to {}", at, kept.display()), &log);
     let mut head = Process::start(&format!("head {} --name east --from {}", at, here.join("east").display()), &log);
     let said = || fs::read_to_string(&log).unwrap_or_default();
-    let wait_for = |what: &str, is_there: &mut dyn FnMut() -> bool| {
-        let start = Instant::now();
-        while !is_there() {
-            assert!(start.elapsed() < Duration::from_secs(60), "{}: {}", what, said());
-            thread::sleep(Duration::from_millis(50));
-        }
-    };
-    wait_for("it is told", &mut || said().contains("a tile cannot be kept"));
+    wait_for(said, || said().contains("a tile cannot be kept"));
     thread::sleep(Duration::from_secs(2));
     assert!(said().contains("No space left on device"), "{}", said());
     assert_eq!((head.ended(), field.ended()), (None, None));
     let disk = PathBuf::from(format!("/proc/{}/root", field.0.id())).join(kept.strip_prefix("/").expect("it is a whole path"));
     fs::remove_file(disk.join("weight")).expect("there is room again");
-    wait_for("the head ends", &mut || head.ended() == Some(true));
+    wait_for(said, || head.ended() == Some(true));
     compare(&disk, &made);
     field.terminate();
     fs::remove_dir_all(here).expect("the folder can be removed");

@@ -8,7 +8,7 @@ use std::path::{Path, PathBuf};
 use std::process::Command;
 use std::sync::atomic::{AtomicBool, Ordering};
 use std::sync::Arc;
-use std::time::{Duration, Instant};
+use std::time::Duration;
 use std::{env, fs, thread};
 use yard::*;
 
@@ -107,14 +107,6 @@ fn is_lost(packet: &[u8]) -> bool {
     packet.get(12) == Some(&0) && packet.get(20..24) == Some(&LOST)
 }
 
-fn wait_for(what: &str, mut is_there: impl FnMut() -> bool) {
-    let start = Instant::now();
-    while !is_there() {
-        assert!(start.elapsed() < Duration::from_secs(30), "{}", what);
-        thread::sleep(Duration::from_millis(100));
-    }
-}
-
 /// Brings the rail to where a tile is missing, has the page looked at, lets the tile through, and has it looked at again.
 fn show(name: &str, look: impl Fn(SocketAddr) -> String) {
     let here: PathBuf = scratch(name);
@@ -133,13 +125,13 @@ fn show(name: &str, look: impl Fn(SocketAddr) -> String) {
     let whole = is_whole.clone();
     let cable = Cable::to(at, move |packet| !whole.load(Ordering::Relaxed) && is_lost(packet));
     let (_, east) = head("east", cable.address);
-    wait_for("tiles behind the gap are held", || page_at(view).matches("held behind a gap\"").count() == 2);
+    wait_for(|| page_at(view), || page_at(view).matches("held behind a gap\"").count() == 2);
     compare(&look(view), &GAP, ": up, heard ");
     assert!(between(&page_at(view), "<h2>east", "</h2>").contains("chunks came twice: waits for TSN "));
     is_whole.store(true, Ordering::Relaxed);
     let (ended, _) = east.join().expect("the head ends");
     assert_eq!(ended.verdict, "the field computer keeps all 12 tiles");
-    wait_for("the head is gone", || page_at(view).matches(": gone, ").count() == 3);
+    wait_for(|| page_at(view), || page_at(view).matches(": gone, ").count() == 3);
     compare(&look(view), &SIX, ": gone, ");
     stop.ask();
     field.join().expect("the field computer ends");

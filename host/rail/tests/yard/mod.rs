@@ -14,7 +14,7 @@ use std::net::{SocketAddr, TcpListener, TcpStream, UdpSocket};
 use std::path::PathBuf;
 use std::sync::atomic::{AtomicBool, Ordering};
 use std::sync::Arc;
-use std::time::Duration;
+use std::time::{Duration, Instant};
 use std::{env, fs, thread};
 
 /// Runs a command line until its end.
@@ -59,6 +59,15 @@ pub fn scratch(name: &str) -> PathBuf {
     let _ = fs::remove_dir_all(&path);
     fs::create_dir_all(&path).expect("there is room for a folder");
     path
+}
+
+/// Waits until it is there, and fails with what there is instead.
+pub fn wait_for(instead: impl Fn() -> String, mut is_there: impl FnMut() -> bool) {
+    let start = Instant::now();
+    while !is_there() {
+        assert!(start.elapsed() < Duration::from_secs(60), "{}", instead());
+        thread::sleep(Duration::from_millis(50));
+    }
 }
 
 /// What a browser gets.
