@@ -125,13 +125,16 @@ fn show(name: &str, look: impl Fn(SocketAddr) -> String) {
     let whole = is_whole.clone();
     let cable = Cable::to(at, move |packet| !whole.load(Ordering::Relaxed) && is_lost(packet));
     let (_, east) = head("east", cable.address);
-    wait_for(|| page_at(view), || page_at(view).matches("held behind a gap\"").count() == 2);
+    // All that is not lost has come, and is taken as far as it can be.
+    let shown = || read(&page_at(view)).into_iter().find(|head| head.title.starts_with("east"));
+    let stands = |head: Shown| head.bands.get(0..3) == Some(&[band(0, 6, &SIX), band(1, 0, &NONE), band(2, 3, &GAP)]);
+    wait_for(|| format!("{:?}", shown()), || shown().map_or(false, stands));
     compare(&look(view), &GAP, ": up, heard ");
     assert!(between(&page_at(view), "<h2>east", "</h2>").contains("chunks came twice: waits for TSN "));
     is_whole.store(true, Ordering::Relaxed);
     let (ended, _) = east.join().expect("the head ends");
     assert_eq!(ended.verdict, "the field computer keeps all 12 tiles");
-    wait_for(|| page_at(view), || page_at(view).matches(": gone, ").count() == 3);
+    wait_for(|| format!("{:?}", shown()), || shown().map_or(false, |head| head.title.contains(": gone, ")));
     compare(&look(view), &SIX, ": gone, ");
     stop.ask();
     field.join().expect("the field computer ends");
