@@ -1,168 +1,68 @@
-// The worked examples of receiving, C8 to C11 among them: each answer is printed as it comes out, and beside it what it should be.
-use delivery::Receiving;
+// The worked examples of receiving, C8 to C11 among them. The input has a step on each line, and behind a colon what should come of it; the output repeats the
+// line, with what came of it before what should, and whether they are the same. A chunk is said by TSN, FLAGS, STREAM, SSN, LENGTH, PPID: of its flags the letters
+// U, B, E that are set, or -; every byte of its payload is its TSN modulo 251. 128 streams are agreed.
+use delivery::Sack;
 use delivery::Verdict;
 use holding::Answer;
 use holding::Chunk;
 use holding::Held;
-use holding::taking::Message;
-use libc::STDOUT_FILENO;
+use holding::Message;
+use incoming::Came;
+use incoming::Incoming;
+use libc::STDIN_FILENO;
+use numbers::Blocks;
+use numbers::Rail;
 use numbers::Ssn;
 use numbers::StreamId;
 use numbers::Tsn;
 use octets::get8;
+use octets::part;
+use octets::put_all;
+use pages::page::compare;
+use pages::page::same;
+use pages::page::say;
+use pages::page::say_answer;
+use pages::page::say_named;
+use pages::page::say_number;
+use pages::page::say_unread;
+use pages::page::text;
+use pages::reading::deed;
+use pages::reading::find;
+use pages::reading::first;
+use pages::reading::is_heading;
+use pages::reading::line_after;
+use pages::reading::line_at;
+use pages::reading::rest;
+use pages::reading::should;
+use pages::reading::value16;
+use pages::reading::value32;
+use pages::reading::word;
+ghost use Prim.Native.Nat.{_≤_};
 
-// The bits of a chunk: E, B, U.
-const E: u8 = 1;
+// Bytes of the area, and of a take's output.
+const AREA: usize = 65536;
 
-const B: u8 = 2;
+// ---- a chunk
 
-const BE: u8 = 3;
-
-const U: u8 = 7;
-
-// What a step does.
-const NOTHING: u8 = 0;
-
-const ARRIVE: u8 = 1;
-
-const FILL: u8 = 2;
-
-const TAKE: u8 = 3;
-
-const SACK: u8 = 4;
-
-const BOUNDS: u8 = 5;
-
-// A step, and the numbers that it should answer.
-struct Step {
-    what: u8,
-    bits: u8,
-    stream: u16,
-    ssn: u16,
-    tsn: u32,
-    len: usize,
-    times: u32,
-    a: u64,
-    b: u64,
-    c: u64,
-    d: u64,
-    e: u64,
+fn has(flags: &[u8], letter: u8) -> bool {
+    find(flags, 0, letter) < flags.len()
 }
 
-fn nothing() -> Step {
-    Step {
-        what: NOTHING,
-        bits: 0,
-        stream: 0,
-        ssn: 0,
-        tsn: 0,
-        len: 0,
-        times: 0,
-        a: 0,
-        b: 0,
-        c: 0,
-        d: 0,
-        e: 0,
+// The chunk behind a word, at a number.
+fn chunk(line: &[u8], tsn: Tsn) -> Chunk {
+    let flags = word(line, 2);
+    Chunk {
+        begin: has(flags, b'B'),
+        end: has(flags, b'E'),
+        unordered: has(flags, b'U'),
+        tsn,
+        stream: StreamId(value16(line, 3)),
+        ssn: Ssn(value16(line, 4)),
+        ppid: value32(line, 6),
     }
 }
 
-// A chunk with a payload of so many bytes, and its verdict.
-fn arrive(tsn: u32, bits: u8, stream: u16, ssn: u16, len: usize, verdict: u64) -> Step {
-    let mut s = nothing();
-    s.what = ARRIVE;
-    s.bits = bits;
-    s.stream = stream;
-    s.ssn = ssn;
-    s.tsn = tsn;
-    s.len = len;
-    s.a = verdict;
-    s
-}
-
-// So many chunks from a number on, and the verdict on the last.
-fn fill(tsn: u32, times: u32, bits: u8, len: usize, verdict: u64) -> Step {
-    let mut s = arrive(tsn, bits, 0, 0, len, verdict);
-    s.what = FILL;
-    s.times = times;
-    s
-}
-
-// The number answered, the length (of 18, the one needed), and of a message its SSN and its first and last byte.
-fn take(room: usize, number: u64, length: u64, ssn: u64, first: u64, last: u64) -> Step {
-    let mut s = nothing();
-    s.what = TAKE;
-    s.len = room;
-    s.a = number;
-    s.b = length;
-    s.c = ssn;
-    s.d = first;
-    s.e = last;
-    s
-}
-
-// The point, the window, the first block's start and end, and how many duplicates.
-fn sack(point: u64, window: u64, start: u64, end: u64, duplicates: u64) -> Step {
-    let mut s = nothing();
-    s.what = SACK;
-    s.a = point;
-    s.b = window;
-    s.c = start;
-    s.d = end;
-    s.e = duplicates;
-    s
-}
-
-fn bounds(within: u64) -> Step {
-    let mut s = nothing();
-    s.what = BOUNDS;
-    s.a = within;
-    s
-}
-
-// ---- printing
-
-fn text(s: &[u8]) {
-    io::write_all(STDOUT_FILENO, s);
-}
-
-fn number(n: u64) {
-    text(b" ");
-    io::print_decimal(STDOUT_FILENO, n);
-}
-
-fn one(a: u64, right: u64) {
-    number(a);
-    text(b" |");
-    number(right);
-    text(b"\n");
-}
-
-fn numbers(a: u64, b: u64, c: u64, d: u64, e: u64) {
-    number(a);
-    number(b);
-    number(c);
-    number(d);
-    number(e);
-}
-
-fn five(a: u64, b: u64, c: u64, d: u64, e: u64, s: Step) {
-    numbers(a, b, c, d, e);
-    text(b" |");
-    numbers(s.a, s.b, s.c, s.d, s.e);
-    text(b"\n");
-}
-
-fn byte(x: u8) -> u64 {
-    x as u64
-}
-
-fn offset(x: u16) -> u64 {
-    x as u64
-}
-
-// ---- the steps
-
-fn number_of(v: Verdict) -> u64 {
+fn number_of(v: Verdict) -> u8 {
     match v {
         Verdict::Kept => 0,
         Verdict::Empty => 9,
@@ -176,533 +76,306 @@ fn number_of(v: Verdict) -> u64 {
     }
 }
 
-fn chunk(tsn: Tsn, s: Step) -> Chunk {
-    Chunk {
-        begin: 1 < s.bits % 4,
-        end: 0 < s.bits % 2,
-        unordered: 3 < s.bits,
-        tsn,
-        stream: StreamId(s.stream),
-        ssn: Ssn(s.ssn),
-        ppid: 77,
-    }
-}
-
-// The chunk of the step, at a number; each byte of its payload is the number modulo 251.
-fn deliver(r: Receiving, area: &mut [u8; 65536], s: Step, tsn: Tsn) -> delivery::Arrival {
+fn deliver(r: Incoming, area: &mut [u8; AREA], line: &[u8], tsn: Tsn) -> Came {
     let payload = [(tsn.0 % 251) as u8; 513];
-    let c = chunk(tsn, s);
-    let n = s.len;
-    if n <= 513 {
-        return r.arrive(area, c, &payload[0..n], 128);
-    }
-    r.arrive(area, c, &payload, 128)
+    let n = value16(line, 5) as usize;
+    incoming::arrive(r, area, chunk(line, tsn), part(&payload, 0, n), 128)
 }
 
-fn arrived(r: Receiving, area: &mut [u8; 65536], s: Step) -> Receiving {
-    let a = deliver(r, area, s, Tsn(s.tsn));
+// arrives CHUNK: its number
+fn arrives(r: Incoming, area: &mut [u8; AREA], line: &[u8], right: &[u8]) -> Incoming {
+    let a = deliver(r, area, line, Tsn(value32(line, 1)));
     let v = a.verdict;
-    text(b"arrive");
-    number(s.tsn as u64);
-    text(b":");
-    one(number_of(v), s.a);
-    a.receiving
+    compare(right, say_answer(right, 0, number_of(v)));
+    a.incoming
 }
 
-fn filled(r0: Receiving, area: &mut [u8; 65536], s: Step, times: u32) -> Receiving {
-    let start = Tsn(s.tsn);
+// How many had the same number in a row.
+fn counted(alike: u32, again: bool) -> u32 {
+    if again {
+        return std::num::wrapping_add_u32(alike, 1);
+    }
+    1
+}
+
+fn say_filled(right: &[u8], alike: u32, number: u8) -> usize {
+    let a = say_number(right, 0, alike as u64);
+    let b = say(right, a, b" ");
+    say_answer(right, b, number)
+}
+
+// fills CHUNK TIMES, from its TSN on: the number of the last, and how many up to it had the same
+fn fills(
+    r0: Incoming,
+    area: &mut [u8; AREA],
+    line: &[u8],
+    right: &[u8],
+    start: Tsn,
+    times: u32,
+) -> Incoming {
     let mut r = r0;
-    let mut last: u64 = 0;
+    let mut number: u8 = 0;
+    let mut alike: u32 = 0;
     let mut i: u32 = 0;
     while i < times {
-        let a = deliver(r, area, s, start.after(i));
+        let a = deliver(r, area, line, start.after(i));
         let v = a.verdict;
-        last = number_of(v);
-        r = a.receiving;
+        let n = number_of(v);
+        alike = counted(alike, n == number);
+        number = n;
+        r = a.incoming;
         i += 1;
     }
-    text(b"fill");
-    number(s.tsn as u64);
-    text(b":");
-    one(last, s.a);
+    compare(right, say_filled(right, alike, number));
     r
 }
 
-// A message of n bytes: its first and its last.
-fn say_message(m: Message, out: &[u8; 65536], s: Step) {
-    let n = m.length;
+// ---- a take
+
+fn last_of(out: &[u8; AREA], n: usize) -> u8 {
     if 0 < n {
-        five(
-            0,
-            n as u64,
-            m.ssn.0 as u64,
-            byte(get8(out, 0)),
-            byte(get8(out, n - 1)),
-            s,
+        return get8(out, n - 1);
+    }
+    0
+}
+
+// Its first byte, and its last.
+fn say_bytes(right: &[u8], at: usize, out: &[u8; AREA], n: usize) -> usize {
+    let a = say_named(right, at, b" bytes ", get8(out, 0) as u64);
+    say_named(right, a, b" to ", last_of(out, n) as u64)
+}
+
+fn say_message(right: &[u8], at: usize, m: Message) -> usize {
+    let stream = m.stream;
+    let ssn = m.ssn;
+    let a = say_named(right, at, b" stream ", stream.0 as u64);
+    let b = say_named(right, a, b" unordered ", m.unordered as u64);
+    let c = say_named(right, b, b" SSN ", ssn.0 as u64);
+    say_named(right, c, b" PPID ", m.ppid as u64)
+}
+
+fn say_given(right: &[u8], m: Message, out: &[u8; AREA]) -> usize {
+    let a = say_named(right, 0, b"ok of ", m.length as u64);
+    let b = say_message(right, a, m);
+    say_bytes(right, b, out, m.length)
+}
+
+fn say_taken(right: &[u8], a: Answer, out: &[u8; AREA]) -> usize {
+    match a {
+        Answer::Taken(m) => say_given(right, m, out),
+        Answer::Nothing => say_answer(right, 0, 17),
+        Answer::Short(n) => say_named(right, 0, b"no 18 of ", n as u64),
+    }
+}
+
+fn room_of(line: &[u8]) -> usize
+    ensures { λ r. ⌜ r ≤ 65536 ⌝ }
+{
+    let n = value32(line, 1);
+    if n < 65536 {
+        return n as usize;
+    }
+    AREA
+}
+
+// takes ROOM: the number, and the message; of 18 the length needed
+fn takes(r: Incoming, area: &[u8; AREA], line: &[u8], right: &[u8]) -> Incoming {
+    let mut out = [0u8; AREA];
+    let room = room_of(line);
+    let t = incoming::take(r, area, &mut out[0..room]);
+    let a = t.answer;
+    compare(right, say_taken(right, a, &out));
+    t.incoming
+}
+
+// ---- a SACK
+
+fn say_block(right: &[u8], at: usize, start: u16, end: u16) -> usize {
+    let a = say_named(right, at, b" ", start as u64);
+    say_named(right, a, b"-", end as u64)
+}
+
+fn say_blocks(right: &[u8], at: usize, b: Blocks) -> usize {
+    let count = b.count;
+    let mut to = say_named(right, at, b" blocks ", count as u64);
+    let mut i: usize = 0;
+    while i < Rail::BLOCKS {
+        if i < count {
+            to = say_block(right, to, b.starts[i], b.ends[i]);
+            i += 1;
+        } else {
+            i += 1;
+        }
+    }
+    to
+}
+
+fn say_tsn(right: &[u8], at: usize, t: Tsn) -> usize {
+    say_named(right, at, b" ", t.0 as u64)
+}
+
+fn say_dups(right: &[u8], at: usize, dups: [Tsn; Rail::LISTED], listed: usize) -> usize {
+    let mut to = say_named(right, at, b" duplicates ", listed as u64);
+    let mut i: usize = 0;
+    while i < Rail::LISTED {
+        if i < listed {
+            let t = dups[i];
+            to = say_tsn(right, to, t);
+            i += 1;
+        } else {
+            i += 1;
+        }
+    }
+    to
+}
+
+fn say_sack(right: &[u8], k: Sack) -> usize {
+    let point = k.point;
+    let blocks = k.blocks;
+    let dups = k.dups;
+    let a = say_named(right, 0, b"point ", point.0 as u64);
+    let b = say_named(right, a, b" window ", k.window as u64);
+    let c = say_blocks(right, b, blocks);
+    say_dups(right, c, dups, k.listed)
+}
+
+// sacks: the point, the window, how many blocks and each, how many duplicates and each
+fn sacks(r: Incoming, right: &[u8]) -> Incoming {
+    let a = incoming::sack(r);
+    let k = a.sack;
+    compare(right, say_sack(right, k));
+    a.incoming
+}
+
+// ---- the bounds
+
+fn number_bounded(sound: bool) -> u8 {
+    if sound {
+        return 0;
+    }
+    1
+}
+
+// bounds: 1 where the record is outside them
+fn bounds(r: Incoming, right: &[u8]) -> Incoming {
+    let keeping = r.keeping;
+    let sound = reception::bounds::is_sound(keeping, &r.held);
+    compare(right, say_answer(right, 0, number_bounded(sound)));
+    r
+}
+
+// ---- records of a line's own making
+
+// fresh TSN: the peer's first
+fn fresh(area: &mut [u8; AREA], line: &[u8]) -> Incoming {
+    put_all(area, 0, &[0u8; AREA]);
+    Incoming::fresh(Tsn(value32(line, 1)))
+}
+
+// expects STREAM SSN
+fn expects(mut r: Incoming, line: &[u8]) -> Incoming {
+    let i = value16(line, 1) as usize;
+    tables::ssns::put_ssn(&mut r.next, i, Ssn(value16(line, 2)));
+    r
+}
+
+// holds PLACE CHUNK: it is not marked come
+fn holds(mut r: Incoming, line: &[u8]) -> Incoming {
+    let i = value16(line, 1) as usize;
+    let behind = rest(line);
+    let h = Held::of(chunk(behind, Tsn(value32(behind, 1))), value16(behind, 5));
+    tables::held::put_held(&mut r.held, i, h);
+    r
+}
+
+fn prepared(r: Incoming, area: &mut [u8; AREA], line: &[u8]) -> Incoming {
+    let w = first(line);
+    if same(w, b"fresh") {
+        return fresh(area, line);
+    }
+    if same(w, b"expects") {
+        return expects(r, line);
+    }
+    holds(r, line)
+}
+
+fn is_prepared(w: &[u8]) -> bool {
+    if same(w, b"fresh") {
+        return true;
+    }
+    if same(w, b"expects") {
+        return true;
+    }
+    same(w, b"holds")
+}
+
+// ---- the lines
+
+fn unread(r: Incoming, right: &[u8]) -> Incoming {
+    compare(right, say_unread(right));
+    r
+}
+
+fn arrived(r: Incoming, area: &mut [u8; AREA], line: &[u8], right: &[u8]) -> Incoming {
+    let w = first(line);
+    if same(w, b"arrives") {
+        return arrives(r, area, line, right);
+    }
+    if same(w, b"fills") {
+        return fills(
+            r,
+            area,
+            line,
+            right,
+            Tsn(value32(line, 1)),
+            value32(line, 7),
         );
     }
+    unread(r, right)
 }
 
-fn say_answer(a: Answer, out: &[u8; 65536], s: Step) {
-    match a {
-        Answer::Taken(m) => say_message(m, out, s),
-        Answer::Nothing => five(17, 0, 0, 0, 0, s),
-        Answer::Short(n) => five(18, n as u64, 0, 0, 0, s),
+fn performed(r: Incoming, area: &mut [u8; AREA], line: &[u8], right: &[u8]) -> Incoming {
+    let w = first(line);
+    if same(w, b"takes") {
+        return takes(r, area, line, right);
     }
+    if same(w, b"sacks") {
+        return sacks(r, right);
+    }
+    if same(w, b"bounds") {
+        return bounds(r, right);
+    }
+    arrived(r, area, line, right)
 }
 
-fn taken(r: Receiving, area: &mut [u8; 65536], s: Step) -> Receiving {
-    let mut out = [0u8; 65536];
-    let room = s.len;
-    if 65536 < room {
+fn turn(r: Incoming, area: &mut [u8; AREA], line: &[u8]) -> Incoming {
+    if is_heading(line) {
+        text(line);
+        text(b"\n");
         return r;
     }
-    let t = r.take(area, &mut out[0..room]);
-    let a = t.answer;
-    text(b"take:");
-    say_answer(a, &out, s);
-    t.receiving
-}
-
-fn sacked(r: Receiving, s: Step) -> Receiving {
-    let a = r.sack();
-    let k = a.sack;
-    let b = k.blocks;
-    text(b"sack:");
-    five(
-        k.point.0 as u64,
-        k.window as u64,
-        offset(b.starts[0]),
-        offset(b.ends[0]),
-        k.listed as u64,
-        s,
-    );
-    a.receiving
-}
-
-fn perform(r: Receiving, area: &mut [u8; 65536], s: Step) -> Receiving {
-    let what = s.what;
-    if what == ARRIVE {
-        return arrived(r, area, s);
+    let event = deed(line);
+    text(event);
+    if is_prepared(first(event)) {
+        text(b"\n");
+        return prepared(r, area, event);
     }
-    if what == FILL {
-        return filled(r, area, s, s.times);
+    text(b": ");
+    performed(r, area, event, should(line))
+}
+
+fn run(script: &[u8]) {
+    let mut area = [0u8; AREA];
+    let mut r = Incoming::fresh(Tsn(0));
+    let mut at: usize = 0;
+    while at < script.len() {
+        r = turn(r, &mut area, line_at(script, at));
+        at = line_after(script, at);
     }
-    if what == TAKE {
-        return taken(r, area, s);
-    }
-    if what == SACK {
-        return sacked(r, s);
-    }
-    if what == BOUNDS {
-        text(b"within bounds:");
-        one(r.is_sound() as u64, s.a);
-        return r;
-    }
-    r
-}
-
-fn run(name: &[u8], r0: Receiving, steps: [Step; 16]) {
-    let mut area = [0u8; 65536];
-    text(name);
-    text(b"\n");
-    let mut r = r0;
-    let mut i: usize = 0;
-    while i < 16 {
-        let s = steps[i];
-        r = perform(r, &mut area, s);
-        i += 1;
-    }
-}
-
-// ---- the examples
-
-fn c8_c9() {
-    let none = nothing();
-    let s = [
-        bounds(1),
-        arrive(0, BE, 0, 1, 1, 0),
-        sack(4294967294, 65024, 2, 2, 0),
-        arrive(4294967295, BE, 0, 0, 1, 0),
-        sack(0, 64512, 0, 0, 0),
-        bounds(1),
-        none,
-        none,
-        none,
-        none,
-        none,
-        none,
-        none,
-        none,
-        none,
-        none,
-    ];
-    run(b"C8, C9", Receiving::fresh(Tsn(4294967295)), s);
-}
-
-fn c10_c11() {
-    let none = nothing();
-    let s = [
-        take(65536, 17, 0, 0, 0, 0),
-        arrive(129, BE, 0, 0, 1, 13),
-        arrive(2147483647, BE, 0, 0, 1, 13),
-        arrive(2147483648, BE, 0, 0, 1, 24),
-        sack(0, 65536, 0, 0, 0),
-        arrive(2147483649, BE, 0, 0, 1, 11),
-        arrive(2147483648, BE, 0, 0, 0, 9),
-        arrive(2147483648, BE, 0, 0, 513, 10),
-        arrive(1, BE, 0, 0, 0, 9),
-        arrive(1, BE, 0, 0, 513, 10),
-        arrive(128, BE, 0, 0, 1, 0),
-        sack(0, 65024, 128, 128, 1),
-        bounds(1),
-        none,
-        none,
-        none,
-    ];
-    run(
-        b"C10, C11, opposite, empty, over 512",
-        Receiving::fresh(Tsn(1)),
-        s,
-    );
-}
-
-fn holes() {
-    let none = nothing();
-    let s = [
-        fill(2, 126, U, 1, 0),
-        sack(0, 1024, 2, 127, 0),
-        arrive(128, U, 0, 0, 1, 0),
-        sack(0, 512, 2, 128, 0),
-        arrive(129, U, 0, 0, 1, 13),
-        arrive(1, U, 0, 0, 1, 0),
-        sack(128, 0, 0, 0, 0),
-        bounds(1),
-        arrive(129, U, 0, 0, 1, 13),
-        take(1, 0, 1, 0, 1, 1),
-        arrive(129, U, 0, 0, 1, 0),
-        sack(129, 0, 0, 0, 0),
-        bounds(1),
-        none,
-        none,
-        none,
-    ];
-    run(
-        b"a hole at each end of the window",
-        Receiving::fresh(Tsn(1)),
-        s,
-    );
-}
-
-fn duplicates() {
-    let none = nothing();
-    let s = [
-        arrive(1, BE, 0, 0, 1, 0),
-        arrive(2, BE, 0, 1, 1, 0),
-        fill(1, 2, BE, 1, 11),
-        fill(4294967283, 14, BE, 1, 11),
-        bounds(1),
-        arrive(2, BE, 0, 1, 1, 11),
-        bounds(1),
-        sack(2, 64512, 0, 0, 16),
-        sack(2, 64512, 0, 0, 0),
-        fill(4294967283, 15, BE, 1, 11),
-        sack(2, 64512, 0, 0, 15),
-        none,
-        none,
-        none,
-        none,
-        none,
-    ];
-    run(b"16 and 17 duplicates", Receiving::fresh(Tsn(1)), s);
-}
-
-fn full() {
-    let none = nothing();
-    let s = [
-        arrive(1, B, 0, 0, 512, 0),
-        fill(2, 126, 0, 512, 0),
-        take(65536, 17, 0, 0, 0, 0),
-        arrive(128, E, 0, 0, 512, 0),
-        sack(128, 0, 0, 0, 0),
-        take(65535, 18, 65536, 0, 0, 0),
-        take(65536, 0, 65536, 0, 1, 128),
-        sack(128, 65536, 0, 0, 0),
-        take(65536, 17, 0, 0, 0, 0),
-        bounds(1),
-        none,
-        none,
-        none,
-        none,
-        none,
-        none,
-    ];
-    run(
-        b"a message of 128 chunks on a full record",
-        Receiving::fresh(Tsn(1)),
-        s,
-    );
-}
-
-fn wedge() {
-    let none = nothing();
-    let s = [
-        arrive(1, B, 0, 0, 1, 0),
-        fill(2, 127, 0, 1, 0),
-        take(65536, 17, 0, 0, 0, 0),
-        arrive(129, 0, 0, 0, 1, 12),
-        arrive(129, BE, 0, 0, 1, 12),
-        arrive(5, 0, 0, 0, 1, 11),
-        sack(128, 0, 0, 0, 1),
-        bounds(1),
-        none,
-        none,
-        none,
-        none,
-        none,
-        none,
-        none,
-        none,
-    ];
-    run(
-        b"a wedge, and a duplicate on it",
-        Receiving::fresh(Tsn(1)),
-        s,
-    );
-}
-
-// The chunk one TSN before lacks E and this one has B, or has E where this one lacks B; the circle of TSNs closes between them.
-fn contradicts_the_one_before() {
-    let none = nothing();
-    let s = [
-        arrive(4294967295, B, 0, 0, 1, 0),
-        arrive(0, B, 0, 1, 1, 21),
-        arrive(0, BE, 0, 1, 1, 21),
-        arrive(0, U, 7, 0, 1, 21),
-        arrive(0, B, 0, 1, 0, 9),
-        arrive(0, B, 128, 1, 1, 14),
-        sack(0, 65024, 0, 0, 0),
-        arrive(2, BE, 0, 1, 1, 0),
-        arrive(3, 0, 0, 1, 1, 21),
-        arrive(3, E, 9, 1, 1, 21),
-        arrive(3, B, 0, 2, 1, 0),
-        arrive(4, 0, 9, 5, 1, 0),
-        arrive(130, B, 0, 2, 1, 13),
-        sack(0, 63488, 2, 4, 0),
-        bounds(1),
-        none,
-    ];
-    run(
-        b"a chunk that contradicts the one before",
-        Receiving::fresh(Tsn(4294967295)),
-        s,
-    );
-}
-
-// And with the one TSN after: what it says of its beginning, against what this one says of its end. What was taken is held no more, and is not asked.
-fn contradicts_the_one_after() {
-    let none = nothing();
-    let s = [
-        arrive(1, BE, 0, 1, 1, 0),
-        arrive(0, 0, 0, 0, 1, 21),
-        arrive(0, B, 0, 0, 1, 21),
-        sack(4294967294, 65024, 3, 3, 0),
-        arrive(0, E, 0, 0, 1, 0),
-        arrive(4294967295, BE, 0, 0, 1, 21),
-        arrive(4294967295, B, 0, 0, 1, 0),
-        take(65536, 0, 2, 0, 122, 0),
-        take(65536, 0, 1, 1, 1, 1),
-        arrive(4, 0, 0, 2, 1, 0),
-        arrive(3, E, 0, 2, 1, 21),
-        arrive(2, E, 0, 2, 1, 0),
-        arrive(3, 0, 0, 2, 1, 21),
-        sack(2, 64512, 2, 2, 0),
-        bounds(1),
-        none,
-    ];
-    run(
-        b"a chunk that contradicts the one after",
-        Receiving::fresh(Tsn(4294967295)),
-        s,
-    );
-}
-
-fn strays() {
-    let none = nothing();
-    let s = [
-        arrive(1, BE, 128, 0, 1, 14),
-        sack(1, 65536, 0, 0, 0),
-        arrive(1, BE, 128, 0, 1, 11),
-        arrive(3, BE, 65535, 0, 1, 14),
-        sack(1, 65536, 2, 2, 1),
-        take(65536, 17, 0, 0, 0, 0),
-        bounds(1),
-        none,
-        none,
-        none,
-        none,
-        none,
-        none,
-        none,
-        none,
-        none,
-    ];
-    run(b"14 and its repeat", Receiving::fresh(Tsn(1)), s);
-}
-
-fn inside() {
-    let mut r = Receiving::fresh(Tsn(4294967295));
-    r.next[0] = Ssn(65535);
-    let none = nothing();
-    let s = [
-        arrive(1, BE, 0, 0, 3, 0),
-        arrive(0, E, 0, 65535, 2, 0),
-        take(65536, 17, 0, 0, 0, 0),
-        arrive(4294967295, B, 0, 65535, 1, 0),
-        take(65536, 0, 3, 65535, 122, 0),
-        take(65536, 0, 3, 0, 1, 1),
-        arrive(4294967295, B, 0, 65535, 1, 11),
-        sack(1, 65536, 0, 0, 1),
-        bounds(1),
-        none,
-        none,
-        none,
-        none,
-        none,
-        none,
-        none,
-    ];
-    run(b"both circles close inside a message", r, s);
-}
-
-fn between() {
-    let mut r = Receiving::fresh(Tsn(4294967294));
-    r.next[0] = Ssn(65535);
-    let none = nothing();
-    let s = [
-        arrive(0, BE, 0, 0, 1, 0),
-        arrive(4294967295, E, 0, 65535, 1, 0),
-        arrive(4294967294, B, 0, 65535, 1, 0),
-        sack(0, 64000, 0, 0, 0),
-        take(65536, 0, 2, 65535, 121, 122),
-        take(65536, 0, 1, 0, 0, 0),
-        take(65536, 17, 0, 0, 0, 0),
-        bounds(1),
-        none,
-        none,
-        none,
-        none,
-        none,
-        none,
-        none,
-        none,
-    ];
-    run(b"and between two", r, s);
-}
-
-fn order() {
-    let none = nothing();
-    let s = [
-        arrive(4, BE, 3, 1, 2, 0),
-        take(65536, 17, 0, 0, 0, 0),
-        arrive(3, U, 0, 9, 3, 0),
-        arrive(2, BE, 3, 0, 1, 0),
-        take(65536, 0, 1, 0, 2, 2),
-        take(65536, 0, 3, 9, 3, 3),
-        take(65536, 0, 2, 1, 4, 4),
-        arrive(4, BE, 3, 1, 2, 11),
-        sack(0, 65536, 2, 4, 1),
-        bounds(1),
-        none,
-        none,
-        none,
-        none,
-        none,
-        none,
-    ];
-    run(b"the order of takes", Receiving::fresh(Tsn(1)), s);
-}
-
-fn weird() {
-    let none = nothing();
-    let s = [
-        bounds(1),
-        arrive(3, U, 0, 0, 1, 11),
-        arrive(1, U, 0, 0, 1, 0),
-        arrive(2, U, 0, 0, 1, 0),
-        sack(2, 64000, 0, 0, 1),
-        take(65536, 0, 1, 0, 1, 1),
-        take(65536, 0, 1, 0, 2, 2),
-        take(65536, 0, 1, 0, 0, 0),
-        arrive(3, U, 0, 0, 1, 0),
-        sack(3, 65024, 0, 0, 0),
-        bounds(1),
-        none,
-        none,
-        none,
-        none,
-        none,
-    ];
-    let mut r = Receiving::fresh(Tsn(1));
-    r.held[9] = Held::of(chunk(Tsn(3), arrive(3, U, 0, 0, 1, 0)), 1);
-    run(b"a chunk held above the point and not marked come", r, s);
-}
-
-// A chunk that is held opposite to the point comes again: 24 stands before "TSN already held", and 11 follows once the point has moved.
-fn opposite() {
-    let none = nothing();
-    let s = [
-        bounds(1),
-        arrive(2147483649, U, 0, 0, 1, 24),
-        sack(1, 65024, 0, 0, 0),
-        arrive(2, U, 0, 0, 1, 0),
-        arrive(2147483649, U, 0, 0, 1, 11),
-        arrive(2147483650, U, 0, 0, 1, 24),
-        sack(2, 64512, 0, 0, 1),
-        bounds(1),
-        none,
-        none,
-        none,
-        none,
-        none,
-        none,
-        none,
-        none,
-    ];
-    let mut r = Receiving::fresh(Tsn(2));
-    r.held[9] = Held::of(chunk(Tsn(2147483649), arrive(2147483649, U, 0, 0, 1, 0)), 1);
-    run(b"a chunk held opposite to the point", r, s);
-}
-
-// A chunk put in place 64 of a record that holds 3 near the point and 2147483649 opposite to it.
-fn outside(name: &[u8], tsn: u32, stream: u16, len: u16, within: u64) {
-    let mut r = Receiving::fresh(Tsn(2));
-    r.held[0] = Held::of(chunk(Tsn(3), arrive(3, U, 0, 0, 1, 0)), 1);
-    r.held[127] = Held::of(chunk(Tsn(2147483649), arrive(3, U, 0, 0, 1, 0)), 1);
-    r.held[64] = Held::of(chunk(Tsn(tsn), arrive(3, U, stream, 0, 1, 0)), len);
-    text(name);
-    one(r.is_sound() as u64, within);
 }
 
 fn main() {
-    c8_c9();
-    c10_c11();
-    holes();
-    duplicates();
-    full();
-    wedge();
-    contradicts_the_one_before();
-    contradicts_the_one_after();
-    strays();
-    inside();
-    between();
-    order();
-    weird();
-    opposite();
-    outside(b"one more held:", 5, 127, 512, 1);
-    outside(b"held twice near the point:", 3, 0, 1, 0);
-    outside(b"held twice far from it:", 2147483649, 0, 1, 0);
-    outside(b"no payload:", 5, 0, 0, 0);
-    outside(b"a payload of 513:", 5, 0, 513, 0);
-    outside(b"stream 128:", 5, 128, 1, 0);
+    let mut script = [0u8; 65536];
+    let n = io::read_full(STDIN_FILENO, &mut script);
+    run(part(&script, 0, n));
 }

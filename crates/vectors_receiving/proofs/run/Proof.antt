@@ -1,43 +1,36 @@
 use borrow.Author.Needs.{needs}
-use Prim.Native.Nat.{_-_, _≤_}
+use Prim.Native.Nat.{_-_}
+use native.Mathlib.Omega.{arith}
+use lib.ListN.{length}
 use Rattle.vectors_receiving.proofs.run.Statement.{statement}
 use Rattle.vectors_receiving.proofs.run.Tie as tie
 
 abbrev Inv-loop : tie.InvT-loop
-Inv-loop name steps area₀ r₀ i₀ area r i = i ≤ 16
+Inv-loop script area₀ r₀ at₀ area r at = Unit {0}
 
 abbrev μ-loop : tie.MeasureT-loop
-μ-loop name steps area₀ r₀ i₀ area r i = 16 - i
+μ-loop script area₀ r₀ at₀ area r at = length script - at
 
-text-requires : tie.Need-text-requires Inv-loop μ-loop
-text-requires c κs = search needs
-
-slice-aggregate-text : tie.Need-slice-aggregate-text Inv-loop μ-loop
-slice-aggregate-text c = search needs
-
-text-requires-2 : tie.Need-text-requires-2 Inv-loop μ-loop
-text-requires-2 c κs = search needs
+fresh-requires : tie.Need-fresh-requires Inv-loop μ-loop
+fresh-requires c κs = search needs
 
 loop-holds : tie.Need-loop-holds Inv-loop μ-loop
-loop-holds c = search needs
+loop-holds c = tt
 
-mul-s : tie.Need-mul-s Inv-loop μ-loop
-mul-s c = search needs
+line-at-requires : tie.Need-line-at-requires Inv-loop μ-loop
+line-at-requires c κs = search needs
 
-array-copy-out-s : tie.Need-array-copy-out-s Inv-loop μ-loop
-array-copy-out-s c = search needs
+turn-requires : tie.Need-turn-requires Inv-loop μ-loop
+turn-requires c κs = search needs
 
-perform-requires : tie.Need-perform-requires Inv-loop μ-loop
-perform-requires c κs = search needs
-
-add-i : tie.Need-add-i Inv-loop μ-loop
-add-i c = search needs
+line-after-requires : tie.Need-line-after-requires Inv-loop μ-loop
+line-after-requires c κs = search needs
 
 loop-less : tie.Need-loop-less Inv-loop μ-loop
-loop-less c = search needs
+loop-less c = let h = c .before .before .before .before .loop-test .taken in let l = c .line-after .ensures h in omega (arith, h, l)
 
 loop-again : tie.Need-loop-again Inv-loop μ-loop
-loop-again c = search needs
+loop-again c = tt
 
 returns : tie.Need-returns Inv-loop μ-loop
 returns c = search needs
@@ -48,14 +41,11 @@ run-spec =
     (tie.spec
     Inv-loop
     μ-loop
-    text-requires
-    slice-aggregate-text
-    text-requires-2
+    fresh-requires
     loop-holds
-    mul-s
-    array-copy-out-s
-    perform-requires
-    add-i
+    line-at-requires
+    turn-requires
+    line-after-requires
     loop-less
     loop-again
     returns)
