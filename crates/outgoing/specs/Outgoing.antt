@@ -1,12 +1,21 @@
--- The sending side by value: its tables word by word after a SACK and after a packet.
+-- The sending side by value: its tables word by word at its start, after a message, a SACK, a SHUTDOWN's point, T3 and a packet.
+use Prim.Native.Nat.{ℕ}
+use mathlib.Core.Bool.{Bool}
+use lib.ListN.{replicate}
+use Rattle.numbers.specs.declared.circle.Tsn.{Tsn}
+use Rattle.numbers.specs.declared.circle.StreamId.{StreamId}
 use Rattle.numbers.specs.Profile.{rail}
 use Rattle.path.specs.Sizes.{railSizes}
 use Rattle.places.specs.declared.sack.Sack.{Sack}
 use Rattle.sending.specs.declared.sending.Sending.{Sending}
-use Rattle.sender.specs.Seen.{seen}
-use Rattle.acks.specs.Acks.{ackedHead, ackedWords}
+use Rattle.sending.specs.Sending.{fresh}
+use Rattle.sender.specs.Seen.{seen, headOf}
+use Rattle.messages.specs.Messages.{handing, handedWords}
+use Rattle.acks.specs.Acks.{ackedHead, ackedWords, shutHead, shutWords, expiredHead, expiredWords}
 use Rattle.choice.specs.Fill.{Fill, filledIn}
 use Rattle.outgoing.specs.declared.Outgoing.{Outgoing}
+use Rattle.outgoing.specs.declared.HandedIn.{HandedIn}
+use Rattle.outgoing.specs.declared.Expired.{Expired}
 use Rattle.outgoing.specs.declared.Answered.{Answered}
 use Rattle.outgoing.specs.declared.Packet.{Packet}
 
@@ -14,10 +23,33 @@ use Rattle.outgoing.specs.declared.Packet.{Packet}
 abbrev pub shown : Outgoing → Sending
 shown r = seen rail (r .head) (r .places) (r .next)
 
+abbrev pub begun : Tsn → ℕ → Outgoing
+begun t window = record { head = headOf (fresh railSizes rail t window); places = replicate 1024 0; next = replicate 128 0 }
+
+abbrev pub handedTo : Outgoing → ℕ → StreamId → Bool → ℕ → ℕ → HandedIn
+handedTo r len stream unordered ppid streams = record {
+  number = handing rail (r .head) (r .places) len stream streams .number;
+  chunks = handing rail (r .head) (r .places) len stream streams .chunks;
+  outgoing = record { head = r .head; places = handedWords rail (r .head) (r .places) len stream unordered ppid streams; next = r .next };
+}
+
 abbrev pub answeredBy : Outgoing → Sack → Answered
 answeredBy r k = record {
   number = ackedHead railSizes rail (r .head) (r .places) k .number;
   outgoing = record { head = ackedHead railSizes rail (r .head) (r .places) k .head; places = ackedWords rail (r .head) (r .places) k; next = r .next };
+}
+
+abbrev pub shutBy : Outgoing → Tsn → Answered
+shutBy r point = record {
+  number = shutHead railSizes rail (r .head) (r .places) point .number;
+  outgoing = record { head = shutHead railSizes rail (r .head) (r .places) point .head; places = shutWords rail (r .head) (r .places) point; next = r .next };
+}
+
+abbrev pub expiredIn : Outgoing → Expired
+expiredIn r = record {
+  number = expiredHead railSizes rail (r .head) (r .places) .number;
+  over = expiredHead railSizes rail (r .head) (r .places) .over;
+  outgoing = record { head = expiredHead railSizes rail (r .head) (r .places) .head; places = expiredWords railSizes rail (r .head) (r .places); next = r .next };
 }
 
 abbrev pub packetOf : Outgoing → Packet
