@@ -1,16 +1,16 @@
 use mathlib.Core.Path.{_≡_}
-use lib.ListN.{length}
 use Rattle.octets.specs.BytesLaws.{length-laid}
 use borrow.Author.Needs.{needs}
 use Prim.Native.Nat.{_-_}
+use lib.ListN.{length}
 use Rattle.vectors_packets.proofs.many.Statement.{statement}
 use Rattle.vectors_packets.proofs.many.Tie as tie
 
 abbrev Inv-loop : tie.InvT-loop
-Inv-loop name last should buf₀ at₀ t6 buf at = length buf ≡ 1472
+Inv-loop line buf₀ at₀ t4 buf at = length buf ≡ 1472
 
 abbrev μ-loop : tie.MeasureT-loop
-μ-loop name last should buf₀ at₀ t6 buf at = 1472 - at
+μ-loop line buf₀ at₀ t4 buf at = 1472 - at
 
 loop-holds : tie.Need-loop-holds Inv-loop μ-loop
 loop-holds c = search needs
@@ -33,23 +33,20 @@ loop-less c = search needs
 loop-again : tie.Need-loop-again Inv-loop μ-loop
 loop-again c = search (needs, length-laid)
 
-slice-aggregate-put-all-3 : tie.Need-slice-aggregate-put-all-3 Inv-loop μ-loop
-slice-aggregate-put-all-3 c = search needs
+rest-requires : tie.Need-rest-requires Inv-loop μ-loop
+rest-requires c κs = search needs
 
-put-all-requires-2 : tie.Need-put-all-requires-2 Inv-loop μ-loop
-put-all-requires-2 c κs = search needs
+slice-aggregate-spell : tie.Need-slice-aggregate-spell Inv-loop μ-loop
+slice-aggregate-spell c = search needs
+
+spell-requires : tie.Need-spell-requires Inv-loop μ-loop
+spell-requires c κs = search needs
 
 slice-aggregate-check-shape : tie.Need-slice-aggregate-check-shape Inv-loop μ-loop
 slice-aggregate-check-shape c = search needs
 
 check-shape-requires : tie.Need-check-shape-requires Inv-loop μ-loop
 check-shape-requires c κs = search needs
-
-cast-line : tie.Need-cast-line Inv-loop μ-loop
-cast-line c = search needs
-
-line-requires : tie.Need-line-requires Inv-loop μ-loop
-line-requires c κs = search needs
 
 returns : tie.Need-returns Inv-loop μ-loop
 returns c = search needs
@@ -67,10 +64,9 @@ many-spec =
     add-at
     loop-less
     loop-again
-    slice-aggregate-put-all-3
-    put-all-requires-2
+    rest-requires
+    slice-aggregate-spell
+    spell-requires
     slice-aggregate-check-shape
     check-shape-requires
-    cast-line
-    line-requires
     returns)
