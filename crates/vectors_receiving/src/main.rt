@@ -296,17 +296,11 @@ fn prepared(r: Incoming, area: &mut [u8; AREA], line: &[u8]) -> Incoming {
     if same(w, b"expects") {
         return expects(r, line);
     }
-    holds(r, line)
-}
-
-fn is_prepared(w: &[u8]) -> bool {
-    if same(w, b"fresh") {
-        return true;
+    if same(w, b"holds") {
+        return holds(r, line);
     }
-    if same(w, b"expects") {
-        return true;
-    }
-    same(w, b"holds")
+    text(b" unread");
+    r
 }
 
 // ---- the lines
@@ -348,6 +342,7 @@ fn performed(r: Incoming, area: &mut [u8; AREA], line: &[u8], right: &[u8]) -> I
     arrived(r, area, line, right)
 }
 
+// A line without a colon prepares a record.
 fn turn(r: Incoming, area: &mut [u8; AREA], line: &[u8]) -> Incoming {
     if is_heading(line) {
         text(line);
@@ -356,9 +351,10 @@ fn turn(r: Incoming, area: &mut [u8; AREA], line: &[u8]) -> Incoming {
     }
     let event = deed(line);
     text(event);
-    if is_prepared(first(event)) {
+    if event.len() == line.len() {
+        let q = prepared(r, area, event);
         text(b"\n");
-        return prepared(r, area, event);
+        return q;
     }
     text(b": ");
     performed(r, area, event, should(line))

@@ -261,17 +261,11 @@ fn on_path(p: Path, line: &[u8]) -> Path {
     if same(w, b"tries") {
         return tried(p, value16(line, 1));
     }
-    in_flight(p, value32(line, 1))
-}
-
-fn is_of_path(w: &[u8]) -> bool {
-    if same(w, b"control") {
-        return true;
+    if same(w, b"flight") {
+        return in_flight(p, value32(line, 1));
     }
-    if same(w, b"tries") {
-        return true;
-    }
-    same(w, b"flight")
+    text(b" unread");
+    p
 }
 
 fn with_path(mut s: Sender, line: &[u8]) -> Sender {
@@ -310,19 +304,6 @@ fn on_head(s: Sender, line: &[u8]) -> Sender {
         return with_next(s, Tsn(value32(line, 1)));
     }
     with_path(s, line)
-}
-
-fn is_of_head(w: &[u8]) -> bool {
-    if same(w, b"samples") {
-        return true;
-    }
-    if same(w, b"doubles") {
-        return true;
-    }
-    if same(w, b"next") {
-        return true;
-    }
-    is_of_path(w)
 }
 
 fn with_head(mut r: Outgoing, line: &[u8]) -> Outgoing {
@@ -372,65 +353,48 @@ fn prepared(r: Outgoing, line: &[u8]) -> Outgoing {
     with_head(r, line)
 }
 
-fn is_prepared(w: &[u8]) -> bool {
-    if same(w, b"fresh") {
-        return true;
-    }
-    if same(w, b"status") {
-        return true;
-    }
-    if same(w, b"copies") {
-        return true;
-    }
-    is_of_head(w)
-}
-
 // ---- the lines
 
-// saves, restores
-fn exchanged(mut s: Sides, w: &[u8]) -> Sides {
+fn with_present(mut s: Sides, line: &[u8]) -> Sides {
+    let r = s.present;
+    let q = prepared(r, line);
+    s.present = q;
+    s
+}
+
+// saves, restores, or a record of the line's own making
+fn readied(mut s: Sides, line: &[u8]) -> Sides {
+    let w = first(line);
     if same(w, b"saves") {
         let r = s.present;
         s.aside = r;
         return s;
     }
-    let r = s.aside;
-    s.present = r;
-    s
-}
-
-fn is_exchanged(w: &[u8]) -> bool {
-    if same(w, b"saves") {
-        return true;
+    if same(w, b"restores") {
+        let r = s.aside;
+        s.present = r;
+        return s;
     }
-    same(w, b"restores")
+    with_present(s, line)
 }
 
-fn happens(r: Outgoing, line: &[u8]) -> Outgoing {
-    let event = deed(line);
-    text(event);
-    if is_prepared(first(event)) {
-        text(b"\n");
-        return prepared(r, event);
-    }
-    text(b": ");
-    performed(r, event, should(line))
-}
-
+// A line without a colon prepares a record.
 fn turn(mut s: Sides, line: &[u8]) -> Sides {
     if is_heading(line) {
         text(line);
         text(b"\n");
         return s;
     }
-    let w = first(line);
-    if is_exchanged(w) {
-        text(line);
+    let event = deed(line);
+    text(event);
+    if event.len() == line.len() {
+        let t = readied(s, event);
         text(b"\n");
-        return exchanged(s, w);
+        return t;
     }
+    text(b": ");
     let r = s.present;
-    let q = happens(r, line);
+    let q = performed(r, event, should(line));
     s.present = q;
     s
 }
