@@ -1,340 +1,165 @@
-// The published vectors of the checksum and the worked examples of the circle: each is printed as it comes out, and beside it what it should be.
-use libc::STDOUT_FILENO;
+// The published vectors of the checksum and the worked examples of the circle. The input has one on each line, and behind a colon what should come of it; the
+// output repeats the line, with what came of it before what should, and whether they are the same.
+use libc::STDIN_FILENO;
 use numbers::Distance;
 use numbers::Judgement;
 use numbers::Ssn;
 use numbers::Tsn;
+use octets::part;
+use pages::page::compare;
+use pages::page::same;
+use pages::page::say;
+use pages::page::say_named;
+use pages::page::say_number;
+use pages::page::say_packet;
+use pages::page::say_unread;
+use pages::page::text;
+use pages::reading::deed;
+use pages::reading::first;
+use pages::reading::is_heading;
+use pages::reading::line_after;
+use pages::reading::line_at;
+use pages::reading::rest;
+use pages::reading::should;
+use pages::reading::spell;
+use pages::reading::value16;
+use pages::reading::value32;
 
-fn text(s: &[u8]) {
-    io::write_all(STDOUT_FILENO, s);
-}
+// ---- the checksum
 
-fn number(n: u64) {
-    io::print_decimal(STDOUT_FILENO, n);
-}
-
-fn byte(x: u8) {
-    text(b" ");
-    io::print_hex(STDOUT_FILENO, x as u64, 2);
-}
-
-fn should(s: &[u8]) {
-    text(b" | ");
-    text(s);
-    text(b"\n");
-}
-
-// A checksum as its four bytes stand on the wire, beside those published.
-fn checksum(name: &[u8], s: &[u8], published: &[u8]) {
+// crc BYTES: the checksum as its four bytes stand on the wire
+fn say_crc(line: &[u8], right: &[u8]) -> usize {
+    let mut buf = [0u8; 64];
+    let n = spell(rest(line), &mut buf, 0);
     let mut packet = [0u8; 12];
-    crc32c::put_checksum(&mut packet, crc32c::crc32c(s));
-    text(name);
-    byte(packet[8]);
-    byte(packet[9]);
-    byte(packet[10]);
-    byte(packet[11]);
-    should(published);
+    crc32c::put_checksum(&mut packet, crc32c::crc32c(part(&buf, 0, n)));
+    let a = say(right, 0, b"sum");
+    say_packet(right, a, part(&packet, 8, 4))
 }
 
-fn say_distance(d: Distance) {
+// sealed BYTES: whether the packet's own field has its checksum
+fn say_sealed(line: &[u8], right: &[u8]) -> usize {
+    let mut buf = [0u8; 64];
+    let n = spell(rest(line), &mut buf, 0);
+    say_number(right, 0, crc32c::is_sealed(part(&buf, 0, n)) as u64)
+}
+
+// seals BYTES: the packet with its checksum in its own field
+fn say_sealing(line: &[u8], right: &[u8]) -> usize {
+    let mut buf = [0u8; 64];
+    let n = spell(rest(line), &mut buf, 0);
+    let sum = crc32c::packet_crc(part(&buf, 0, n));
+    crc32c::put_checksum(&mut buf, sum);
+    let a = say(right, 0, b"packet");
+    say_packet(right, a, part(&buf, 0, n))
+}
+
+// ---- the circles
+
+fn say_distance(right: &[u8], d: Distance) -> usize {
     match d {
-        Distance::Ahead(n) => {
-            text(b" +");
-            number(n as u64);
-        }
-        Distance::Behind(n) => {
-            text(b" -");
-            number(n as u64);
-        }
-        Distance::Opposite => {
-            text(b" opposite");
-        }
+        Distance::Ahead(n) => say_named(right, 0, b"+", n as u64),
+        Distance::Behind(n) => say_named(right, 0, b"-", n as u64),
+        Distance::Opposite => say(right, 0, b"opposite"),
     }
 }
 
-fn distance(name: &[u8], d: Distance, right: &[u8]) {
-    text(name);
-    say_distance(d);
-    should(right);
+// tsns FROM TO: the distance
+fn say_tsns(line: &[u8], right: &[u8]) -> usize {
+    let a = Tsn(value32(line, 1));
+    say_distance(right, a.distance(Tsn(value32(line, 2))))
 }
 
-fn say_judgement(j: Judgement) {
-    match j {
-        Judgement::AtOrBehind => {
-            text(b" at or behind");
-        }
-        Judgement::AheadWithin(n) => {
-            text(b" within ");
-            number(n as u64);
-        }
-        Judgement::AheadBeyond(n) => {
-            text(b" beyond ");
-            number(n as u64);
-        }
-        Judgement::AtOpposite => {
-            text(b" opposite");
-        }
+// ssns FROM TO: the distance
+fn say_ssns(line: &[u8], right: &[u8]) -> usize {
+    let a = Ssn(value16(line, 1));
+    say_distance(right, a.distance(Ssn(value16(line, 2))))
+}
+
+// tsn FROM STEPS: the number so many steps on
+fn say_tsn(line: &[u8], right: &[u8]) -> usize {
+    let a = Tsn(value32(line, 1));
+    let b = a.after(value32(line, 2));
+    say_number(right, 0, b.0 as u64)
+}
+
+// ssn FROM STEPS: the number so many steps on
+fn say_ssn(line: &[u8], right: &[u8]) -> usize {
+    let a = Ssn(value16(line, 1));
+    let b = a.after(value16(line, 2));
+    say_number(right, 0, b.0 as u64)
+}
+
+// judge TSN FROM ROOM
+fn say_judged(line: &[u8], right: &[u8]) -> usize {
+    let from = Tsn(value32(line, 2));
+    match from.judge(Tsn(value32(line, 1)), value32(line, 3)) {
+        Judgement::AtOrBehind => say(right, 0, b"at or behind"),
+        Judgement::AheadWithin(n) => say_named(right, 0, b"within ", n as u64),
+        Judgement::AheadBeyond(n) => say_named(right, 0, b"beyond ", n as u64),
+        Judgement::AtOpposite => say(right, 0, b"opposite"),
     }
 }
 
-// A number, beside what it should be.
-fn line(name: &[u8], n: u64, right: u64) {
-    text(name);
-    text(b" ");
-    number(n);
-    text(b" | ");
-    number(right);
-    text(b"\n");
+// ---- the lines
+
+fn say_numbers(line: &[u8], right: &[u8]) -> usize {
+    let w = first(line);
+    if same(w, b"tsns") {
+        return say_tsns(line, right);
+    }
+    if same(w, b"ssns") {
+        return say_ssns(line, right);
+    }
+    if same(w, b"tsn") {
+        return say_tsn(line, right);
+    }
+    if same(w, b"ssn") {
+        return say_ssn(line, right);
+    }
+    if same(w, b"judge") {
+        return say_judged(line, right);
+    }
+    say_unread(right)
 }
 
-// RFC 3720, B.4.
-fn zeros() {
-    let zeros = [0u8; 32];
-    checksum(b"32 zeros:", &zeros, b"aa 36 91 8a");
+fn say_done(line: &[u8], right: &[u8]) -> usize {
+    let w = first(line);
+    if same(w, b"crc") {
+        return say_crc(line, right);
+    }
+    if same(w, b"sealed") {
+        return say_sealed(line, right);
+    }
+    if same(w, b"seals") {
+        return say_sealing(line, right);
+    }
+    say_numbers(line, right)
 }
 
-fn ones() {
-    let ones = [255u8; 32];
-    checksum(b"32 ones:", &ones, b"43 ab a8 62");
+fn turn(line: &[u8]) {
+    if is_heading(line) {
+        text(line);
+        text(b"\n");
+        return;
+    }
+    let event = deed(line);
+    let right = should(line);
+    text(event);
+    text(b": ");
+    compare(right, say_done(event, right));
 }
 
-fn rising() {
-    let rising: [u8; 32] = [
-        0,
-        1,
-        2,
-        3,
-        4,
-        5,
-        6,
-        7,
-        8,
-        9,
-        10,
-        11,
-        12,
-        13,
-        14,
-        15,
-        16,
-        17,
-        18,
-        19,
-        20,
-        21,
-        22,
-        23,
-        24,
-        25,
-        26,
-        27,
-        28,
-        29,
-        30,
-        31,
-    ];
-    checksum(b"rising:", &rising, b"4e 79 dd 46");
-}
-
-fn falling() {
-    let falling: [u8; 32] = [
-        31,
-        30,
-        29,
-        28,
-        27,
-        26,
-        25,
-        24,
-        23,
-        22,
-        21,
-        20,
-        19,
-        18,
-        17,
-        16,
-        15,
-        14,
-        13,
-        12,
-        11,
-        10,
-        9,
-        8,
-        7,
-        6,
-        5,
-        4,
-        3,
-        2,
-        1,
-        0,
-    ];
-    checksum(b"falling:", &falling, b"5c db 3f 11");
-}
-
-// The iSCSI read command.
-fn read_command() {
-    let read: [u8; 48] = [
-        1,
-        192,
-        0,
-        0,
-        0,
-        0,
-        0,
-        0,
-        0,
-        0,
-        0,
-        0,
-        0,
-        0,
-        0,
-        0,
-        20,
-        0,
-        0,
-        0,
-        0,
-        0,
-        4,
-        0,
-        0,
-        0,
-        0,
-        20,
-        0,
-        0,
-        0,
-        24,
-        40,
-        0,
-        0,
-        0,
-        0,
-        0,
-        0,
-        0,
-        2,
-        0,
-        0,
-        0,
-        0,
-        0,
-        0,
-        0,
-    ];
-    checksum(b"iSCSI read:", &read, b"56 3a 96 d9");
-}
-
-fn digits() {
-    checksum(b"123456789:", b"123456789", b"83 92 06 e3");
-    checksum(b"nothing:", b"", b"00 00 00 00");
-}
-
-// A packet's own field counts as zeros, and sealing a packet changes nothing but the field.
-fn fields() {
-    let mut packet = [7u8; 16];
-    let open = crc32c::packet_crc(&packet);
-    crc32c::put_checksum(&mut packet, open);
-    line(b"sealed:", crc32c::is_sealed(&packet) as u64, 1);
-    line(
-        b"the same checksum when sealed:",
-        (crc32c::packet_crc(&packet) == open) as u64,
-        1,
-    );
-    packet[15] = 6;
-    line(
-        b"sealed with another last byte:",
-        crc32c::is_sealed(&packet) as u64,
-        0,
-    );
-}
-
-// C1 to C5.
-fn tsns(name: &[u8], a: u32, b: u32, right: &[u8]) {
-    distance(name, Tsn(a).distance(Tsn(b)), right);
-}
-
-fn nearest() {
-    tsns(b"C1", 4294967295, 0, b"+1");
-    tsns(b"C2", 0, 4294967295, b"-1");
-}
-
-fn farthest() {
-    tsns(b"C3", 0, 2147483647, b"+2147483647");
-    tsns(b"C4", 0, 2147483648, b"opposite");
-    tsns(b"C5", 0, 2147483649, b"-2147483647");
-}
-
-// C6 and C7.
-fn ssns(name: &[u8], a: u16, b: u16, right: &[u8]) {
-    distance(name, Ssn(a).distance(Ssn(b)), right);
-}
-
-fn small_circle() {
-    ssns(b"C6", 65535, 0, b"+1");
-    ssns(b"C7", 0, 32768, b"opposite");
-}
-
-// Steps across the end of either circle.
-fn step(circle: &[u8], a: u64, steps: u64, n: u64, right: u64) {
-    text(circle);
-    number(a);
-    text(b" and ");
-    number(steps);
-    line(b":", n, right);
-}
-
-fn tsn_step(a: u32, steps: u32, right: u64) {
-    let n = Tsn(a).after(steps);
-    step(b"TSN ", a as u64, steps as u64, n.0 as u64, right);
-}
-
-fn ssn_step(a: u16, steps: u16, right: u64) {
-    let n = Ssn(a).after(steps);
-    step(b"SSN ", a as u64, steps as u64, n.0 as u64, right);
-}
-
-fn steps() {
-    tsn_step(4294967295, 1, 0);
-    tsn_step(5, 4294967295, 4);
-    ssn_step(65535, 1, 0);
-    ssn_step(40000, 40000, 14464);
-}
-
-fn judgement(tsn: u32, from: u32, room: u32, right: &[u8]) {
-    number(tsn as u64);
-    text(b" from ");
-    number(from as u64);
-    text(b", room ");
-    number(room as u64);
-    text(b":");
-    say_judgement(Tsn(from).judge(Tsn(tsn), room));
-    should(right);
-}
-
-fn judgements() {
-    judgement(0, 4294967294, 1, b"beyond 2");
-    judgement(0, 4294967294, 2, b"within 2");
-    judgement(7, 7, 128, b"at or behind");
-    judgement(4294967295, 0, 128, b"at or behind");
-    judgement(2147483648, 0, 128, b"opposite");
+fn run(script: &[u8]) {
+    let mut at: usize = 0;
+    while at < script.len() {
+        turn(line_at(script, at));
+        at = line_after(script, at);
+    }
 }
 
 fn main() {
-    zeros();
-    ones();
-    rising();
-    falling();
-    read_command();
-    digits();
-    fields();
-    nearest();
-    farthest();
-    small_circle();
-    steps();
-    judgements();
+    let mut script = [0u8; 65536];
+    let n = io::read_full(STDIN_FILENO, &mut script);
+    run(part(&script, 0, n));
 }
