@@ -1,321 +1,104 @@
-// Chunks in bytes, worked out by hand from the figures of RFC 9260 section 3.3: each is read and written, printed as it comes out, and
-// beside it what it should be. Two bytes behind each written chunk are shown too: they stay as they were (ee).
+// Chunks in bytes, worked out by hand from the figures of RFC 9260 section 3.3, written and read. The input has one on each line, and behind a colon what should
+// come of it; the output repeats the line, with what came of it before what should, and whether they are the same. Of a written chunk that is its length, its
+// bytes, and four bytes behind them, which stay as they were (ee).
 use chunks::cause::Cause;
 use chunks::data::Data;
 use chunks::frame::Part;
 use chunks::init::Init;
 use chunks::kind::Handling;
 use chunks::kind::Kind;
+use chunks::sack::Block;
 use chunks::sack::Sack;
-use libc::STDOUT_FILENO;
+use libc::STDIN_FILENO;
 use numbers::Blocks;
 use numbers::Rail;
 use numbers::Ssn;
 use numbers::StreamId;
 use numbers::Tsn;
+use octets::get8;
 use octets::part;
+use octets::put_all;
+use pages::page::compare;
+use pages::page::plus;
+use pages::page::same;
+use pages::page::say;
+use pages::page::say_named;
+use pages::page::say_number;
+use pages::page::say_packet;
+use pages::page::say_unread;
+use pages::page::text;
+use pages::reading::deed;
+use pages::reading::find;
+use pages::reading::first;
+use pages::reading::is_heading;
+use pages::reading::line_after;
+use pages::reading::line_at;
+use pages::reading::rest;
+use pages::reading::should;
+use pages::reading::spell;
+use pages::reading::value16;
+use pages::reading::value32;
+use pages::reading::word;
 use parameters::parameter::Parameter;
 use parameters::parameter::Step;
 use parameters::parameter::Treatment;
 
-fn text(s: &[u8]) {
-    io::write_all(STDOUT_FILENO, s);
-}
+const ROOM: usize = 1024;
 
-fn byte(x: u8) {
-    text(b" ");
-    io::print_hex(STDOUT_FILENO, x as u64, 2);
-}
-
-fn show(s: &[u8]) {
-    let mut i = 0;
-    while i < s.len() {
-        byte(s[i]);
-        i += 1;
-    }
-}
-
-fn number(name: &[u8], n: u64, should: u64) {
-    text(b" ");
-    text(name);
-    text(b" ");
-    io::print_decimal(STDOUT_FILENO, n);
-    text(b" | ");
-    io::print_decimal(STDOUT_FILENO, should);
-    text(b"\n");
-}
-
-fn bit(name: &[u8], b: bool, should: u64) {
-    if b {
-        number(name, 1, should);
-        return;
-    }
-    number(name, 0, should);
-}
-
-fn place(name: &[u8], p: Part, at: u64, len: u64) {
-    text(name);
-    number(b"at", p.at as u64, at);
-    number(b"len", p.len as u64, len);
-}
+// ---- what is written
 
 // What a writer answered and left.
-fn wrote(name: &[u8], out: &[u8], n: usize, should: &[u8]) {
-    text(name);
-    number(b"written", n as u64, should.len() as u64);
-    text(b" ");
-    show(part(out, 0, should.len()));
-    show(part(out, n, 2));
-    text(b"\n |");
-    show(should);
-    text(b" ee ee\n");
+fn say_wrote(right: &[u8], out: &[u8; ROOM], n: usize) -> usize {
+    let a = say_number(right, 0, n as u64);
+    say_packet(right, a, part(out, 0, plus(n, 4)))
 }
 
-fn data_of(unordered: bool) -> Data {
+fn has(flags: &[u8], letter: u8) -> bool {
+    find(flags, 0, letter) < flags.len()
+}
+
+fn data_of(line: &[u8]) -> Data {
+    let flags = word(line, 1);
     Data {
-        tsn: Tsn(0x01020304),
-        stream: StreamId(5),
-        ssn: Ssn(6),
-        ppid: 7,
-        begin: true,
-        end: true,
-        unordered,
+        tsn: Tsn(value32(line, 2)),
+        stream: StreamId(value16(line, 3)),
+        ssn: Ssn(value16(line, 4)),
+        ppid: value32(line, 5),
+        begin: has(flags, b'B'),
+        end: has(flags, b'E'),
+        unordered: has(flags, b'U'),
     }
 }
 
-fn data_written() {
-    let mut out = [0xeeu8; 1024];
-    let n = chunks::data::write_data(&mut out, data_of(false), b"abc");
-    wrote(
-        b"DATA",
-        &out,
-        n,
-        b"\x00\x03\x00\x13\x01\x02\x03\x04\x00\x05\x00\x06\x00\x00\x00\x07abc\x00",
-    );
+// data FLAGS TSN STREAM SSN PPID PAYLOAD
+fn write_data(line: &[u8], out: &mut [u8; ROOM]) -> usize {
+    let mut payload = [0u8; ROOM];
+    let n = spell(word(line, 6), &mut payload, 0);
+    chunks::data::write_data(out, data_of(line), part(&payload, 0, n))
 }
 
-fn no_payload() {
-    let mut out = [0xeeu8; 1024];
-    let n = chunks::data::write_data(&mut out, data_of(true), b"");
-    wrote(b"DATA, no payload", &out, n, b"");
-}
-
-fn long_payload() {
-    let mut out = [0xeeu8; 1024];
-    let n = chunks::data::write_data(&mut out, data_of(true), &[0u8; 513]);
-    wrote(b"DATA, payload of 513", &out, n, b"");
-}
-
-fn longest_payload() {
-    let mut out = [0xeeu8; 1024];
-    let n = chunks::data::write_data(&mut out, data_of(true), &[0u8; 512]);
-    number(b"payload of 512", n as u64, 528);
-}
-
-fn data_flags(s: &[u8], u: u64, b: u64, e: u64) {
-    let d = chunks::data::read_data(s);
-    bit(b"U", d.unordered, u);
-    bit(b"B", d.begin, b);
-    bit(b"E", d.end, e);
-}
-
-fn data_numbers(s: &[u8]) {
-    let d = chunks::data::read_data(s);
-    number(b"TSN", d.tsn.0 as u64, 16909060);
-    number(b"stream", d.stream.0 as u64, 5);
-    number(b"SSN", d.ssn.0 as u64, 6);
-    number(b"PPID", d.ppid as u64, 7);
-}
-
-fn data_read() {
-    let s = b"\x00\x03\x00\x13\x01\x02\x03\x04\x00\x05\x00\x06\x00\x00\x00\x07abc\x00";
-    text(b"DATA, read\n");
-    data_numbers(s);
-    data_flags(s, 0, 1, 1);
-    place(b"payload", chunks::data::payload(s), 16, 3);
-    text(b"DATA with reserved bits and I\n");
-    data_flags(b"\x00\xfc\x00\x11", 1, 0, 0);
-}
-
-fn init_of() -> Init {
+// TAG WINDOW OUT IN TSN
+fn init_of(line: &[u8]) -> Init {
     Init {
-        tag: 0x12345678,
-        window: 65536,
-        outs: 10,
-        ins: 2048,
-        tsn: Tsn(4294967295),
+        tag: value32(line, 1),
+        window: value32(line, 2),
+        outs: value16(line, 3),
+        ins: value16(line, 4),
+        tsn: Tsn(value32(line, 5)),
     }
 }
 
-fn init_written() {
-    let mut out = [0xeeu8; 64];
-    let n = chunks::init::write_init(&mut out, init_of());
-    wrote(
-        b"INIT",
-        &out,
-        n,
-        b"\x01\x00\x00\x14\x12\x34\x56\x78\x00\x01\x00\x00\x00\x0a\x08\x00\xff\xff\xff\xff",
-    );
+// init-ack TAG WINDOW OUT IN TSN COOKIE CHUNK: the answer to the INIT that the chunk is
+fn write_init_ack(line: &[u8], out: &mut [u8; ROOM]) -> usize {
+    let mut cookie = [0u8; ROOM];
+    let mut asked = [0u8; ROOM];
+    let k = spell(word(line, 6), &mut cookie, 0);
+    let n = spell(word(line, 7), &mut asked, 0);
+    parameters::report::write_init_ack(out, init_of(line), part(&cookie, 0, k), part(&asked, 0, n))
 }
 
-fn init_tag(v: Init) {
-    number(b"tag", v.tag as u64, 305419896);
-    number(b"window", v.window as u64, 65536);
-}
-
-fn init_numbers(v: Init) {
-    number(b"out", v.outs as u64, 10);
-    number(b"in", v.ins as u64, 2048);
-    number(b"TSN", v.tsn.0 as u64, 4294967295);
-}
-
-fn init_read() {
-    let s = b"\x01\x00\x00\x14\x12\x34\x56\x78\x00\x01\x00\x00\x00\x0a\x08\x00\xff\xff\xff\xff";
-    let v = chunks::init::read_init(s);
-    text(b"INIT, read\n");
-    init_tag(v);
-    init_numbers(v);
-    place(b"parameters", chunks::init::parameters(s), 20, 0);
-}
-
-// An INIT with a parameter of each kind: c001 skip and report, 8001 skip, IPv4, 4001 stop and report; then c002, which is not reached.
-fn init_ack_written() {
-    let mut out = [0xeeu8; 64];
-    let n = parameters::report::write_init_ack(
-        &mut out,
-        init_of(),
-        b"cook!",
-        b"\x01\x00\x00\x34\x00\x00\x00\x01\x00\x00\x00\x00\x00\x01\x00\x01\x00\x00\x00\x02\xc0\x01\x00\x05\xaa\x00\x00\x00\x80\x01\x00\x04\x00\x05\x00\x08\x7f\x00\x00\x01\x40\x01\x00\x06\xbb\xcc\x00\x00\xc0\x02\x00\x04",
-    );
-    wrote(
-        b"INIT ACK",
-        &out,
-        n,
-        b"\x02\x00\x00\x36\x12\x34\x56\x78\x00\x01\x00\x00\x00\x0a\x08\x00\xff\xff\xff\xff\x00\x07\x00\x09cook!\x00\x00\x00\x00\x08\x00\x09\xc0\x01\x00\x05\xaa\x00\x00\x00\x00\x08\x00\x0a\x40\x01\x00\x06\xbb\xcc\x00\x00",
-    );
-}
-
-// A parameter that stops and is not reported (000d), then one that would be.
-fn init_ack_stopped() {
-    let mut out = [0xeeu8; 64];
-    let n = parameters::report::write_init_ack(
-        &mut out,
-        init_of(),
-        b"cook",
-        b"\x01\x00\x00\x1c\x00\x00\x00\x01\x00\x00\x00\x00\x00\x01\x00\x01\x00\x00\x00\x02\x00\x0d\x00\x04\xc0\x02\x00\x04",
-    );
-    wrote(
-        b"INIT ACK, stopped",
-        &out,
-        n,
-        b"\x02\x00\x00\x1c\x12\x34\x56\x78\x00\x01\x00\x00\x00\x0a\x08\x00\xff\xff\xff\xff\x00\x07\x00\x08cook",
-    );
-}
-
-// With a cookie, as the answer to an INIT without parameters.
-fn write_cookie(out: &mut [u8], cookie: &[u8]) -> usize {
-    parameters::report::write_init_ack(out, init_of(), cookie, b"\x01\x00\x00\x14")
-}
-
-fn no_cookie() {
-    let mut out = [0xeeu8; 512];
-    let n = write_cookie(&mut out, b"");
-    wrote(b"INIT ACK, no cookie", &out, n, b"");
-}
-
-fn long_cookie() {
-    let mut out = [0xeeu8; 512];
-    let n = write_cookie(&mut out, &[0u8; 257]);
-    wrote(b"INIT ACK, cookie of 257", &out, n, b"");
-}
-
-fn longest_cookie() {
-    let mut out = [0xeeu8; 512];
-    let n = write_cookie(&mut out, &[0u8; 256]);
-    number(b"cookie of 256", n as u64, 280);
-}
-
-// The cookie behind a parameter that stops; a Host Name.
-fn init_ack_read() {
-    let s =
-        b"\x02\x00\x00\x1e\x00\x00\x00\x01\x00\x00\x00\x00\x00\x01\x00\x01\x00\x00\x00\x02\x00\x0d\x00\x04\x00\x07\x00\x06\xc1\xc2\x00\x00";
-    place(b"cookie", parameters::parameter::cookie(s), 28, 2);
-    bit(b"Host Name", parameters::parameter::has_host_name(s), 0);
-}
-
-fn name_read() {
-    let s =
-        b"\x02\x00\x00\x1c\x00\x00\x00\x01\x00\x00\x00\x00\x00\x01\x00\x01\x00\x00\x00\x02\x00\x0b\x00\x08host";
-    place(b"no cookie", parameters::parameter::cookie(s), 0, 0);
-    bit(b"Host Name", parameters::parameter::has_host_name(s), 1);
-    place(b"Host Name", parameters::parameter::host_name(s), 20, 8);
-}
-
-fn handling(h: Handling) {
-    match h {
-        Handling::Stop => text(b" stop"),
-        Handling::StopAndReport => text(b" stop and report"),
-        Handling::Skip => text(b" skip"),
-        Handling::SkipAndReport => text(b" skip and report"),
-    }
-}
-
-fn treatment(t: Treatment) {
-    match t {
-        Treatment::Known => text(b" known"),
-        Treatment::Unknown(h) => handling(h),
-    }
-}
-
-fn say_parameter(p: Parameter, should: &[u8]) {
-    let t = p.treatment;
-    text(b"parameter ");
-    io::print_hex(STDOUT_FILENO, p.kind as u64, 4);
-    treatment(t);
-    text(b" | ");
-    text(should);
-}
-
-fn found(p: Parameter, should: &[u8], len: u64, next: u64) {
-    say_parameter(p, should);
-    number(b"len", p.len as u64, len);
-    number(b"next", p.next as u64, next);
-}
-
-fn not_found(should: &[u8]) {
-    text(b"no parameter | ");
-    text(should);
-    text(b"\n");
-}
-
-fn parameter(b: &[u8], at: usize, should: &[u8], len: u64, next: u64) {
-    match parameters::parameter::parameter_at(b, at) {
-        Step::At(p) => found(p, should, len, next),
-        Step::Done => not_found(should),
-    }
-}
-
-fn skipped_parameters(b: &[u8]) {
-    parameter(b, 0, b"skip and report", 5, 8);
-    parameter(b, 8, b"skip", 4, 12);
-    parameter(b, 12, b"known", 8, 20);
-}
-
-fn stopping_parameters(b: &[u8]) {
-    parameter(b, 20, b"stop and report", 6, 28);
-    parameter(b, 28, b"stop", 4, 32);
-    parameter(b, 32, b"none", 0, 0);
-}
-
-fn parameters_read() {
-    let b =
-        b"\xc0\x01\x00\x05\xaa\x00\x00\x00\x80\x01\x00\x04\x00\x05\x00\x08\x7f\x00\x00\x01\x40\x01\x00\x06\xbb\xcc\x00\x00\x00\x0d\x00\x04";
-    skipped_parameters(b);
-    stopping_parameters(b);
-}
-
-// RFC 9260's own example: cumulative TSN 12, window 4660, blocks 2 to 3 and 5 to 5.
-fn sack_of(count: usize, listed: usize) -> Sack {
+// sack COUNT LISTED: RFC 9260's own example: cumulative TSN 12, window 4660, blocks 2 to 3 and 5 to 5; 19 is the duplicate
+fn sack_of(line: &[u8]) -> Sack {
     let mut starts = [0u16; Rail::BLOCKS];
     let mut ends = [0u16; Rail::BLOCKS];
     starts[0] = 2;
@@ -324,7 +107,7 @@ fn sack_of(count: usize, listed: usize) -> Sack {
     ends[1] = 5;
     let dups = [Tsn(19); Rail::LISTED];
     let blocks = Blocks {
-        count,
+        count: value16(line, 1) as usize,
         starts,
         ends,
     };
@@ -333,484 +116,371 @@ fn sack_of(count: usize, listed: usize) -> Sack {
         window: 4660,
         blocks,
         dups,
-        listed,
+        listed: value16(line, 2) as usize,
     }
 }
 
-fn sack_written() {
-    let mut out = [0xeeu8; 64];
-    let n = chunks::sack::write_sack(&mut out, sack_of(2, 0));
-    wrote(
-        b"SACK",
-        &out,
-        n,
-        b"\x03\x00\x00\x18\x00\x00\x00\x0c\x00\x00\x12\x34\x00\x02\x00\x00\x00\x02\x00\x03\x00\x05\x00\x05",
+// A cause by its number, with its value.
+fn cause_of(number: u16, value: u32) -> Cause {
+    match number {
+        1 => Cause::InvalidStream(StreamId((value % 65536) as u16)),
+        3 => Cause::StaleCookie(value),
+        9 => Cause::NoUserData(Tsn(value)),
+        12 => Cause::UserAbort,
+        _ => Cause::ProtocolViolation,
+    }
+}
+
+// abort T CAUSE VALUE
+fn write_abort(line: &[u8], out: &mut [u8; ROOM]) -> usize {
+    let c = cause_of(value16(line, 2), value32(line, 3));
+    chunks::cause::write_abort(out, value16(line, 1) == 1, c)
+}
+
+// error CAUSE VALUE
+fn write_error(line: &[u8], out: &mut [u8; ROOM]) -> usize {
+    let c = cause_of(value16(line, 1), value32(line, 2));
+    chunks::cause::write_error(out, c)
+}
+
+// heartbeat BYTES: eight
+fn write_heartbeat(s: &[u8], out: &mut [u8; ROOM]) -> usize {
+    let value = [
+        get8(s, 0),
+        get8(s, 1),
+        get8(s, 2),
+        get8(s, 3),
+        get8(s, 4),
+        get8(s, 5),
+        get8(s, 6),
+        get8(s, 7),
+    ];
+    chunks::heartbeat::write_heartbeat(out, value)
+}
+
+// short: COOKIE ACK in 3 bytes
+fn write_short(out: &mut [u8; ROOM]) -> usize {
+    let mut small = [0xeeu8; 3];
+    let n = chunks::cookie::write_cookie_ack(&mut small);
+    put_all(out, 0, &small);
+    n
+}
+
+fn write_numbers(line: &[u8], out: &mut [u8; ROOM]) -> usize {
+    let w = first(line);
+    if same(w, b"data") {
+        return write_data(line, out);
+    }
+    if same(w, b"init") {
+        return chunks::init::write_init(out, init_of(line));
+    }
+    if same(w, b"init-ack") {
+        return write_init_ack(line, out);
+    }
+    if same(w, b"sack") {
+        return chunks::sack::write_sack(out, sack_of(line));
+    }
+    if same(w, b"abort") {
+        return write_abort(line, out);
+    }
+    write_error(line, out)
+}
+
+fn write_bytes(line: &[u8], s: &[u8], out: &mut [u8; ROOM]) -> usize {
+    let w = first(line);
+    if same(w, b"heartbeat") {
+        return write_heartbeat(s, out);
+    }
+    if same(w, b"heartbeat-ack") {
+        return chunks::heartbeat::write_heartbeat_ack(out, s);
+    }
+    if same(w, b"abort-address") {
+        return chunks::cause::write_abort_address(out, false, s);
+    }
+    if same(w, b"error-chunk") {
+        return chunks::cause::write_error_chunk(out, s);
+    }
+    if same(w, b"error-parameters") {
+        return parameters::report::write_error_parameters(out, s);
+    }
+    if same(w, b"cookie-echo") {
+        return chunks::cookie::write_cookie_echo(out, s);
+    }
+    write_numbers(line, out)
+}
+
+fn write_plain(line: &[u8], s: &[u8], out: &mut [u8; ROOM]) -> usize {
+    let w = first(line);
+    if same(w, b"shutdown") {
+        return chunks::shutdown::write_shutdown(out, Tsn(value32(line, 1)));
+    }
+    if same(w, b"shutdown-ack") {
+        return chunks::shutdown::write_shutdown_ack(out);
+    }
+    if same(w, b"shutdown-complete") {
+        return chunks::shutdown::write_shutdown_complete(out, value16(line, 1) == 1);
+    }
+    if same(w, b"cookie-ack") {
+        return chunks::cookie::write_cookie_ack(out);
+    }
+    if same(w, b"short") {
+        return write_short(out);
+    }
+    write_bytes(line, s, out)
+}
+
+// writes CHUNK
+fn say_written(line: &[u8], right: &[u8]) -> usize {
+    let mut out = [0xeeu8; ROOM];
+    let mut buf = [0u8; ROOM];
+    let k = spell(rest(line), &mut buf, 0);
+    let n = write_plain(line, part(&buf, 0, k), &mut out);
+    say_wrote(right, &out, n)
+}
+
+// ---- what is read
+
+fn say_part(right: &[u8], at: usize, name: &[u8], p: Part) -> usize {
+    let a = say_named(right, at, name, p.at as u64);
+    say_named(right, a, b" of ", p.len as u64)
+}
+
+fn say_flags(right: &[u8], at: usize, d: Data) -> usize {
+    let a = say_named(right, at, b" U ", d.unordered as u64);
+    let b = say_named(right, a, b" B ", d.begin as u64);
+    say_named(right, b, b" E ", d.end as u64)
+}
+
+fn say_data(right: &[u8], d: Data) -> usize {
+    let tsn = d.tsn;
+    let stream = d.stream;
+    let ssn = d.ssn;
+    let a = say_named(right, 0, b"TSN ", tsn.0 as u64);
+    let b = say_named(right, a, b" stream ", stream.0 as u64);
+    let c = say_named(right, b, b" SSN ", ssn.0 as u64);
+    let e = say_named(right, c, b" PPID ", d.ppid as u64);
+    say_flags(right, e, d)
+}
+
+fn say_read_data(right: &[u8], s: &[u8]) -> usize {
+    let a = say_data(right, chunks::data::read_data(s));
+    say_part(right, a, b" payload at ", chunks::data::payload(s))
+}
+
+fn say_init(right: &[u8], v: Init) -> usize {
+    let tsn = v.tsn;
+    let a = say_named(right, 0, b"tag ", v.tag as u64);
+    let b = say_named(right, a, b" window ", v.window as u64);
+    let c = say_named(right, b, b" out ", v.outs as u64);
+    let d = say_named(right, c, b" in ", v.ins as u64);
+    say_named(right, d, b" TSN ", tsn.0 as u64)
+}
+
+fn say_read_init(right: &[u8], s: &[u8]) -> usize {
+    let a = say_init(right, chunks::init::read_init(s));
+    say_part(right, a, b" parameters at ", chunks::init::parameters(s))
+}
+
+fn say_read_init_ack(right: &[u8], s: &[u8]) -> usize {
+    let a = say_part(right, 0, b"cookie at ", parameters::parameter::cookie(s));
+    let b = say_named(
+        right,
+        a,
+        b" Host Name ",
+        parameters::parameter::has_host_name(s) as u64,
     );
+    say_part(right, b, b" at ", parameters::parameter::host_name(s))
 }
 
-fn sack_refused(name: &[u8], count: usize, listed: usize) {
-    let mut out = [0xeeu8; 64];
-    let n = chunks::sack::write_sack(&mut out, sack_of(count, listed));
-    number(name, n as u64, 0);
-}
-
-fn sacks_written() {
-    sack_written();
-    sack_refused(b"65 blocks", 65, 0);
-    sack_refused(b"17 duplicates", 0, 17);
-    duplicates_written();
-}
-
-// TSN 19 came three times: it is listed twice.
-fn duplicates_written() {
-    let mut out = [0xeeu8; 64];
-    let n = chunks::sack::write_sack(&mut out, sack_of(1, 2));
-    wrote(
-        b"SACK, duplicates",
-        &out,
-        n,
-        b"\x03\x00\x00\x1c\x00\x00\x00\x0c\x00\x00\x12\x34\x00\x01\x00\x02\x00\x02\x00\x03\x00\x00\x00\x13\x00\x00\x00\x13",
-    );
-}
-
-fn sack_read() {
-    let s =
-        b"\x03\x00\x00\x1c\x00\x00\x00\x0c\x00\x00\x12\x34\x00\x02\x00\x01\x00\x02\x00\x03\x00\x05\x00\x06\x00\x00\x00\x13";
-    text(b"SACK, read\n");
-    sack_numbers(s);
-    number(b"duplicate", chunks::sack::repeat_at(s, 0).0 as u64, 19);
-    last_block(s);
-    sack_blocks(s);
-}
-
-fn sack_numbers(s: &[u8]) {
-    let k = chunks::sack::read_sack(s);
-    number(b"point", k.point.0 as u64, 12);
-    number(b"window", k.window as u64, 4660);
-    number(b"blocks", k.blocks as u64, 2);
-    number(b"duplicates", k.repeats as u64, 1);
-}
-
-fn last_block(s: &[u8]) {
-    let last = chunks::sack::block_at(s, 1);
-    number(b"second block", last.start as u64, 5);
-    number(b"to", last.end as u64, 6);
+fn say_block(right: &[u8], at: usize, b: Block) -> usize {
+    let a = say_named(right, at, b" ", b.start as u64);
+    say_named(right, a, b"-", b.end as u64)
 }
 
 fn wide(x: u16) -> u64 {
     x as u64
 }
 
-fn sack_blocks(s: &[u8]) {
-    let b = chunks::sack::read_blocks(s);
-    number(b"listed", b.count as u64, 2);
-    number(b"first", wide(b.starts[0]), 2);
-    number(b"to", wide(b.ends[0]), 3);
-    number(b"unused", wide(b.starts[2]), 0);
+// The blocks as they are listed: how many, the first, and the third, which is not there.
+fn say_listed(right: &[u8], at: usize, b: Blocks) -> usize {
+    let a = say_named(right, at, b" listed ", b.count as u64);
+    let c = say_named(right, a, b" ", wide(b.starts[0]));
+    let d = say_named(right, c, b"-", wide(b.ends[0]));
+    say_named(right, d, b" unused ", wide(b.starts[2]))
 }
 
-fn heartbeat_written() {
-    let mut out = [0xeeu8; 64];
-    let n = chunks::heartbeat::write_heartbeat(&mut out, [1, 2, 3, 4, 5, 6, 7, 8]);
-    wrote(
-        b"HEARTBEAT",
-        &out,
-        n,
-        b"\x04\x00\x00\x10\x00\x01\x00\x0c\x01\x02\x03\x04\x05\x06\x07\x08",
-    );
+// Two blocks and a duplicate.
+fn say_read_sack(right: &[u8], s: &[u8]) -> usize {
+    let k = chunks::sack::read_sack(s);
+    let point = k.point;
+    let dup = chunks::sack::repeat_at(s, 0);
+    let a = say_named(right, 0, b"point ", point.0 as u64);
+    let b = say_named(right, a, b" window ", k.window as u64);
+    let c = say_named(right, b, b" blocks ", k.blocks as u64);
+    let d = say_block(right, c, chunks::sack::block_at(s, 0));
+    let e = say_block(right, d, chunks::sack::block_at(s, 1));
+    let f = say_named(right, e, b" duplicates ", k.repeats as u64);
+    let g = say_named(right, f, b" ", dup.0 as u64);
+    say_listed(right, g, chunks::sack::read_blocks(s))
 }
 
-fn heartbeat_ack_written() {
-    let mut out = [0xeeu8; 64];
-    let n = chunks::heartbeat::write_heartbeat_ack(&mut out, b"\x00\x01\x00\x05\x99");
-    wrote(
-        b"HEARTBEAT ACK",
-        &out,
-        n,
-        b"\x05\x00\x00\x09\x00\x01\x00\x05\x99\x00\x00\x00",
-    );
-}
-
-fn whole_values() {
-    place(
-        b"HEARTBEAT",
-        chunks::heartbeat::info(b"\x04\x00\x00\x09\x00\x01\x00\x05\x99\x00\x00\x00"),
-        4,
-        5,
-    );
-    place(
-        b"COOKIE ECHO",
-        chunks::cookie::cookie(b"\x0a\x00\x00\x09cook!\x00\x00\x00"),
-        4,
-        5,
-    );
-}
-
-fn ends_read() {
-    place(
-        b"ERROR",
-        chunks::cause::causes(b"\x09\x00\x00\x08\x00\x0c\x00\x04"),
-        4,
-        4,
-    );
-    place(
-        b"a chunk past its end",
-        chunks::cookie::cookie(b"\x0a\x00\x00\x0ccook"),
-        4,
-        4,
-    );
-}
-
-fn aborts_written() {
-    let mut out = [0xeeu8; 64];
-    let n = chunks::cause::write_abort(&mut out, true, Cause::UserAbort);
-    wrote(
-        b"ABORT, T, cause 12",
-        &out,
-        n,
-        b"\x06\x01\x00\x08\x00\x0c\x00\x04",
-    );
-}
-
-fn abort_data() {
-    let mut out = [0xeeu8; 64];
-    let n = chunks::cause::write_abort(&mut out, false, Cause::NoUserData(Tsn(0x01020304)));
-    wrote(
-        b"ABORT, cause 9",
-        &out,
-        n,
-        b"\x06\x00\x00\x0c\x00\x09\x00\x08\x01\x02\x03\x04",
-    );
-}
-
-fn abort_violation() {
-    let mut out = [0xeeu8; 64];
-    let n = chunks::cause::write_abort(&mut out, false, Cause::ProtocolViolation);
-    wrote(
-        b"ABORT, cause 13",
-        &out,
-        n,
-        b"\x06\x00\x00\x08\x00\x0d\x00\x04",
-    );
-}
-
-fn abort_name() {
-    let mut out = [0xeeu8; 64];
-    let n = chunks::cause::write_abort_address(&mut out, false, b"\x00\x0b\x00\x08host");
-    wrote(
-        b"ABORT, cause 5",
-        &out,
-        n,
-        b"\x06\x00\x00\x10\x00\x05\x00\x0c\x00\x0b\x00\x08host",
-    );
-}
-
-fn error_stream() {
-    let mut out = [0xeeu8; 64];
-    let n = chunks::cause::write_error(&mut out, Cause::InvalidStream(StreamId(128)));
-    wrote(
-        b"ERROR, cause 1",
-        &out,
-        n,
-        b"\x09\x00\x00\x0c\x00\x01\x00\x08\x00\x80\x00\x00",
-    );
-}
-
-fn error_stale() {
-    let mut out = [0xeeu8; 64];
-    let n = chunks::cause::write_error(&mut out, Cause::StaleCookie(1000000));
-    wrote(
-        b"ERROR, cause 3",
-        &out,
-        n,
-        b"\x09\x00\x00\x0c\x00\x03\x00\x08\x00\x0f\x42\x40",
-    );
-}
-
-// The chunk's padding is not copied; what is written is padded anew.
-fn error_chunk() {
-    let mut out = [0xeeu8; 64];
-    let n = chunks::cause::write_error_chunk(
-        &mut out,
-        b"\xc1\x07\x00\x05\x11\x77\x77\x77\x0b\x00\x00\x04",
-    );
-    wrote(
-        b"ERROR, cause 6",
-        &out,
-        n,
-        b"\x09\x00\x00\x0d\x00\x06\x00\x09\xc1\x07\x00\x05\x11\x00\x00\x00",
-    );
-}
-
-fn error_parameters() {
-    let mut out = [0xeeu8; 64];
-    let n = parameters::report::write_error_parameters(
-        &mut out,
-        b"\x02\x00\x00\x34\x00\x00\x00\x01\x00\x00\x00\x00\x00\x01\x00\x01\x00\x00\x00\x02\xc0\x01\x00\x05\xaa\x77\x77\x77\x80\x01\x00\x04\x00\x05\x00\x08\x7f\x00\x00\x01\x40\x01\x00\x06\xbb\xcc\x00\x00\xc0\x02\x00\x04",
-    );
-    wrote(
-        b"ERROR, cause 8",
-        &out,
-        n,
-        b"\x09\x00\x00\x16\x00\x08\x00\x12\xc0\x01\x00\x05\xaa\x00\x00\x00\x40\x01\x00\x06\xbb\xcc\x00\x00",
-    );
-}
-
-fn nothing_reported() {
-    let mut out = [0xeeu8; 64];
-    let n = parameters::report::write_error_parameters(&mut out, b"\x02\x00\x00\x14");
-    number(b"nothing to report", n as u64, 0);
-}
-
-fn shutdown_written() {
-    let mut out = [0xeeu8; 64];
-    let n = chunks::shutdown::write_shutdown(&mut out, Tsn(12));
-    wrote(b"SHUTDOWN", &out, n, b"\x07\x00\x00\x08\x00\x00\x00\x0c");
-}
-
-fn shutdown_read() {
-    number(
-        b"point",
-        chunks::shutdown::point(b"\x07\x00\x00\x08\x00\x00\x00\x0c").0 as u64,
-        12,
-    );
-}
-
-fn shutdown_ack_written() {
-    let mut out = [0xeeu8; 64];
-    let n = chunks::shutdown::write_shutdown_ack(&mut out);
-    wrote(b"SHUTDOWN ACK", &out, n, b"\x08\x00\x00\x04");
-}
-
-fn complete_written() {
-    let mut out = [0xeeu8; 64];
-    let n = chunks::shutdown::write_shutdown_complete(&mut out, true);
-    wrote(b"SHUTDOWN COMPLETE, T", &out, n, b"\x0e\x01\x00\x04");
-}
-
-fn reflected_read() {
-    bit(b"T", chunks::frame::reflected(b"\x0e\xff\x00\x04"), 1);
-    bit(b"T", chunks::frame::reflected(b"\x06\xfe\x00\x04"), 0);
-}
-
-fn complete_plain() {
-    let mut out = [0xeeu8; 64];
-    let n = chunks::shutdown::write_shutdown_complete(&mut out, false);
-    wrote(b"SHUTDOWN COMPLETE", &out, n, b"\x0e\x00\x00\x04");
-}
-
-fn cookies_written() {
-    let mut out = [0xeeu8; 64];
-    let n = chunks::cookie::write_cookie_echo(&mut out, b"cook!");
-    wrote(
-        b"COOKIE ECHO",
-        &out,
-        n,
-        b"\x0a\x00\x00\x09cook!\x00\x00\x00",
-    );
-}
-
-fn cookie_ack_written() {
-    let mut out = [0xeeu8; 64];
-    let n = chunks::cookie::write_cookie_ack(&mut out);
-    wrote(b"COOKIE ACK", &out, n, b"\x0b\x00\x00\x04");
-}
-
-fn no_room() {
-    let mut out = [0xeeu8; 3];
-    let n = chunks::cookie::write_cookie_ack(&mut out);
-    wrote(b"COOKIE ACK in 3 bytes", &out, n, b"");
-}
-
-// The name of a type up to 6.
-fn low_name(n: u8) {
-    match n {
-        0 => text(b" DATA"),
-        1 => text(b" INIT"),
-        2 => text(b" INIT ACK"),
-        3 => text(b" SACK"),
-        4 => text(b" HEARTBEAT"),
-        5 => text(b" HEARTBEAT ACK"),
-        _ => text(b" ABORT"),
+fn say_handling(right: &[u8], at: usize, h: Handling) -> usize {
+    match h {
+        Handling::Stop => say(right, at, b"stop"),
+        Handling::StopAndReport => say(right, at, b"stop and report"),
+        Handling::Skip => say(right, at, b"skip"),
+        Handling::SkipAndReport => say(right, at, b"skip and report"),
     }
 }
 
-// The name of a type from 7 on.
-fn high_name(n: u8) {
-    match n {
-        7 => text(b" SHUTDOWN"),
-        8 => text(b" SHUTDOWN ACK"),
-        9 => text(b" ERROR"),
-        10 => text(b" COOKIE ECHO"),
-        11 => text(b" COOKIE ACK"),
-        _ => text(b" SHUTDOWN COMPLETE"),
+fn say_treatment(right: &[u8], at: usize, t: Treatment) -> usize {
+    match t {
+        Treatment::Known => say(right, at, b"known"),
+        Treatment::Unknown(h) => say_handling(right, at, h),
     }
 }
 
-fn control(k: Kind) {
+fn say_found(right: &[u8], p: Parameter) -> usize {
+    let t = p.treatment;
+    let a = say_named(right, 0, b"type ", p.kind as u64);
+    let b = say(right, a, b" ");
+    let c = say_treatment(right, b, t);
+    let d = say_named(right, c, b" of ", p.len as u64);
+    say_named(right, d, b" next ", p.next as u64)
+}
+
+// parameter AT BYTES
+fn say_parameter(line: &[u8], right: &[u8]) -> usize {
+    let mut buf = [0u8; ROOM];
+    let n = spell(rest(rest(line)), &mut buf, 0);
+    match parameters::parameter::parameter_at(part(&buf, 0, n), value16(line, 1) as usize) {
+        Step::At(p) => say_found(right, p),
+        Step::Done => say(right, 0, b"none"),
+    }
+}
+
+// The types of RFC 9260 section 3.2.
+fn number_of(k: Kind) -> u8 {
     match k {
-        Kind::Data => low_name(0),
-        Kind::Init => low_name(1),
-        Kind::InitAck => low_name(2),
-        Kind::Sack => low_name(3),
-        Kind::Heartbeat => low_name(4),
-        Kind::HeartbeatAck => low_name(5),
-        Kind::Abort => low_name(6),
-        Kind::Shutdown => high_name(7),
-        Kind::ShutdownAck => high_name(8),
-        Kind::Error => high_name(9),
-        Kind::CookieEcho => high_name(10),
-        Kind::CookieAck => high_name(11),
-        Kind::ShutdownComplete => high_name(14),
-        Kind::Unknown(h) => handling(h),
+        Kind::Data => 0,
+        Kind::Init => 1,
+        Kind::InitAck => 2,
+        Kind::Sack => 3,
+        Kind::Heartbeat => 4,
+        Kind::HeartbeatAck => 5,
+        Kind::Abort => 6,
+        Kind::Shutdown => 7,
+        Kind::ShutdownAck => 8,
+        Kind::Error => 9,
+        Kind::CookieEcho => 10,
+        Kind::CookieAck => 11,
+        Kind::ShutdownComplete => 14,
+        Kind::Unknown(_) => 255,
     }
 }
 
-fn kind(number: u8, should: &[u8]) {
-    let s = [number];
-    text(b"type");
-    show(&s);
-    control(chunks::kind::kind_of(&s));
-    text(b" | ");
-    text(should);
-    text(b"\n");
+fn say_kind(right: &[u8], k: Kind) -> usize {
+    if let Kind::Unknown(h) = k {
+        return say_handling(right, 0, h);
+    }
+    say_named(right, 0, b"type ", number_of(k) as u64)
 }
 
-fn opening_kinds() {
-    kind(0x00, b"DATA");
-    kind(0x01, b"INIT");
-    kind(0x02, b"INIT ACK");
-    kind(0x03, b"SACK");
+fn say_tested(line: &[u8], right: &[u8], s: &[u8]) -> usize {
+    let w = first(line);
+    if same(w, b"kind") {
+        return say_kind(right, chunks::kind::kind_of(s));
+    }
+    if same(w, b"reflected") {
+        return say_named(right, 0, b"T ", chunks::frame::reflected(s) as u64);
+    }
+    if same(w, b"stale") {
+        return say_number(right, 0, parameters::stale::is_stale(s) as u64);
+    }
+    if same(w, b"point") {
+        let point = chunks::shutdown::point(s);
+        return say_number(right, 0, point.0 as u64);
+    }
+    say_unread(right)
 }
 
-fn living_kinds() {
-    kind(0x04, b"HEARTBEAT");
-    kind(0x05, b"HEARTBEAT ACK");
-    kind(0x06, b"ABORT");
+fn say_parts(line: &[u8], right: &[u8], s: &[u8]) -> usize {
+    let w = first(line);
+    if same(w, b"info") {
+        return say_part(right, 0, b"at ", chunks::heartbeat::info(s));
+    }
+    if same(w, b"cookie") {
+        return say_part(right, 0, b"at ", chunks::cookie::cookie(s));
+    }
+    if same(w, b"causes") {
+        return say_part(right, 0, b"at ", chunks::cause::causes(s));
+    }
+    say_tested(line, right, s)
 }
 
-fn closing_kinds() {
-    kind(0x07, b"SHUTDOWN");
-    kind(0x08, b"SHUTDOWN ACK");
-    kind(0x09, b"ERROR");
-    kind(0x0a, b"COOKIE ECHO");
-    kind(0x0b, b"COOKIE ACK");
-    kind(0x0e, b"SHUTDOWN COMPLETE");
+fn say_chunk(line: &[u8], right: &[u8], s: &[u8]) -> usize {
+    let w = first(line);
+    if same(w, b"data") {
+        return say_read_data(right, s);
+    }
+    if same(w, b"init") {
+        return say_read_init(right, s);
+    }
+    if same(w, b"init-ack") {
+        return say_read_init_ack(right, s);
+    }
+    if same(w, b"sack") {
+        return say_read_sack(right, s);
+    }
+    if same(w, b"parameter") {
+        return say_parameter(line, right);
+    }
+    say_parts(line, right, s)
 }
 
-fn stopping_kinds() {
-    kind(0x0c, b"stop");
-    kind(0x0d, b"stop");
-    kind(0x3f, b"stop");
-    kind(0x40, b"stop and report");
-    kind(0x7f, b"stop and report");
+// reads CHUNK BYTES
+fn say_read(line: &[u8], right: &[u8]) -> usize {
+    let mut buf = [0u8; ROOM];
+    let n = spell(rest(line), &mut buf, 0);
+    say_chunk(line, right, part(&buf, 0, n))
 }
 
-fn skipped_kinds() {
-    kind(0x80, b"skip");
-    kind(0xbf, b"skip");
-    kind(0xc0, b"skip and report");
-    kind(0xff, b"skip and report");
+// ---- the lines
+
+fn say_done(line: &[u8], right: &[u8]) -> usize {
+    let w = first(line);
+    if same(w, b"writes") {
+        return say_written(rest(line), right);
+    }
+    if same(w, b"reads") {
+        return say_read(rest(line), right);
+    }
+    say_unread(right)
 }
 
-// Whether an ERROR has the cause of a stale cookie.
-fn stale(name: &[u8], error: &[u8], should: u64) {
-    bit(name, parameters::stale::is_stale(error), should);
+fn turn(line: &[u8]) {
+    if is_heading(line) {
+        text(line);
+        text(b"\n");
+        return;
+    }
+    let event = deed(line);
+    let right = should(line);
+    text(event);
+    text(b": ");
+    compare(right, say_done(event, right));
 }
 
-fn stale_read() {
-    text(b"stale cookie\n");
-    stale(
-        b"causes 1 and 3",
-        b"\x09\x00\x00\x14\x00\x01\x00\x08\x00\x80\x00\x00\x00\x03\x00\x08\x00\x00\x00\x00",
-        1,
-    );
-    stale(
-        b"cause 1",
-        b"\x09\x00\x00\x0c\x00\x01\x00\x08\x00\x80\x00\x00",
-        0,
-    );
-}
-
-fn not_stale() {
-    stale(
-        b"behind an ill-formed one",
-        b"\x09\x00\x00\x10\x00\x01\x00\x03\x00\x03\x00\x08\x00\x00\x00\x00",
-        0,
-    );
-    stale(
-        b"cause 3 past the chunk",
-        b"\x09\x00\x00\x08\x00\x03\x00\x08\x00\x00\x00\x00",
-        0,
-    );
-    stale(b"no cause", b"\x09\x00\x00\x04", 0);
-}
-
-fn writing() {
-    data_written();
-    init_written();
-    init_ack_written();
-    init_ack_stopped();
-    sacks_written();
-    heartbeat_written();
-    heartbeat_ack_written();
-    aborts_written();
-    abort_data();
-    abort_violation();
-    abort_name();
-}
-
-fn writing_more() {
-    shutdown_written();
-    shutdown_read();
-    shutdown_ack_written();
-    error_stream();
-    error_stale();
-    error_chunk();
-    error_parameters();
-    nothing_reported();
-    cookies_written();
-    cookie_ack_written();
-    complete_written();
-    reflected_read();
-    complete_plain();
-}
-
-fn refusing() {
-    no_payload();
-    long_payload();
-    longest_payload();
-    no_cookie();
-    long_cookie();
-    longest_cookie();
-    no_room();
-}
-
-fn reading() {
-    data_read();
-    init_read();
-    init_ack_read();
-    name_read();
-    parameters_read();
-    sack_read();
-    whole_values();
-    ends_read();
-}
-
-fn kinds() {
-    opening_kinds();
-    living_kinds();
-    closing_kinds();
-    stopping_kinds();
-    skipped_kinds();
+fn run(script: &[u8]) {
+    let mut at: usize = 0;
+    while at < script.len() {
+        turn(line_at(script, at));
+        at = line_after(script, at);
+    }
 }
 
 fn main() {
-    writing();
-    writing_more();
-    refusing();
-    reading();
-    kinds();
-    stale_read();
-    not_stale();
+    let mut script = [0u8; 65536];
+    let n = io::read_full(STDIN_FILENO, &mut script);
+    run(part(&script, 0, n));
 }
