@@ -1,17 +1,28 @@
 -- A take over tables of words: the words of the places and of the next expected SSNs that it leaves.
-use Prim.Native.Nat.{ℕ}
+use Prim.Native.Nat.{ℕ, zero, suc, _+_}
+use mathlib.Core.Bool.{Bool, true, false}
 use mathlib.Core.List.{List, [], _∷_}
-use lib.ListN.{getD}
+use lib.ListN.{getD, take}
 use lib.Dec.{ltb}
 use Rattle.numbers.specs.Circle.{ssn0}
 use Rattle.numbers.specs.Numbering.{Numbering, on}
 use Rattle.numbers.specs.Profile.{Profile}
 use Rattle.scans.specs.Scan.{pick}
 use Rattle.holding.specs.declared.held.Held.{Held}
-use Rattle.holding.specs.Message.{Choice, none, one, chunksAt, chosen}
+use Rattle.holding.specs.Held.{noHeld}
+use Rattle.holding.specs.Message.{Run, broken, whole, Choice, none, one, chunksAt, chosen}
 use Rattle.holding.specs.Taking.{lengthOf, firstOf}
 use Rattle.tables.specs.Held.{heldOf, heldFreed}
 use Rattle.tables.specs.Ssns.{ssnsOf, ssnPut}
+
+-- the n places from i on are free
+abbrev pub freeFor : List Held → ℕ → ℕ → Bool
+freeFor hs i zero = true
+freeFor hs i (suc n) = pick (getD hs i noHeld .used) false (freeFor hs (i + 1) n)
+
+-- the run that the first n places of a list stand for; none: it is broken
+abbrev pub runAt : List ℕ → ℕ → Run
+runAt at n = pick (ltb n 1) broken (whole (take n at))
 
 -- "and frees its places", one after the other
 abbrev pub wordsEmptied : Profile → List ℕ → List ℕ → List ℕ

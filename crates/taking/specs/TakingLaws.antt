@@ -1,52 +1,152 @@
--- The loop that frees places, what a take leaves of the words, and that the words then show what a take leaves of places and SSNs. Assumes nothing.
-use Prim.Native.Nat.{ℕ, _+_, _*_, _^_, _<_, _≤_}
-use mathlib.Core.Path.{_≡_, refl, sym, ap, _∙_}
+-- The loops over the places of a message, what a take leaves of the words, and that the words then show what a take leaves of places and SSNs. Assumes nothing.
+use Prim.Native.Nat.{ℕ, _+_, _-_, _*_, _^_, _<_, _≤_}
+use mathlib.Core.Path.{_≡_, refl, sym, ap, _∙_, subst}
 use mathlib.Core.Bool.{Bool, true, false}
-use mathlib.Core.List.{List, [], _∷_}
+use mathlib.Core.List.{List, [], _∷_, _++_}
 use native.Mathlib.Omega.{arith}
+use native.Mathlib.Numerals.{add-one}
 use borrow.Author.Tests.{lt-ltb, le-ltb}
 use lib.ListN.{length, take, drop, getD, set}
 use lib.Dec.{ltb}
-use lib.Seq.{getD-take}
+use lib.Seq.{getD-take, length-take-le, take-suc-set}
 use Rattle.numbers.specs.declared.circle.Ssn.{Ssn}
 use Rattle.numbers.specs.Circle.{ssn0}
 use Rattle.numbers.specs.Numbering.{Numbering, ring, on}
 use Rattle.numbers.specs.Profile.{Profile}
 use Rattle.numbers.specs.Reach.{on-On}
-use Rattle.scans.specs.Scan.{pick, left-one, left-none}
+use Rattle.octets.specs.Bytes.{laid}
+use Rattle.octets.specs.BytesLaws.{length-laid}
+use Rattle.scans.specs.Scan.{pick, left-one, left-none, Summing, sum-more}
+use Rattle.scans.specs.Upto.{upto-one}
+use Rattle.scans.specs.Each.{clash}
 use Rattle.holding.specs.declared.held.Held.{Held}
 use Rattle.holding.specs.declared.message.Best.{Best}
-use Rattle.holding.specs.declared.message.Places.{Places}
 use Rattle.holding.specs.declared.taking.Answer.{Answer}
 use Rattle.holding.specs.declared.taking.Answer.the-variants.{Taken, Short}
 use Rattle.holding.specs.declared.taking.Took.{Took}
 use Rattle.holding.specs.Held.{noHeld}
-use Rattle.holding.specs.Message.{Choice, chosen, none, one, chunksAt, follow}
-use Rattle.holding.specs.MessageLaws.{runOf, bestOf}
-use Rattle.holding.specs.Taking.{lengthOf, firstOf, messageOf, emptied, advanced, tookBy, took}
-use Rattle.holding.specs.TakingLaws.{Within, within-long, Picked, picked, picked-within, took-short, took-all, took-none}
+use Rattle.holding.specs.Message.{Run, broken, whole, Choice, chosen, none, one, chunksAt, follow}
+use Rattle.holding.specs.MessageLaws.{Gathering, joined, headOf, bestOf, Heads, follow-heads}
+use Rattle.holding.specs.Taking.{lenAt, lengthOf, firstOf, payloadAt, copied, messageOf, emptied, advanced, tookBy, took, written}
+use Rattle.holding.specs.TakingLaws.{chosen-run, place-within, took-none}
 use Rattle.holding.specs.TableLaws.{advanced-is, took-is}
 use Rattle.tables.specs.Held.{heldOf, heldFreed}
 use Rattle.tables.specs.HeldLaws.{held-long, held-put, none-small, put-long}
 use Rattle.tables.specs.Ssns.{ssnsOf, ssnPut, ssn-put, ssn-put-long, ssn-small}
-use Rattle.taking.specs.Taking.{wordsEmptied, ssnsAdvanced, wordsBy, ssnsBy, wordsTaken, ssnsTaken}
+use Rattle.taking.specs.Taking.{runAt, wordsEmptied, ssnsAdvanced, wordsBy, ssnsBy, wordsTaken, ssnsTaken}
 
--- the places freed up to the j-th
-pub record Clearing (P : Profile) (ws : List ℕ) (p : Places) (now : List ℕ) (j : ℕ) : Type 0 where
-  pub rest : wordsEmptied P now (drop j (take (p .count) (p .at))) ≡ wordsEmptied P ws (take (p .count) (p .at))
+-- the list has n places
+pub record Listed (at : List ℕ) (n : ℕ) : Type 0 where
+  pub few : n ≤ 128
+  pub long : length at ≡ 128
 
-module _ {P : Profile} {ws : List ℕ} {p : Places} {now : List ℕ} {j : ℕ} (w : Within p) (s : Clearing P ws p now j) where
-  pub clear-more : {then : List ℕ} → j < p .count → then ≡ heldFreed P now (getD (p .at) j 0) → Clearing P ws p then (j + 1)
-  clear-more {then} l q = record {
-    rest = rw q (rw (getD-take (p .count) (p .at) j 0 l) at (left-one (wordsEmptied P now) (take (p .count) (p .at)) j (s .rest) 0 (omega (arith, within-long w))));
+-- they stand for the run
+pub record Noted (at : List ℕ) (n : ℕ) (r : Run) : Type 0 where
+  pub listed : Listed at n
+  pub run : runAt at n ≡ r
+
+-- ---- following a run, its places noted in a list
+
+-- the last chunk of a run is noted: the list stands for the run
+pub gather-whole : {T : Numbering} {hs : List Held} {first : Held} {m place : ℕ} {at : List ℕ} {i : ℕ} {cur : Held} {n : ℕ}
+    → Gathering T hs first m place at i cur n → n < m → cur .end ≡ true → runAt (set at n i) (n + 1) ≡ follow T hs first m place first
+unfolding follow
+gather-whole {T} {hs} {first} {m} {place} {at} {i} {cur} {n} w h t =
+    let noted : take (n + 1) (set at n i) ≡ take n at ++ (i ∷ []) = rw (add-one n) (take-suc-set at n i (omega (arith, w .room))) in
+    rw (le-ltb (n + 1) 1 (omega arith), noted)
+    (rw t at (upto-one (λ (k : ℕ). joined (take n at) (follow T hs first k i cur)) m n (w .rest) h))
+
+-- ---- the loops over the first n places of a list
+
+module _ {at : List ℕ} {n : ℕ} (w : Listed at n) where
+  pub listed-long : length (take n at) ≡ n
+  listed-long = length-take-le n at (omega (arith, w .few, w .long))
+
+  -- what holds of those left of the places, where one more of them is read, and where none is left
+  module _ {R : Type 0} (left : List ℕ → R) {all : R} (j : ℕ) (s : left (drop j (take n at)) ≡ all) where
+    place-one : j < n → left (getD at j 0 ∷ drop (j + 1) (take n at)) ≡ all
+    place-one h = rw (getD-take n at j 0 h) at (left-one left (take n at) j s 0 (omega (arith, listed-long)))
+
+    place-none : n ≤ j → left [] ≡ all
+    place-none h = left-none left (take n at) j s (omega (arith, listed-long))
+
+pub add-place : (hs : List Held) (at : List ℕ) (n : ℕ) {a j : ℕ} → Summing (lenAt hs) 65535 (take n at) n j a → {i v : ℕ} → j < n → i ≡ getD at j 0 → v ≡ lenAt hs i
+    → v ≤ 65535 → Summing (lenAt hs) 65535 (take n at) n (j + 1) (a + v)
+add-place hs at n {a} {j} s {i} {v} h z e l = sum-more s 0 v h (e ∙ ap (lenAt hs) (z ∙ sym (getD-take n at j 0 h))) l
+
+-- the message copied up to its j-th chunk
+pub record Copying (P : Profile) (area : List ℕ) (hs : List Held) (out list : List ℕ) (n : ℕ) (now : List ℕ) (at j : ℕ) : Type 0 where
+  pub long : length now ≡ length out
+  pub small : at ≤ 65535 * j
+  pub rest : copied P area hs now at (drop j (take n list)) ≡ copied P area hs out 0 (take n list)
+
+module _ {P : Profile} {area : List ℕ} {hs : List Held} {out list : List ℕ} {n : ℕ} {now : List ℕ} {at j : ℕ}
+    (w : Listed list n) (s : Copying P area hs out list n now at j) where
+  pub copy-more : {i v : ℕ} {then : List ℕ} → j < n → i ≡ getD list j 0 → v ≡ lenAt hs i → v ≤ 65535 → then ≡ laid now at (payloadAt P area i v)
+      → Copying P area hs out list n then (at + v) (j + 1)
+  copy-more {i} {v} {then} h z e l q = record {
+    long = ap length q ∙ (length-laid now at (payloadAt P area i v) ∙ s .long);
+    small = omega (arith, s .small);
+    rest = rw (q, e, z) (place-one w (copied P area hs now at) j (s .rest) h);
   }
 
-  pub clear-end : p .count ≤ j → now ≡ wordsEmptied P ws (take (p .count) (p .at))
-  clear-end l = left-none (wordsEmptied P now) (take (p .count) (p .at)) j (s .rest) (omega (arith, within-long w))
+  pub copy-end : n ≤ j → now ≡ copied P area hs out 0 (take n list)
+  copy-end h = place-none w (copied P area hs now at) j (s .rest) h
 
--- ---- what a take leaves of the words, and what it answers
+-- the places freed up to the j-th
+pub record Clearing (P : Profile) (ws list : List ℕ) (n : ℕ) (now : List ℕ) (j : ℕ) : Type 0 where
+  pub rest : wordsEmptied P now (drop j (take n list)) ≡ wordsEmptied P ws (take n list)
 
-module _ {T : Numbering} {P : Profile} (ws ns : List ℕ) {point place : ℕ} {is : List ℕ} (w : Picked T P (heldOf P ws) (ssnsOf P ns) point place is)
+module _ {P : Profile} {ws list : List ℕ} {n : ℕ} {now : List ℕ} {j : ℕ} (w : Listed list n) (s : Clearing P ws list n now j) where
+  pub clear-more : {i : ℕ} {then : List ℕ} → j < n → i ≡ getD list j 0 → then ≡ heldFreed P now i → Clearing P ws list n then (j + 1)
+  clear-more {i} {then} l z q = record { rest = rw (q, z) (place-one w (wordsEmptied P now) j (s .rest) l) }
+
+  pub clear-end : n ≤ j → now ≡ wordsEmptied P ws (take n list)
+  clear-end l = place-none w (wordsEmptied P now) j (s .rest) l
+
+-- ---- what a take finds
+
+-- the places is, of which the first is `place`, are the choice
+pub record Given (T : Numbering) (P : Profile) (hs : List Held) (next : List Ssn) (point place : ℕ) (is : List ℕ) : Type 0 where
+  pub rank : ℕ
+  pub choice : chosen T P hs next point ≡ one rank is
+  pub others : List ℕ
+  pub leads : is ≡ place ∷ others
+
+run-is : (at : List ℕ) (n : ℕ) (is : List ℕ) → runAt at n ≡ whole is → take n at ≡ is
+run-is at n is e = go (ltb n 1) e
+  where
+    go : (t : Bool) → pick t broken (whole (take n at)) ≡ whole is → take n at ≡ is
+    go true q = let z : _≡_ {A = ℕ} 0 1 = cc in absurd (omega arith)
+    go false q = cc
+
+module _ (T : Numbering) (P : Profile) (ws ns : List ℕ) (point : ℕ) {best : Best} (b : best ≡ bestOf (chosen T P (heldOf P ws) (ssnsOf P ns) point))
+    (s : best .some ≡ true) where
+  found-one : (k : ℕ) × (is : List ℕ) × (chosen T P (heldOf P ws) (ssnsOf P ns) point ≡ one k is)
+  found-one = go (chosen T P (heldOf P ws) (ssnsOf P ns) point) refl
+    where
+      go : (c : Choice) → chosen T P (heldOf P ws) (ssnsOf P ns) point ≡ c → (k : ℕ) × (is : List ℕ) × (chosen T P (heldOf P ws) (ssnsOf P ns) point ≡ one k is)
+      go none e = clash (sym (ap (λ (x : Best). x .some) (b ∙ ap bestOf e)) ∙ s)
+      go (one k is) e = (k, is, e)
+
+  -- the place of the choice is one
+  pub place-there : best .place < P .places
+  place-there = omega (arith, held-long P ws, place-within T P (heldOf P ws) (ssnsOf P ns) point b s)
+
+  pub given-at : {at : List ℕ} {n : ℕ} (h : Held) → h ≡ getD (heldOf P ws) (best .place) noHeld
+      → Noted at n (follow T (heldOf P ws) h (P .places) (best .place) h) → Given T P (heldOf P ws) (ssnsOf P ns) point (best .place) (take n at)
+  given-at {at} {n} h e g =
+      let f = found-one in
+      let w = rw (f .2) at (chosen-run T P (heldOf P ws) (ssnsOf P ns) point) in
+      let v = subst (Heads (w .0)) (w .2) (follow-heads T (heldOf P ws) (getD (heldOf P ws) (w .0) noHeld) (P .places) (w .0) (getD (heldOf P ws) (w .0) noHeld)) in
+      let q : best .place ≡ w .0 = ap (λ (x : Best). x .place) (b ∙ ap bestOf (f .2)) ∙ ap headOf (v .1) in
+      let r : runAt at n ≡ whole (f .1) = g .run ∙ (ap (λ (x : Held). follow T (heldOf P ws) x (P .places) (best .place) x) e ∙ (ap (λ (i : ℕ). follow T (heldOf P ws) (getD (heldOf P ws) i noHeld) (P .places) i (getD (heldOf P ws) i noHeld)) q ∙ w .2)) in
+      let z : take n at ≡ f .1 = run-is at n (f .1) r in
+      record { rank = f .0; choice = f .2 ∙ ap (one (f .0)) (sym z); others = v .0; leads = z ∙ (v .1 ∙ ap (λ (i : ℕ). i ∷ v .0) (sym q)) }
+
+-- ---- what a take leaves of the words, what it answers, and what it writes
+
+module _ {T : Numbering} {P : Profile} (ws ns : List ℕ) {point place : ℕ} {is : List ℕ} (w : Given T P (heldOf P ws) (ssnsOf P ns) point place is)
     {n : ℕ} (e : n ≡ lengthOf (heldOf P ws) is) where
   first-is : firstOf (chunksAt (heldOf P ws) is) ≡ getD (heldOf P ws) place noHeld
   first-is = ap (λ (js : List ℕ). firstOf (chunksAt (heldOf P ws) js)) (w .leads)
@@ -69,11 +169,20 @@ module _ {T : Numbering} {P : Profile} (ws ns : List ℕ) {point place : ℕ} {i
   ssns-all S room h q = rw (w .choice, ← e, le-ltb room n h, first-is) q
 
   pub answer-short : (S : Numbering) (room : ℕ) → room < n → Short n ≡ took T S P (heldOf P ws) (ssnsOf P ns) point room .answer
-  answer-short S room h = ap (λ (t : Took). t .answer) (took-short w e S room h)
+  answer-short S room h = rw (took-is T S P (heldOf P ws) (ssnsOf P ns) point room, w .choice, ← e, lt-ltb room n h)
 
   pub answer-all : (S : Numbering) (room : ℕ) → n ≤ room
       → Taken (messageOf n (getD (heldOf P ws) place noHeld)) ≡ took T S P (heldOf P ws) (ssnsOf P ns) point room .answer
-  answer-all S room h = ap (λ (t : Took). t .answer) (took-all w e S room h refl refl)
+  answer-all S room h = rw (took-is T S P (heldOf P ws) (ssnsOf P ns) point room, w .choice, ← e, le-ltb room n h, first-is)
+
+  pub written-short : (area out : List ℕ) → length out < n → out ≡ written T P (heldOf P ws) (ssnsOf P ns) point area out
+  unfolding written
+  written-short area out h = rw (w .choice, ← e, lt-ltb (length out) n h)
+
+  pub written-all : (area out : List ℕ) {filled : List ℕ} → n ≤ length out → filled ≡ copied P area (heldOf P ws) out 0 is
+      → filled ≡ written T P (heldOf P ws) (ssnsOf P ns) point area out
+  unfolding written
+  written-all area out h q = rw (w .choice, ← e, le-ltb (length out) n h) q
 
 module _ (T : Numbering) (P : Profile) (ws ns : List ℕ) (point : ℕ) (e : chosen T P (heldOf P ws) (ssnsOf P ns) point ≡ none) where
   pub words-none : (room : ℕ) → ws ≡ wordsTaken T P ws ns point room
@@ -86,19 +195,6 @@ module _ (T : Numbering) (P : Profile) (ws ns : List ℕ) (point : ℕ) (e : cho
 
   pub answer-none : (S : Numbering) (room : ℕ) → Answer.Nothing ≡ took T S P (heldOf P ws) (ssnsOf P ns) point room .answer
   answer-none S room = ap (λ (t : Took). t .answer) (took-none T P (heldOf P ws) (ssnsOf P ns) point e S room)
-
--- ---- what a take finds, by the place that was read
-
-module _ (T : Numbering) (P : Profile) (ws ns : List ℕ) (point : ℕ) {best : Best} (b : best ≡ bestOf (chosen T P (heldOf P ws) (ssnsOf P ns) point))
-    (s : best .some ≡ true) where
-  module _ (p : Places) (h : Held) (e : h ≡ getD (heldOf P ws) (best .place) noHeld)
-      (g : runOf p ≡ follow T (heldOf P ws) h (P .places) (best .place) h) where
-    pub picked-at : Picked T P (heldOf P ws) (ssnsOf P ns) point (best .place) (take (p .count) (p .at))
-    picked-at =
-        picked T P (heldOf P ws) (ssnsOf P ns) point b s p (g ∙ ap (λ (x : Held). follow T (heldOf P ws) x (P .places) (best .place) x) e)
-
-    pub within-of : P .places ≡ 128 → p .count ≤ 128 → length (p .at) ≡ 128 → Within p
-    within-of q m l = picked-within p picked-at (held-long P ws ∙ q) m l
 
 -- ---- the words then show what a take leaves
 

@@ -2,22 +2,60 @@
 use holding::Held;
 use holding::message;
 use holding::message::Best;
-use holding::message::Places;
 use numbers::Rail;
 use numbers::Tsn;
 use tables::held;
 use tables::ssns;
 ghost use mathlib.Core.Path.{_≡_};
-ghost use Prim.Native.Nat.{_^_, _≤_};
-ghost use lib.ListN.{getD};
+ghost use Prim.Native.Nat.{_^_, _<_, _≤_};
+ghost use lib.ListN.{getD, length};
 ghost use Rattle.numbers.specs.Numbering.{ring};
 ghost use Rattle.numbers.specs.Profile.{rail};
-ghost use Rattle.scans.specs.Scan.{count};
+ghost use mathlib.Core.Bool.{false};
+ghost use lib.Dec.{ltb};
+ghost use Rattle.scans.specs.Scan.{count, pick};
 ghost use Rattle.holding.specs.Held.{noHeld, isFree};
 ghost use Rattle.holding.specs.Message.{continues, follow, isExpected, opens, chosen, isOne};
-ghost use Rattle.holding.specs.MessageLaws.{runOf, bestOf, isBetter, tried};
+ghost use Rattle.holding.specs.MessageLaws.{bestOf, isBetter, tried};
 ghost use Rattle.tables.specs.Held.{heldOf};
 ghost use Rattle.tables.specs.Ssns.{ssnsOf};
+ghost use Rattle.taking.specs.Taking.{freeFor};
+ghost use Rattle.taking.specs.TakingLaws.{Noted};
+
+// Whether the two places from i on are free.
+fn are_two_free(words: &[u32; held::WORDS], i: usize) -> bool
+    requires { ⌜ i < 128 ⌝ }
+    ensures { λ y. ⌜ y ≡ freeFor (heldOf rail (now (words .entry))) i 2 ⌝ }
+{
+    if held::is_used(words, i) {
+        return false;
+    }
+    !held::is_used(words, i + 1)
+}
+
+// Whether the four places from i on are free.
+fn are_four_free(words: &[u32; held::WORDS], i: usize) -> bool
+    requires { ⌜ i < 126 ⌝ }
+    ensures { λ y. ⌜ y ≡ freeFor (heldOf rail (now (words .entry))) i 4 ⌝ }
+{
+    if are_two_free(words, i) {
+        return are_two_free(words, i + 2);
+    }
+    false
+}
+
+// Whether eight places from i on are there, and are free. Who looks at every place asks this first: most are free, and eight words are read.
+pub fn are_free(words: &[u32; held::WORDS], i: usize) -> bool
+    ensures { λ y. ⌜ y ≡ pick (ltb 120 i) false (freeFor (heldOf rail (now (words .entry))) i 8) ⌝ }
+{
+    if 120 < i {
+        return false;
+    }
+    if are_four_free(words, i) {
+        return are_four_free(words, i + 4);
+    }
+    false
+}
 
 // How many places are free.
 pub fn free_places(words: &[u32; held::WORDS]) -> usize
@@ -26,8 +64,13 @@ pub fn free_places(words: &[u32; held::WORDS]) -> usize
     let mut n: usize = 0;
     let mut i: usize = 0;
     while i < Rail::PLACES {
-        n += !held::is_used(words, i) as usize;
-        i += 1;
+        if are_free(words, i) {
+            n += 8;
+            i += 8;
+        } else {
+            n += !held::is_used(words, i) as usize;
+            i += 1;
+        }
     }
     n
 }
@@ -43,18 +86,23 @@ fn goes_on_at(words: &[u32; held::WORDS], place: usize, first: Held, t: Tsn) -> 
     false
 }
 
-// The places of the run of `first`, which is at the place, if it is a whole message; else none.
-pub(crate) fn gather(words: &[u32; held::WORDS], place: usize, first: Held) -> Places
-    ensures { λ p. ⌜ (runOf p ≡ follow (ring (2 ^ 32)) (heldOf rail (now (words .entry))) first 128 place first) × (p .count ≤ 128) ⌝ }
+// The places of the run of `first`, which is at the place, go to the lent list, and their number is told; 0 if the run is no whole message.
+pub(crate) fn gather(
+    words: &[u32; held::WORDS],
+    place: usize,
+    first: Held,
+    at: &mut [u8; Rail::PLACES],
+) -> usize
+    requires { ⌜ (place < 128) × (length (now at) ≡ 128) ⌝ }
+    ensures { λ n. ⌜ Noted (now (at .exit)) n (follow (ring (2 ^ 32)) (heldOf rail (now (words .entry))) first 128 place first) ⌝ }
 {
-    let mut at = [0usize; Rail::PLACES];
     let mut i = place;
     let mut cur = first;
     let mut n: usize = 0;
     'run: while n < Rail::PLACES {
-        at[n] = i;
+        at[n] = i as u8;
         if cur.end {
-            return Places { at, count: n + 1 };
+            return n + 1;
         }
         let tsn = cur.tsn;
         let t = tsn.after(1);
@@ -69,9 +117,9 @@ pub(crate) fn gather(words: &[u32; held::WORDS], place: usize, first: Held) -> P
             }
             j += 1;
         }
-        return Places { at, count: 0 };
+        return 0;
     }
-    Places { at, count: 0 }
+    0
 }
 
 // Whether the chunk's message is unordered, or the next expected of its stream.
@@ -114,11 +162,19 @@ fn is_better(next: &[u16; Rail::STREAMS], point: Tsn, best: Best, h: Held) -> bo
 }
 
 // The message that begins at the place, if it is whole; else the best so far.
-fn try_at(words: &[u32; held::WORDS], point: Tsn, best: Best, place: usize, h: Held) -> Best
-    ensures { λ b. ⌜ b ≡ tried (ring (2 ^ 32)) rail (heldOf rail (now (words .entry))) (point .0) best place h ⌝ }
+fn try_at(
+    words: &[u32; held::WORDS],
+    point: Tsn,
+    best: Best,
+    place: usize,
+    h: Held,
+    at: &mut [u8; Rail::PLACES],
+) -> Best
+    requires { ⌜ (place < 128) × (length (now at) ≡ 128) ⌝ }
+    ensures { λ b. ⌜ (b ≡ tried (ring (2 ^ 32)) rail (heldOf rail (now (words .entry))) (point .0) best place h) × (length (now (at .exit)) ≡ 128) ⌝ }
 {
-    let run = gather(words, place, h);
-    if run.count < 1 {
+    let n = gather(words, place, h, at);
+    if n < 1 {
         return best;
     }
     let tsn = h.tsn;
@@ -129,9 +185,15 @@ fn try_at(words: &[u32; held::WORDS], point: Tsn, best: Best, place: usize, h: H
     }
 }
 
-// The message that a take gives, if there is one.
-pub fn choose(words: &[u32; held::WORDS], next: &[u16; Rail::STREAMS], point: Tsn) -> Best
-    ensures { λ b. ⌜ b ≡ bestOf (chosen (ring (2 ^ 32)) rail (heldOf rail (now (words .entry))) (ssnsOf rail (now (next .entry))) (point .0)) ⌝ }
+// The message that a take gives, if there is one. The list is for its places, and is left with any.
+pub(crate) fn choose_by(
+    words: &[u32; held::WORDS],
+    next: &[u16; Rail::STREAMS],
+    point: Tsn,
+    at: &mut [u8; Rail::PLACES],
+) -> Best
+    requires { ⌜ length (now at) ≡ 128 ⌝ }
+    ensures { λ b. ⌜ (b ≡ bestOf (chosen (ring (2 ^ 32)) rail (heldOf rail (now (words .entry))) (ssnsOf rail (now (next .entry))) (point .0))) × (length (now (at .exit)) ≡ 128) ⌝ }
 {
     let mut best = Best {
         some: false,
@@ -140,19 +202,27 @@ pub fn choose(words: &[u32; held::WORDS], next: &[u16; Rail::STREAMS], point: Ts
     };
     let mut i: usize = 0;
     while i < Rail::PLACES {
-        if held::is_used(words, i) {
+        if are_free(words, i) {
+            i += 8;
+        } else {
             let h = held::held_at(words, i);
             if is_better(next, point, best, h) {
-                best = try_at(words, point, best, i, h);
+                best = try_at(words, point, best, i, h, at);
                 i += 1;
             } else {
                 i += 1;
             }
-        } else {
-            i += 1;
         }
     }
     best
+}
+
+// The message that a take gives, if there is one.
+pub fn choose(words: &[u32; held::WORDS], next: &[u16; Rail::STREAMS], point: Tsn) -> Best
+    ensures { λ b. ⌜ b ≡ bestOf (chosen (ring (2 ^ 32)) rail (heldOf rail (now (words .entry))) (ssnsOf rail (now (next .entry))) (point .0)) ⌝ }
+{
+    let mut at = [0u8; Rail::PLACES];
+    choose_by(words, next, point, &mut at)
 }
 
 // Whether a message can be taken.

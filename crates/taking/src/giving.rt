@@ -3,7 +3,6 @@ use crate::choosing;
 use holding::Answer;
 use holding::Held;
 use holding::Message;
-use holding::message::Places;
 use numbers::Rail;
 use numbers::Tsn;
 use tables::held;
@@ -15,21 +14,27 @@ ghost use Rattle.numbers.specs.Numbering.{ring};
 ghost use Rattle.numbers.specs.Profile.{rail};
 ghost use Rattle.octets.specs.Bytes.{laid};
 ghost use Rattle.holding.specs.Taking.{lengthOf, payloadAt, copied, took, written};
-ghost use Rattle.holding.specs.TakingLaws.{Within};
 ghost use Rattle.tables.specs.Held.{heldOf};
 ghost use Rattle.tables.specs.Ssns.{ssnsOf};
 ghost use Rattle.taking.specs.Taking.{wordsEmptied, ssnsAdvanced, wordsTaken, ssnsTaken};
+ghost use Rattle.taking.specs.TakingLaws.{Listed};
 
-// The bytes of the message at the places.
-fn length_of(words: &[u32; held::WORDS], p: Places) -> usize
-    requires { ⌜ Within p ⌝ }
-    ensures { λ n. ⌜ n ≡ lengthOf (heldOf rail (now (words .entry))) (take (p .count) (p .at)) ⌝ }
+// The place that an entry of a list is.
+fn place_of(entry: u8) -> usize
+    ensures { λ i. ⌜ (i ≡ entry) × (i ≤ 255) ⌝ }
 {
-    let count = p.count;
+    entry as usize
+}
+
+// The bytes of the message at the first `count` places of the list.
+fn length_of(words: &[u32; held::WORDS], list: &[u8; Rail::PLACES], count: usize) -> usize
+    requires { ⌜ Listed (now list) count ⌝ }
+    ensures { λ n. ⌜ n ≡ lengthOf (heldOf rail (now (words .entry))) (take count (now (list .entry))) ⌝ }
+{
     let mut n: usize = 0;
     let mut j: usize = 0;
     while j < count {
-        let i = p.at[j];
+        let i = place_of(list[j]);
         let h = held::held_at(words, i);
         n += h.bytes();
         j += 1;
@@ -39,23 +44,28 @@ fn length_of(words: &[u32; held::WORDS], p: Places) -> usize
 
 // The payload of n bytes at a place, from `at` on.
 fn copy_payload(area: &[u8], out: &mut [u8], at: usize, place: usize, n: usize)
-    requires { ⌜ (place < 128) × (n ≤ 65535) ⌝ }
+    requires { ⌜ (place ≤ 255) × (n ≤ 65535) ⌝ }
     ensures { λ _. ⌜ now (out .exit) ≡ laid (now (out .entry)) at (payloadAt rail (now (area .entry)) place n) ⌝ }
 {
     let part = octets::bytes::part(area, Rail::PAYLOAD * place, n);
     octets::bytes::put_all(out, at, part);
 }
 
-// The payloads of the message at the places, one behind the other.
-fn copy_out(words: &[u32; held::WORDS], p: Places, area: &[u8], out: &mut [u8])
-    requires { ⌜ Within p ⌝ }
-    ensures { λ _. ⌜ now (out .exit) ≡ copied rail (now (area .entry)) (heldOf rail (now (words .entry))) (now (out .entry)) 0 (take (p .count) (p .at)) ⌝ }
+// The payloads of the message at those places, one behind the other.
+fn copy_out(
+    words: &[u32; held::WORDS],
+    list: &[u8; Rail::PLACES],
+    count: usize,
+    area: &[u8],
+    out: &mut [u8],
+)
+    requires { ⌜ Listed (now list) count ⌝ }
+    ensures { λ _. ⌜ now (out .exit) ≡ copied rail (now (area .entry)) (heldOf rail (now (words .entry))) (now (out .entry)) 0 (take count (now (list .entry))) ⌝ }
 {
-    let count = p.count;
     let mut at: usize = 0;
     let mut j: usize = 0;
     while j < count {
-        let i = p.at[j];
+        let i = place_of(list[j]);
         let h = held::held_at(words, i);
         let n = h.bytes();
         copy_payload(area, out, at, i, n);
@@ -64,15 +74,14 @@ fn copy_out(words: &[u32; held::WORDS], p: Places, area: &[u8], out: &mut [u8])
     }
 }
 
-// Its places are freed.
-fn empty(words: &mut [u32; held::WORDS], p: Places)
-    requires { ⌜ Within p ⌝ }
-    ensures { λ _. ⌜ now (words .exit) ≡ wordsEmptied rail (now (words .entry)) (take (p .count) (p .at)) ⌝ }
+// Those places are freed.
+fn empty(words: &mut [u32; held::WORDS], list: &[u8; Rail::PLACES], count: usize)
+    requires { ⌜ Listed (now list) count ⌝ }
+    ensures { λ _. ⌜ now (words .exit) ≡ wordsEmptied rail (now (words .entry)) (take count (now (list .entry))) ⌝ }
 {
-    let count = p.count;
     let mut k: usize = 0;
     while k < count {
-        let i = p.at[k];
+        let i = place_of(list[k]);
         held::free_held(words, i);
         k += 1;
     }
@@ -101,17 +110,18 @@ pub fn take(
 ) -> Answer
     ensures { λ r. ⌜ (r ≡ took (ring (2 ^ 32)) (ring (2 ^ 16)) rail (heldOf rail (now (words .entry))) (ssnsOf rail (now (next .entry))) (point .0) (length (now (out .entry))) .answer) × (now (words .exit) ≡ wordsTaken (ring (2 ^ 32)) rail (now (words .entry)) (now (next .entry)) (point .0) (length (now (out .entry)))) × (now (next .exit) ≡ ssnsTaken (ring (2 ^ 32)) (ring (2 ^ 16)) rail (now (words .entry)) (now (next .entry)) (point .0) (length (now (out .entry)))) × (now (out .exit) ≡ written (ring (2 ^ 32)) rail (heldOf rail (now (words .entry))) (ssnsOf rail (now (next .entry))) (point .0) (now (area .entry)) (now (out .entry))) ⌝ }
 {
-    let best = choosing::choose(words, next, point);
+    let mut list = [0u8; Rail::PLACES];
+    let best = choosing::choose_by(words, next, point, &mut list);
     if best.some {
         let place = best.place;
         let first = held::held_at(words, place);
-        let p = choosing::gather(words, place, first);
-        let length = length_of(words, p);
+        let count = choosing::gather(words, place, first, &mut list);
+        let length = length_of(words, &list, count);
         if out.len() < length {
             return Answer::Short(length);
         }
-        copy_out(words, p, area, out);
-        empty(words, p);
+        copy_out(words, &list, count, area, out);
+        empty(words, &list, count);
         advance(next, first);
         let stream = first.stream;
         let ssn = first.ssn;

@@ -1,15 +1,29 @@
-use Prim.Native.Nat.{_-_}
+use Prim.Native.Nat.{_-_, _^_}
 use mathlib.Core.Bool.{not}
+use mathlib.Core.Path.{_≡_, refl, sym, ap, _∙_}
 use native.Mathlib.Omega.{arith}
 use borrow.Author.Needs.{needs}
+use borrow.Author.Tests.{lt-ltb, le-ltb}
 use mir.Facts.{fits-le, fits-lit}
+use lib.ListN.{take, length-set}
+use Rattle.numbers.specs.Numbering.{ring}
 use Rattle.numbers.specs.Profile.{rail}
-use Rattle.scans.specs.Scan.{Counting, count-start, count-bit, bit-within, count-end}
+use Rattle.scans.specs.Scan.{Counting, count-start, count-bit, bit-within, count-end, Finding, find-yes, find-no, find-end, Summing, sum-start, sum-end}
+use Rattle.holding.specs.declared.held.Held.{Held}
 use Rattle.holding.specs.Held.{noHeld, isFree}
+use Rattle.holding.specs.Message.{continues}
+use Rattle.holding.specs.MessageLaws.{Gathering, gather-start, gather-end, gather-more, gather-none}
+use Rattle.holding.specs.Taking.{lenAt}
 use Rattle.tables.specs.Held.{heldOf}
 use Rattle.tables.specs.HeldLaws.{held-long}
+use Rattle.taking.specs.FreeLaws.{free-two, free-add, free-eight, count-free}
+use Rattle.taking.specs.TakingLaws.{gather-whole, Listed, listed-long, add-place, Copying, copy-more, copy-end, Clearing, clear-more, clear-end}
 use Rattle.taking.proofs.choosing.free_places.Statement.{statement}
 use Rattle.taking.proofs.choosing.free_places.Tie as tie
+use Rattle.taking.proofs.choosing.free_places.Reads as reads
+use Rattle.taking.proofs.choosing.free_places.Lts as lts
+use Rattle.tables.proofs.held.is_used.Reads as is-used-reads
+use Rattle.taking.proofs.choosing.are_free.Reads as are-free-reads
 
 abbrev Inv-loop : tie.InvT-loop
 Inv-loop words n₀ i₀ n i = Counting isFree (heldOf rail words) 128 i n
@@ -17,27 +31,55 @@ Inv-loop words n₀ i₀ n i = Counting isFree (heldOf rail words) 128 i n
 abbrev μ-loop : tie.MeasureT-loop
 μ-loop words n₀ i₀ n i = 128 - i
 
+-- src/choosing.rt:65:5
 loop-holds : tie.Need-loop-holds Inv-loop μ-loop
 loop-holds c = count-start _ _ 128 (held-long rail _)
 
-is-used-requires : tie.Need-is-used-requires Inv-loop μ-loop
-is-used-requires c κs = search needs
+-- src/choosing.rt:66:12
+are-free-requires : tie.Need-are-free-requires Inv-loop μ-loop
+are-free-requires c κs = search needs
 
-cast-n : tie.Need-cast-n Inv-loop μ-loop
-cast-n c = search needs
-
+-- src/choosing.rt:67:13
 add-n : tie.Need-add-n Inv-loop μ-loop
-add-n c = fits-le (bit-within (c .before .before .loop .inv) (not (c .is-used .result)) (c .before .loop-test .taken)) (fits-lit tt)
+add-n c = search (needs, c .before .before .before .loop .inv .below)
 
+-- src/choosing.rt:68:13
 add-i : tie.Need-add-i Inv-loop μ-loop
 add-i c = search needs
 
+-- src/choosing.rt:65:5
 loop-less : tie.Need-loop-less Inv-loop μ-loop
 loop-less c = search needs
 
+-- src/choosing.rt:65:5
 loop-again : tie.Need-loop-again Inv-loop μ-loop
-loop-again c = rw (c .is-used .ensures) (count-bit (c .before .before .loop .inv) noHeld (c .before .loop-test .taken))
+loop-again c = let e = free-eight (heldOf rail (c .before .before .before .before .args .words .now)) (c .before .before .before .loop .i) (c .before .are-free .ensures) (c .if1 .taken) in count-free _ (c .before .before .before .loop .inv) (omega (arith, e .0)) (e .1)
 
+-- src/choosing.rt:70:19
+is-used-requires : tie.Need-is-used-requires Inv-loop μ-loop
+is-used-requires c κs = search needs
+
+-- src/choosing.rt:70:18
+cast-n : tie.Need-cast-n Inv-loop μ-loop
+cast-n c = search needs
+
+-- src/choosing.rt:70:13
+add-n-2 : tie.Need-add-n-2 Inv-loop μ-loop
+add-n-2 c = fits-le (bit-within (c .before .before .before .before .loop .inv) (not (c .is-used .result)) (c .before .before .before .loop-test .taken)) (fits-lit tt)
+
+-- src/choosing.rt:71:13
+add-i-2 : tie.Need-add-i-2 Inv-loop μ-loop
+add-i-2 c = search needs
+
+-- src/choosing.rt:65:5
+loop-less-2 : tie.Need-loop-less-2 Inv-loop μ-loop
+loop-less-2 c = search needs
+
+-- src/choosing.rt:65:5
+loop-again-2 : tie.Need-loop-again-2 Inv-loop μ-loop
+loop-again-2 c = rw (c .is-used .ensures) (count-bit (c .before .before .before .before .loop .inv) noHeld (c .before .before .before .loop-test .taken))
+
+-- src/choosing.rt:60:1
 returns : tie.Need-returns Inv-loop μ-loop
 returns c = (count-end (c .before .loop .inv) (c .loop-test .left), omega (arith, c .before .loop .inv .below, c .before .loop .inv .within))
 
@@ -48,10 +90,15 @@ free-places-spec =
     Inv-loop
     μ-loop
     loop-holds
-    is-used-requires
-    cast-n
+    are-free-requires
     add-n
     add-i
     loop-less
     loop-again
+    is-used-requires
+    cast-n
+    add-n-2
+    add-i-2
+    loop-less-2
+    loop-again-2
     returns)

@@ -1,53 +1,83 @@
-use Prim.Native.Nat.{_-_}
-use mathlib.Core.Path.{refl, ap, _∙_}
+use Prim.Native.Nat.{_-_, _^_}
+use mathlib.Core.Bool.{not}
+use mathlib.Core.Path.{_≡_, refl, sym, ap, _∙_}
 use native.Mathlib.Omega.{arith}
 use borrow.Author.Needs.{needs}
+use borrow.Author.Tests.{lt-ltb, le-ltb}
+use mir.Facts.{fits-le, fits-lit}
+use lib.ListN.{take, length-set}
+use Rattle.numbers.specs.Numbering.{ring}
 use Rattle.numbers.specs.Profile.{rail}
+use Rattle.scans.specs.Scan.{Counting, count-start, count-bit, bit-within, count-end, Finding, find-yes, find-no, find-end, Summing, sum-start, sum-end}
 use Rattle.holding.specs.declared.held.Held.{Held}
-use Rattle.holding.specs.TakingLaws.{within-at, Copying, copy-more, copy-end}
+use Rattle.holding.specs.Held.{noHeld, isFree}
+use Rattle.holding.specs.Message.{continues}
+use Rattle.holding.specs.MessageLaws.{Gathering, gather-start, gather-end, gather-more, gather-none}
+use Rattle.holding.specs.Taking.{lenAt}
 use Rattle.tables.specs.Held.{heldOf}
+use Rattle.tables.specs.HeldLaws.{held-long}
+use Rattle.taking.specs.FreeLaws.{free-two, free-add, free-eight, count-free}
+use Rattle.taking.specs.TakingLaws.{gather-whole, Listed, listed-long, add-place, Copying, copy-more, copy-end, Clearing, clear-more, clear-end}
 use Rattle.taking.proofs.giving.copy_out.Statement.{statement}
 use Rattle.taking.proofs.giving.copy_out.Tie as tie
+use Rattle.taking.proofs.giving.copy_out.Reads as reads
+use Rattle.taking.proofs.giving.copy_out.Lts as lts
+use Rattle.holding.proofs.held.Held.bytes.Reads as bytes-reads
+use Rattle.tables.proofs.held.held_at.Reads as held-at-reads
+use Rattle.taking.proofs.giving.copy_payload.Reads as copy-payload-reads
+use Rattle.taking.proofs.giving.place_of.Reads as place-of-reads
 
 abbrev Inv-loop : tie.InvT-loop
-Inv-loop words area out₀ p count at₀ j₀ out at j = Copying rail area (heldOf rail words) out₀ p out at j
+Inv-loop words list count area out₀ at₀ j₀ out at j = Copying rail area (heldOf rail words) out₀ list count out at j
 
 abbrev μ-loop : tie.MeasureT-loop
-μ-loop words area out₀ p count at₀ j₀ out at j = p .count - j
+μ-loop words list count area out₀ at₀ j₀ out at j = count - j
 
+-- src/giving.rt:60:5
 loop-holds : tie.Need-loop-holds Inv-loop μ-loop
 loop-holds c = record { long = refl; small = omega arith; rest = refl }
 
-mul-i : tie.Need-mul-i Inv-loop μ-loop
-mul-i c = omega (arith, c .before .before .before .before .pre .few)
+-- src/giving.rt:61:26
+element-copy-out-place-of : tie.Need-element-copy-out-place-of Inv-loop μ-loop
+element-copy-out-place-of c = omega (arith, c .before .before .before .before .pre .few, c .loop-test .taken)
 
-element-copy-out-i : tie.Need-element-copy-out-i Inv-loop μ-loop
-element-copy-out-i c = omega (arith, c .before .before .before .before .pre .few)
+-- src/giving.rt:61:13
+place-of-requires : tie.Need-place-of-requires Inv-loop μ-loop
+place-of-requires c κs = search needs
 
+-- src/giving.rt:62:13
 held-at-requires : tie.Need-held-at-requires Inv-loop μ-loop
 held-at-requires c κs = search needs
 
+-- src/giving.rt:63:13
 bytes-requires : tie.Need-bytes-requires Inv-loop μ-loop
 bytes-requires c κs = search needs
 
+-- src/giving.rt:64:9
 copy-payload-requires : tie.Need-copy-payload-requires Inv-loop μ-loop
-copy-payload-requires c κs = (within-at (c .before .before .before .before .before .before .before .before .pre) (c .before .before .before .before .before .loop .j) (c .before .before .before .before .loop-test .taken), c .before .bytes .ensures .1)
+copy-payload-requires c κs = (c .before .before .before .place-of .ensures .1, c .before .bytes .ensures .1)
 
+-- src/giving.rt:65:9
 add-at : tie.Need-add-at Inv-loop μ-loop
-add-at c = omega (arith, c .before .before .before .before .before .before .before .before .before .before .before .pre .few, c .before .before .before .before .before .before .before .before .loop .inv .small, c .before .before .before .before .bytes .ensures .1)
+add-at c = omega (arith, c .before .before .before .before .before .before .before .before .before .before .before .before .pre .few, c .before .before .before .before .before .before .before .before .before .loop .inv .small, c .before .before .before .before .bytes .ensures .1, c .before .before .before .before .before .before .before .before .loop-test .taken)
 
+-- src/giving.rt:66:9
 add-j : tie.Need-add-j Inv-loop μ-loop
-add-j c = omega (arith, c .before .before .before .before .before .before .before .before .before .before .before .pre .few)
+add-j c = omega (arith, c .before .before .before .before .before .before .before .before .before .before .before .before .pre .few, c .before .before .before .before .before .before .before .before .loop-test .taken)
 
+-- src/giving.rt:60:5
 loop-less : tie.Need-loop-less Inv-loop μ-loop
 loop-less c = search needs
 
+-- src/giving.rt:60:5
 loop-again : tie.Need-loop-again Inv-loop μ-loop
-loop-again c = copy-more (c .before .before .before .before .before .before .before .before .before .before .before .pre) (c .before .before .before .before .before .before .before .before .loop .inv) (c .before .before .before .before .before .before .before .loop-test .taken) (c .before .before .before .before .bytes .ensures .0 ∙ ap (λ (h : Held). h .len) (c .before .before .before .before .before .held-at .ensures)) (c .before .before .before .before .bytes .ensures .1) (c .before .before .copy-payload .ensures)
+loop-again c = copy-more (c .before .before .before .before .before .before .before .before .before .before .before .before .pre) (c .before .before .before .before .before .before .before .before .before .loop .inv) (c .before .before .before .before .before .before .before .before .loop-test .taken) (c .before .before .before .before .before .before .place-of .ensures .0) (c .before .before .before .before .bytes .ensures .0 ∙ ap (λ (h : Held). h .len) (c .before .before .before .before .before .held-at .ensures)) (c .before .before .before .before .bytes .ensures .1) (c .before .before .copy-payload .ensures)
 
+-- src/giving.rt:54:1
 same-length : tie.Need-same-length Inv-loop μ-loop
 same-length c = c .before .loop .inv .long
 
+-- src/giving.rt:54:1
 returns : tie.Need-returns Inv-loop μ-loop
 returns c = copy-end (c .before .before .before .before .pre) (c .before .loop .inv) (c .loop-test .left)
 
@@ -58,8 +88,8 @@ copy-out-spec =
     Inv-loop
     μ-loop
     loop-holds
-    mul-i
-    element-copy-out-i
+    element-copy-out-place-of
+    place-of-requires
     held-at-requires
     bytes-requires
     copy-payload-requires

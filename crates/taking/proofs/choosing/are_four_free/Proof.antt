@@ -1,0 +1,50 @@
+use Prim.Native.Nat.{_-_, _^_}
+use mathlib.Core.Bool.{not}
+use mathlib.Core.Path.{_≡_, refl, sym, ap, _∙_}
+use native.Mathlib.Omega.{arith}
+use borrow.Author.Tests.{lt-ltb, le-ltb}
+use mir.Facts.{fits-le, fits-lit}
+use lib.ListN.{take, length-set}
+use Rattle.numbers.specs.Numbering.{ring}
+use Rattle.numbers.specs.Profile.{rail}
+use Rattle.scans.specs.Scan.{Counting, count-start, count-bit, bit-within, count-end, Finding, find-yes, find-no, find-end, Summing, sum-start, sum-end}
+use Rattle.holding.specs.declared.held.Held.{Held}
+use Rattle.holding.specs.Held.{noHeld, isFree}
+use Rattle.holding.specs.Message.{continues}
+use Rattle.holding.specs.MessageLaws.{Gathering, gather-start, gather-end, gather-more, gather-none}
+use Rattle.holding.specs.Taking.{lenAt}
+use Rattle.tables.specs.Held.{heldOf}
+use Rattle.tables.specs.HeldLaws.{held-long}
+use Rattle.taking.specs.FreeLaws.{free-two, free-add, free-eight, count-free}
+use Rattle.taking.specs.TakingLaws.{gather-whole, Listed, listed-long, add-place, Copying, copy-more, copy-end, Clearing, clear-more, clear-end}
+use borrow.Author.Needs.{needs}
+use Rattle.taking.proofs.choosing.are_four_free.Statement.{statement}
+use Rattle.taking.proofs.choosing.are_four_free.Tie as tie
+use Rattle.taking.proofs.choosing.are_four_free.Reads as reads
+use Rattle.taking.proofs.choosing.are_four_free.Lts as lts
+use Rattle.taking.proofs.choosing.are_two_free.Reads as are-two-free-reads
+
+-- src/choosing.rt:40:8
+are-two-free-requires : tie.Need-are-two-free-requires
+are-two-free-requires c κs = search needs
+
+-- src/choosing.rt:41:36
+add-are-two-free : tie.Need-add-are-two-free
+add-are-two-free c = search needs
+
+-- src/choosing.rt:41:9
+are-two-free-requires-2 : tie.Need-are-two-free-requires-2
+are-two-free-requires-2 c κs = search needs
+
+-- src/choosing.rt:41:9
+returns : tie.Need-returns
+returns c = rw (free-add (heldOf rail (c .before .before .before .args .words .now)) 2 (c .before .before .before .args .i) 2, ← c .before .before .are-two-free .ensures, c .before .if1 .taken) (c .are-two-free2 .ensures)
+
+-- src/choosing.rt:36:1
+returns-2 : tie.Need-returns-2
+returns-2 c = rw (free-add (heldOf rail (c .before .before .args .words .now)) 2 (c .before .before .args .i) 2, ← c .before .are-two-free .ensures, c .if1 .left)
+
+pub are-four-free-spec : {M : Type 1} → statement M
+are-four-free-spec =
+    tie.close
+    (tie.spec are-two-free-requires add-are-two-free are-two-free-requires-2 returns returns-2)

@@ -1,0 +1,60 @@
+use Prim.Native.Nat.{_-_, _^_}
+use mathlib.Core.Bool.{not}
+use mathlib.Core.Path.{_≡_, refl, sym, ap, _∙_}
+use native.Mathlib.Omega.{arith}
+use borrow.Author.Tests.{lt-ltb, le-ltb}
+use mir.Facts.{fits-le, fits-lit}
+use lib.ListN.{take, length-set}
+use Rattle.numbers.specs.Numbering.{ring}
+use Rattle.numbers.specs.Profile.{rail}
+use Rattle.scans.specs.Scan.{Counting, count-start, count-bit, bit-within, count-end, Finding, find-yes, find-no, find-end, Summing, sum-start, sum-end}
+use Rattle.holding.specs.declared.held.Held.{Held}
+use Rattle.holding.specs.Held.{noHeld, isFree}
+use Rattle.holding.specs.Message.{continues}
+use Rattle.holding.specs.MessageLaws.{Gathering, gather-start, gather-end, gather-more, gather-none}
+use Rattle.holding.specs.Taking.{lenAt}
+use Rattle.tables.specs.Held.{heldOf}
+use Rattle.tables.specs.HeldLaws.{held-long}
+use Rattle.taking.specs.FreeLaws.{free-two, free-add, free-eight, count-free}
+use Rattle.taking.specs.TakingLaws.{gather-whole, Listed, listed-long, add-place, Copying, copy-more, copy-end, Clearing, clear-more, clear-end}
+use borrow.Author.Needs.{needs}
+use Rattle.taking.proofs.choosing.are_free.Statement.{statement}
+use Rattle.taking.proofs.choosing.are_free.Tie as tie
+use Rattle.taking.proofs.choosing.are_free.Reads as reads
+use Rattle.taking.proofs.choosing.are_free.Lts as lts
+use Rattle.taking.proofs.choosing.are_four_free.Reads as are-four-free-reads
+
+-- src/choosing.rt:51:9
+returns : tie.Need-returns
+returns c = rw (lt-ltb _ _ (c .if1 .taken))
+
+-- src/choosing.rt:53:8
+are-four-free-requires : tie.Need-are-four-free-requires
+are-four-free-requires c κs = search needs
+
+-- src/choosing.rt:54:37
+add-are-four-free : tie.Need-add-are-four-free
+add-are-four-free c = search needs
+
+-- src/choosing.rt:54:9
+are-four-free-requires-2 : tie.Need-are-four-free-requires-2
+are-four-free-requires-2 c κs = search needs
+
+-- src/choosing.rt:54:9
+returns-2 : tie.Need-returns-2
+returns-2 c = rw (le-ltb _ _ (c .before .before .before .if1 .left), free-add (heldOf rail (c .before .before .before .before .args .words .now)) 4 (c .before .before .before .before .args .i) 4, ← c .before .before .are-four-free .ensures, c .before .if2 .taken) (c .are-four-free2 .ensures)
+
+-- src/choosing.rt:47:1
+returns-3 : tie.Need-returns-3
+returns-3 c = rw (le-ltb _ _ (c .before .before .if1 .left), free-add (heldOf rail (c .before .before .before .args .words .now)) 4 (c .before .before .before .args .i) 4, ← c .before .are-four-free .ensures, c .if2 .left)
+
+pub are-free-spec : {M : Type 1} → statement M
+are-free-spec =
+    tie.close
+    (tie.spec
+    returns
+    are-four-free-requires
+    add-are-four-free
+    are-four-free-requires-2
+    returns-2
+    returns-3)
