@@ -1,9 +1,13 @@
 -- The sending side that a head and the words of its lent tables show.
-use Prim.Native.Nat.{ℕ}
+use Prim.Native.Nat.{ℕ, zero, suc, _+_}
+use mathlib.Core.Bool.{Bool, true, false}
 use mathlib.Core.List.{List}
+use lib.Dec.{eqb}
 use Rattle.numbers.specs.Profile.{Profile}
+use Rattle.scans.specs.Scan.{pick}
+use Rattle.places.specs.declared.place.Place.{Place}
 use Rattle.sending.specs.declared.sending.Sending.{Sending}
-use Rattle.tables.specs.Place.{placesOf}
+use Rattle.tables.specs.Place.{placesOf, placeAt}
 use Rattle.tables.specs.Ssns.{ssnsOf}
 use Rattle.sender.specs.declared.Sender.{Sender}
 
@@ -22,3 +26,12 @@ seen P h ws ns = record {
 -- the head of a sending side
 abbrev pub headOf : Sending → Sender
 headOf s = record { acked = s .acked; «next_tsn» = s .«next_tsn»; advertised = s .advertised; oldest = s .oldest; path = s .path }
+
+-- a place that is free and has no misses
+abbrev pub isBlank : Place → Bool
+isBlank p = pick (eqb (p .status) 0) (eqb (p .misses) 0) false
+
+-- the n places from i on are
+abbrev pub blankFor : Profile → List ℕ → ℕ → ℕ → Bool
+blankFor P ws i zero = true
+blankFor P ws i (suc n) = pick (isBlank (placeAt P ws i)) (blankFor P ws (i + 1) n) false

@@ -8,16 +8,16 @@ use sending::bounds::Survey;
 ghost use mathlib.Core.Path.{_≡_};
 ghost use mathlib.Core.Bool.{not, false};
 ghost use mathlib.Core.List.{List, []};
-ghost use Prim.Native.Nat.{ℕ, _≤_};
-ghost use lib.Dec.{eqb};
+ghost use Prim.Native.Nat.{ℕ, _<_, _≤_};
+ghost use lib.Dec.{eqb, ltb};
 ghost use Rattle.scans.specs.Scan.{pick};
 ghost use Rattle.path.specs.Sizes.{railSizes};
 ghost use Rattle.numbers.specs.Profile.{rail};
 ghost use Rattle.sending.specs.Sending.{fresh, roomOf, sampled, doubled, heard};
 ghost use Rattle.sending.specs.Bounds.{hasGap, isWithin};
 ghost use Rattle.sending.specs.Survey.{Surveyed};
-ghost use Rattle.tables.specs.Place.{placesOf};
-ghost use Rattle.sender.specs.Seen.{seen, headOf};
+ghost use Rattle.tables.specs.Place.{placesOf, placeAt};
+ghost use Rattle.sender.specs.Seen.{seen, headOf, isBlank, blankFor};
 
 // Our point, the TSN that is next, the window last advertised, the order of the chunk that waits longest, and the path.
 pub struct Sender {
@@ -86,6 +86,52 @@ impl Sender {
     }
 }
 
+// Whether the place i is free and has no misses: one word is read.
+fn is_blank(t: &[u32; 1024], i: usize) -> bool
+    ensures { λ r. ⌜ r ≡ isBlank (placeAt rail (now (t .entry)) i) ⌝ }
+{
+    let p = tables::place::place_at(t, i);
+    if p.status == Place::FREE {
+        return p.misses == 0;
+    }
+    false
+}
+
+// Whether the two places from i on are.
+fn are_two_blank(t: &[u32; 1024], i: usize) -> bool
+    requires { ⌜ i < 128 ⌝ }
+    ensures { λ r. ⌜ r ≡ blankFor rail (now (t .entry)) i 2 ⌝ }
+{
+    if is_blank(t, i) {
+        return is_blank(t, i + 1);
+    }
+    false
+}
+
+// Whether the four places from i on are.
+fn are_four_blank(t: &[u32; 1024], i: usize) -> bool
+    requires { ⌜ i < 126 ⌝ }
+    ensures { λ r. ⌜ r ≡ blankFor rail (now (t .entry)) i 4 ⌝ }
+{
+    if are_two_blank(t, i) {
+        return are_two_blank(t, i + 2);
+    }
+    false
+}
+
+// Whether eight places from i on are there, and are free with no misses. Most are: eight words are read for them.
+fn are_blank(t: &[u32; 1024], i: usize) -> bool
+    ensures { λ r. ⌜ r ≡ pick (ltb 120 i) false (blankFor rail (now (t .entry)) i 8) ⌝ }
+{
+    if 120 < i {
+        return false;
+    }
+    if are_four_blank(t, i) {
+        return are_four_blank(t, i + 4);
+    }
+    false
+}
+
 // What one pass finds. Whether a place is odd is asked in both arms: of a free one only the misses are left to look at.
 fn survey_of(t: &[u32; 1024], acked: Tsn, oldest: u32) -> Survey
     ensures { λ r. ⌜ Surveyed rail acked oldest (placesOf rail (now (t .entry))) r ⌝ }
@@ -98,20 +144,24 @@ fn survey_of(t: &[u32; 1024], acked: Tsn, oldest: u32) -> Survey
     let mut seen_waiting = [false; bounds::SPOTS];
     let mut i: usize = 0;
     while i < Rail::PLACES {
-        let p = tables::place::place_at(t, i);
-        if p.status == Place::FREE {
-            odd = bounds::or_odd(odd, p);
-            i += 1;
+        if are_blank(t, i) {
+            i += 8;
         } else {
-            odd = bounds::or_odd(odd, p);
-            flight += p.flight();
-            sent += p.is_sent() as usize;
-            waiting += (p.status == Place::WAITING) as usize;
-            let j = bounds::spot_of(bounds::key_of(p, true, acked, oldest));
-            seen_sent[j] = true;
-            let k = bounds::spot_of(bounds::key_of(p, false, acked, oldest));
-            seen_waiting[k] = true;
-            i += 1;
+            let p = tables::place::place_at(t, i);
+            if p.status == Place::FREE {
+                odd = bounds::or_odd(odd, p);
+                i += 1;
+            } else {
+                odd = bounds::or_odd(odd, p);
+                flight += p.flight();
+                sent += p.is_sent() as usize;
+                waiting += (p.status == Place::WAITING) as usize;
+                let j = bounds::spot_of(bounds::key_of(p, true, acked, oldest));
+                seen_sent[j] = true;
+                let k = bounds::spot_of(bounds::key_of(p, false, acked, oldest));
+                seen_waiting[k] = true;
+                i += 1;
+            }
         }
     }
     Survey {
