@@ -1,21 +1,28 @@
 -- The loops over the held chunks, by the place that was read from its words. Assumes nothing.
 use Prim.Native.Nat.{ℕ, _+_, _<_, _≤_}
-use mathlib.Core.Path.{_≡_, ap, _∙_, subst}
+use mathlib.Core.Path.{_≡_, refl, ap, _∙_, subst}
 use mathlib.Core.Bool.{Bool, true, false}
 use mathlib.Core.List.{List}
-use lib.ListN.{getD, set, take}
+use native.Mathlib.Omega.{arith}
+use native.Mathlib.Decide.{decLt}
+use borrow.Author.Tests.{lt-ltb, le-ltb}
+use lib.ListN.{length, getD, set, take, replicate}
+use lib.Dec.{ltb}
 use mir.Val.{boolByte}
 use Rattle.numbers.specs.declared.keeping.Keeping.{Keeping}
 use Rattle.numbers.specs.Numbering.{Numbering, ring, far}
 use Rattle.numbers.specs.Profile.{Profile}
-use Rattle.scans.specs.Scan.{any, either}
+use Rattle.scans.specs.Scan.{any, either, pick, Counting, count-start, count-no, Seeking, seek-no}
 use Rattle.holding.specs.declared.held.Held.{Held}
 use Rattle.holding.specs.Held.{noHeld, holds}
 use Rattle.delivery.specs.Receiving.{isLow}
+use Rattle.delivery.specs.LowLaws.{low-free}
 use Rattle.delivery.specs.Contradiction.{contradictsNext}
-use Rattle.delivery.specs.LookLaws.{Looking, look-used}
-use Rattle.delivery.specs.Bounds.{isTwice}
-use Rattle.delivery.specs.BoundsLaws.{slotOf, Checking, check-seen, check-near, check-held, check-far}
+use Rattle.delivery.specs.LookLaws.{Looking, look-used, look-free, orFree}
+use Rattle.delivery.specs.Bounds.{isTwice, isUnfit}
+use Rattle.delivery.specs.BoundsLaws.{slotOf, Checking, check-start, check-free, unfit-free, check-seen, check-near, check-held, check-far}
+use Rattle.taking.specs.Taking.{freeFor}
+use Rattle.taking.specs.FreeLaws.{over-free, free-first}
 
 -- a used place, as it was read, in the pass that an arrival makes
 module _ {T : Numbering} {P : Profile} {k : Keeping} {hs : List Held} {h : Held} {i a : ℕ} {b d : Bool} {f : ℕ} (w : Looking T P k hs h i a b d f)
@@ -48,3 +55,41 @@ module _ {n base : ℕ} {hs : List Held} {m : ℕ} {seen : List Bool} {i : ℕ} 
 
     pub read-far : 512 ≤ d → y ≡ false → Checking n base hs m seen (i + 1)
     read-far l q = check-far w h u there before l q
+
+-- free places, in the pass that weighs them
+module _ (T : Numbering) (P : Profile) (k : Keeping) {hs : List Held} where
+  pub weigh-free : {n base m : ℕ} {seen : List Bool} {i low : ℕ} (j : ℕ)
+      → Checking n base hs m seen i × Seeking (isUnfit P) hs m i × Counting (isLow T k) hs m i low → i + j ≤ m → freeFor hs i j ≡ true
+      → Checking n base hs m seen (i + j) × Seeking (isUnfit P) hs m (i + j) × Counting (isLow T k) hs m (i + j) low
+  weigh-free {n} {base} {m} {seen} {i} {low} j w l e =
+      over-free (λ (x : ℕ). Checking n base hs m seen x × Seeking (isUnfit P) hs m x × Counting (isLow T k) hs m x low) hs j i e
+      (λ x a b u v. (check-free (v .0) (omega arith) u, seek-no (v .1) noHeld (omega arith) (unfit-free P (getD hs x noHeld) u), count-no (v .2) noHeld (omega arith) (low-free T k (getD hs x noHeld) u))) w
+
+  -- those from the first on
+  pub weigh-first : {n base m : ℕ} (j : ℕ) → length hs ≡ m → base < n → j ≤ m → freeFor hs 0 j ≡ true
+      → Checking n base hs m (replicate 512 false) j × Seeking (isUnfit P) hs m j × Counting (isLow T k) hs m j 0
+  weigh-first {n} {base} {m} j q b l e =
+      let z : 0 + j ≡ j = omega arith in
+      rw z at (weigh-free j (check-start n base hs m q b, record { long = q; rest = refl }, count-start (isLow T k) hs m q) (omega arith) e)
+
+-- and in the other, where the first of eight is the lowest free place, if there was none
+module _ {T : Numbering} {P : Profile} {k : Keeping} {hs : List Held} where
+  pub look-eight : {h : Held} {i a : ℕ} {b d : Bool} {f g : ℕ} → Looking T P k hs h i a b d f → i + 8 ≤ P .places → freeFor hs i 8 ≡ true → g ≡ orFree P f i
+      → Looking T P k hs h (i + 8) a b d g
+  look-eight {h} {i} {a} {b} {d} {f} {g} w l e q =
+      let z : i + 1 + 7 ≡ i + 8 = omega arith in
+      let s = free-first hs i 7 e in
+      rw z at
+      (over-free (λ (x : ℕ). Looking T P k hs h x a b d g) hs 7 (i + 1) (s .1)
+      (λ x y u v o. look-free o (omega arith) v (stays x)) (look-free w (omega arith) (s .0) q))
+    where
+      stays : (x : ℕ) → g ≡ orFree P g x
+      stays x = go (decLt f (P .places))
+        where
+          go : Dec (f < P .places) → g ≡ orFree P g x
+          go (yes r) =
+              let y : g ≡ f = q ∙ rw (lt-ltb f (P .places) r) in
+              rw (y, lt-ltb f (P .places) r)
+          go (no r) =
+              let y : g ≡ i = q ∙ rw (le-ltb f (P .places) (omega arith)) in
+              rw (y, lt-ltb i (P .places) (omega arith))

@@ -43,7 +43,10 @@ fn look_for(keeping: Keeping, words: &[u32; held::WORDS], c: Chunk) -> Look
     let mut free = Rail::PLACES;
     let mut i: usize = 0;
     while i < Rail::PLACES {
-        if held::is_used(words, i) {
+        if choosing::are_free(words, i) {
+            free = arrival::or_free(free, i);
+            i += 8;
+        } else if held::is_used(words, i) {
             let h = held::held_at(words, i);
             let t = h.tsn;
             let offset = keeping.offset(t);

@@ -5,7 +5,9 @@ use numbers::Keeping;
 use numbers::Rail;
 use numbers::Tsn;
 use tables::held;
+use taking::choosing;
 ghost use mathlib.Core.Path.{_≡_};
+ghost use mathlib.Core.Bool.{true};
 ghost use mathlib.Core.List.{[]};
 ghost use Prim.Native.Nat.{_^_, _≤_};
 ghost use lib.ListN.{take};
@@ -16,6 +18,7 @@ ghost use Rattle.holding.specs.Held.{holds};
 ghost use Rattle.delivery.specs.Bounds.{isSound};
 ghost use Rattle.delivery.specs.BoundsLaws.{weightOf};
 ghost use Rattle.tables.specs.Held.{heldOf};
+ghost use Rattle.taking.specs.Taking.{freeFor};
 ghost use Rattle.reception.specs.Reception.{seen};
 
 // Whether one of the first places holds the chunk of the number.
@@ -33,19 +36,40 @@ fn is_held_before(words: &[u32; held::WORDS], place: usize, tsn: Tsn) -> bool
     false
 }
 
+// How many places from the first on are free, counted by eights.
+fn free_before(words: &[u32; held::WORDS]) -> usize
+    ensures { λ n. ⌜ (freeFor (heldOf rail (now (words .entry))) 0 n ≡ true) × (n ≤ 128) ⌝ }
+{
+    let mut i: usize = 0;
+    while i < Rail::PLACES {
+        if choosing::are_free(words, i) {
+            i += 8;
+        } else {
+            return i;
+        }
+    }
+    i
+}
+
 // How many held chunks are low; more than may be where one is unfit or a number is held twice. A number near the point is looked up where it was
-// noted; only others are compared with all before them.
+// noted; only others are compared with all before them. Where nothing is held nothing is noted.
 fn weight(keeping: Keeping, words: &[u32; held::WORDS]) -> usize
     ensures { λ n. ⌜ (n ≡ weightOf (ring (2 ^ 32)) rail keeping (heldOf rail (now (words .entry)))) × (n ≤ 129) ⌝ }
 {
+    let start = free_before(words);
+    if Rail::PLACES <= start {
+        return 0;
+    }
     let point = keeping.point;
     let base = point.after(bounds::BEFORE);
     let come = keeping.come;
     let mut low: usize = 0;
     let mut seen = [false; bounds::NEAR];
-    let mut i: usize = 0;
+    let mut i: usize = start;
     while i < Rail::PLACES {
-        if held::is_used(words, i) {
+        if choosing::are_free(words, i) {
+            i += 8;
+        } else if held::is_used(words, i) {
             let h = held::held_at(words, i);
             let stream = h.stream;
             if Rail::is_misfit(h.len, stream) {
@@ -83,6 +107,9 @@ pub fn is_sound(keeping: Keeping, words: &[u32; held::WORDS]) -> bool
         return false;
     }
     let n = weight(keeping, words);
+    if n < 1 {
+        return true;
+    }
     if Rail::PLACES < keeping.highest() + n {
         return false;
     }

@@ -41,6 +41,12 @@ free-add hs (suc a) i b = let z : suc a + b ≡ suc (a + b) = omega arith in rw 
     go e true = refl
     go e false = e ∙ ap (λ (k : ℕ). pick (freeFor hs (i + 1) a) (freeFor hs k b) false) (omega arith)
 
+-- eight more behind those from the first on
+pub free-more : (hs : List Held) (n : ℕ) → freeFor hs 0 n ≡ true → freeFor hs n 8 ≡ true → freeFor hs 0 (n + 8) ≡ true
+free-more hs n e f =
+    let z : 0 + n ≡ n = omega arith in
+    rw (free-add hs n 0 8, e, z) f
+
 -- what the test of eight says
 pub free-eight : (hs : List Held) (i : ℕ) {y : Bool} → y ≡ pick (ltb 120 i) false (freeFor hs i 8) → y ≡ true → (i ≤ 120) × (freeFor hs i 8 ≡ true)
 free-eight hs i e t = go (ltb 120 i) refl (sym e ∙ t)
