@@ -1,21 +1,14 @@
 -- What the functions that serve an event have to show. Assumes nothing.
 use Prim.Native.Nat.{ℕ}
-use mathlib.Core.Path.{_≡_, refl, sym, ap, subst, _∙_}
-use mathlib.Core.Bool.{Bool, true, false}
+use mathlib.Core.Path.{_≡_, refl, sym, ap, _∙_}
 use mathlib.Core.List.{List, []}
-use native.Mathlib.Omega.{arith}
-use borrow.Author.Tests.{ne-eqb, eqb-false}
-use lib.Dec.{eqb}
-use Rattle.scans.specs.Scan.{pick}
 use Rattle.association.specs.declared.ends.Association.{Association}
 use Rattle.calls.specs.declared.answer.Answer.{Answer}
-use Rattle.association.specs.Bounds.{earlier}
-use Rattle.calls.specs.Answer.{Plan, refusing, quietly, answerOf, outOf, Done, Kept}
-use Rattle.calls.specs.AnswerLaws.{Refused, done-refused}
+use Rattle.calls.specs.Answer.{Plan, answerOf, outOf, Done, Kept}
 use Rattle.events.specs.declared.told.Told.{Told}
 use Rattle.events.specs.declared.told.Ran.{Ran}
 use Rattle.events.specs.Told.{ofAnswer}
-use Rattle.entry.specs.Happening.{Left}
+use Rattle.events.specs.Happening.{Left}
 
 -- what is told of a call, and what then stands in the buffer that it writes
 pub record Gave (x : Ran) (y : List ℕ) (r : Ran) (exit : List ℕ) : Type 0 where
@@ -32,17 +25,6 @@ Followed p out r exit = Gave (ofAnswer (answerOf p out)) (outOf p out) r exit
 
 pub followed : {p : Plan} {out exit : List ℕ} {q : Answer} {r : Ran} → Done p out q exit → r ≡ ofAnswer q → Followed p out r exit
 followed d e = gave (λ (x : Answer). ofAnswer x) (d .answer) (d .bytes) e
-
--- a refusal, and that 19 is one
-pub refused-done : (a : Association) {m n : ℕ} {out : List ℕ} {r : Answer} → m ≡ n → (m ≡ 0 → ⊥) → Refused a m r → Done (refusing a n) out r out
-refused-done a {m} {n} {out} {r} e ne t = subst (λ (p : Plan). Done p out r out) (ap (λ (b : Bool). pick b (quietly a) (refusing a n)) (ne-eqb n 0 (λ z. ne (e ∙ z)))) (done-refused a (quietly a) e ne t)
-
-pub stray-refused : (m : ℕ) → earlier m 19 ≡ 0 → ⊥
-stray-refused m = go (eqb m 0) refl
-  where
-    go : (t : Bool) → eqb m 0 ≡ t → pick t 19 m ≡ 0 → ⊥
-    go true e z = absurd (omega (arith, z))
-    go false e z = eqb-false m 0 e z
 
 -- the areas stay
 pub areas-stay : {x r : Ran} {y exit received sent : List ℕ} → Gave x y r exit → (r ≡ x) × ((received ≡ received) × ((sent ≡ sent) × (exit ≡ y)))

@@ -1,4 +1,2 @@
--- Any event of the host, and what it leaves.
-pub mod Happening
+-- What the functions that serve an event have to show.
 pub mod HappeningLaws
-pub mod WideLaws

@@ -4,7 +4,7 @@ use association::Association;
 use events::Ran;
 use events::Told;
 ghost use Rattle.events.specs.Event.{eventOf};
-ghost use Rattle.entry.specs.Happening.{lent, happened};
+ghost use Rattle.events.specs.Happening.{lent, happened};
 ghost use Rattle.entry.specs.HappeningLaws.{Served};
 
 // One event of a record that the host lends.

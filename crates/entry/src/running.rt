@@ -26,7 +26,7 @@ ghost use Rattle.calls.specs.Closing.{shutting, aborting};
 ghost use Rattle.calls.specs.Telling.{tellingStale, beating};
 ghost use Rattle.events.specs.Event.{eventOf};
 ghost use Rattle.events.specs.Told.{plainly, ofAnswer, ofHandedIn, ofTransmitted, ofAcknowledged, ofDelivered, ofArrived};
-ghost use Rattle.entry.specs.Happening.{lent, halves, unknownNumber, happened, tellingAny};
+ghost use Rattle.events.specs.Happening.{lent, halves, unknownNumber, happened, tellingAny};
 ghost use Rattle.entry.specs.HappeningLaws.{Gave, Followed};
 
 fn packet(

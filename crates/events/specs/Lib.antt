@@ -1,4 +1,7 @@
--- What can happen to an association, and what the host is told of it.
+-- What can happen to an association, what the host is told of it, and what it leaves.
 pub mod Event
 pub mod EventLaws
 pub mod Told
+pub mod Happening
+pub mod HappeningLaws
+pub mod WideLaws

@@ -1,25 +1,17 @@
 -- "One thin entry updates a record": each event is the call of its name, over the record by value, which lends its own tables.
 use Prim.Native.Nat.{ℕ}
-use mathlib.Core.Bool.{Bool, false}
-use mathlib.Core.List.{List, [], _++_}
-use lib.Dec.{ltb}
-use Rattle.scans.specs.Scan.{pick}
-use Rattle.octets.specs.Bytes.{be32}
-use Rattle.numbers.specs.declared.circle.StreamId.{StreamId}
-use Rattle.states.specs.declared.call.Call.the-variants.{HandIn as toHandIn, Acknowledge as toAcknowledge, FirstTimer, SecondTimer, ThirdTimer}
-use Rattle.association.specs.Bounds.{isSound, earlier}
-use Rattle.association.specs.declared.ends.Association as whole
-use Rattle.steps.specs.declared.lent.Lent.{Lent}
-use Rattle.steps.specs.declared.lent.Echoed.{Echoed}
+use mathlib.Core.Bool.{false}
+use mathlib.Core.List.{List, []}
+use Rattle.states.specs.declared.call.Call.the-variants.{HandIn as toHandIn, FirstTimer, SecondTimer, ThirdTimer}
 use Rattle.calls.specs.declared.acknowledging.Acknowledged.{Acknowledged}
-use Rattle.calls.specs.Answer.{Plan, refusing, answerOf, outOf, barred, isShortOut, isShortArea}
+use Rattle.calls.specs.Answer.{Plan, answerOf, outOf, barred, isShortArea}
 use Rattle.calls.specs.Opening.{associating}
 use Rattle.calls.specs.Messages.{takeBar}
 use Rattle.calls.specs.Transmit.{transmitBar}
 use Rattle.calls.specs.Acknowledging.{acknowledged, acknowledgedOut}
 use Rattle.calls.specs.Timers.{expiring, sampling}
 use Rattle.calls.specs.Closing.{shutting, aborting}
-use Rattle.calls.specs.Telling.{tellingStream, tellingStale, beating}
+use Rattle.calls.specs.Telling.{tellingStale, beating}
 use Rattle.flat.specs.declared.head.Head.{Head}
 use Rattle.flat.specs.declared.head.Association.{Association}
 use Rattle.flat.specs.Shown.{headOf, shows}
@@ -30,6 +22,7 @@ use Rattle.asks.specs.Transmit.{Dispatch, dispatched}
 use Rattle.landing.specs.Landing.{After, landed}
 use Rattle.events.specs.declared.event.Event.{Event}
 use Rattle.events.specs.declared.event.Event.the-variants.{Packet, Associate, HandIn, Transmit, Take, Acknowledge, T1, T2, T3, Shutdown, Abort, ErrorStream, ErrorStale, Heartbeat, Sample, Unknown}
+use Rattle.events.specs.Happening.{unknownNumber, tellingAny, halves}
 use Rattle.happening.specs.declared.told.Told.{Told}
 use Rattle.happening.specs.declared.told.Ran.{Ran}
 use Rattle.happening.specs.Told.{plainly, ofAnswered, ofAnswer, ofHanded, ofTransmitted, ofSack, ofDelivered, ofLanded}
@@ -111,21 +104,6 @@ abbrev pub lands : After → Buffers → Left
 lands x b =
     leftOf (ranOf (ofLanded (x .landed)) (withTables (x .landed .head) (record { held = x .held; next = x .next; places = x .places; nextOut = x .nextOut; kept = x .kept })))
     (x .area) (b .sent) (x .verdicts) (x .out)
-
--- 7 for a number that names no event, behind 1 as for every call
-unfoldable pub unknownNumber : whole.Association → ℕ
-unknownNumber a = pick (isSound a) 7 1
-
--- 19 "stream not agreed" for a stream that no chunk can name, behind 1, 18 and 7 as for every other
-unfoldable pub strayNumber : whole.Association → List ℕ → ℕ
-strayNumber a out = earlier (barred a (isShortOut out) toAcknowledge) 19
-
-unfoldable pub tellingAny : whole.Association → ℕ → List ℕ → Plan
-tellingAny a stream out = pick (ltb stream 65536) (tellingStream a (record { 0 = stream }) out) (refusing a (strayNumber a out))
-
--- the eight bytes of a HEARTBEAT's value
-unfoldable pub halves : ℕ → ℕ → List ℕ
-halves x y = be32 x ++ be32 y
 
 unfoldable pub happened : Association → Event → Buffers → Left
 happened a (Packet l e) b = lands (landed (b .input) l (b .cookie) e (a .head) (a .held) (a .«next_in») (a .places) (a .«next_out») (a .cookie) (b .received) (b .verdicts) (b .out)) b

@@ -32,8 +32,9 @@ ghost use Rattle.asks.specs.Messages.{handedOver, deliveredFrom};
 ghost use Rattle.asks.specs.Transmit.{dispatched};
 ghost use Rattle.landing.specs.Landing.{landed};
 ghost use Rattle.events.specs.Event.{eventOf};
+ghost use Rattle.events.specs.Happening.{unknownNumber, tellingAny, halves};
 ghost use Rattle.happening.specs.Told.{plainly};
-ghost use Rattle.happening.specs.Happening.{lent, leftOf, ranOf, leaving, withHead, planned, keeping, associates, lapses, hands, dispatches, delivers, acknowledges, lands, unknownNumber, tellingAny, halves, happened};
+ghost use Rattle.happening.specs.Happening.{lent, leftOf, ranOf, leaving, withHead, planned, keeping, associates, lapses, hands, dispatches, delivers, acknowledges, lands, happened};
 
 fn with_head(mut a: Association, head: Head) -> Association
     ensures { λ r. ⌜ r ≡ withHead a head ⌝ }

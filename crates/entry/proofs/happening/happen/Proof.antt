@@ -23,7 +23,7 @@ use Rattle.events.proofs.told.Ran
 use Rattle.events.proofs.told.Ran.Laws as Ran′
 use Rattle.events.proofs.told.Told
 use Rattle.events.proofs.told.Told.Laws as Told′
-use Rattle.entry.specs.Happening.{Left, lent, happened}
+use Rattle.events.specs.Happening.{Left, lent, happened}
 use Rattle.entry.specs.HappeningLaws.{Served}
 use Rattle.entry.proofs.running.run_coded as step
 use Rattle.entry.proofs.running.run_coded.Symbol as step-def

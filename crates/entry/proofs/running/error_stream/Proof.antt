@@ -1,8 +1,9 @@
 use mathlib.Core.Path.{sym, _∙_}
 use borrow.Author.Tests.{lt-ltb, le-ltb}
 use Rattle.association.specs.Bounds.{earlier}
-use Rattle.entry.specs.Happening.{strayNumber, tellingAny}
-use Rattle.entry.specs.HappeningLaws.{followed, refused-done, stray-refused}
+use Rattle.events.specs.Happening.{strayNumber, tellingAny}
+use Rattle.events.specs.HappeningLaws.{refused-done, stray-refused}
+use Rattle.entry.specs.HappeningLaws.{followed}
 use borrow.Author.Needs.{needs}
 use Rattle.entry.proofs.running.error_stream.Statement.{statement}
 use Rattle.entry.proofs.running.error_stream.Tie as tie

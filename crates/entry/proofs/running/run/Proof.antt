@@ -1,5 +1,5 @@
 use mathlib.Core.Path.{refl}
-use Rattle.entry.specs.Happening.{happened}
+use Rattle.events.specs.Happening.{happened}
 use Rattle.entry.specs.HappeningLaws.{areas-stay, all-stay}
 use borrow.Author.Needs.{needs}
 use Rattle.entry.proofs.running.run.Statement.{statement}

@@ -1,4 +1,4 @@
-use Rattle.entry.specs.Happening.{unknownNumber}
+use Rattle.events.specs.Happening.{unknownNumber}
 use borrow.Author.Needs.{needs}
 use Rattle.entry.proofs.running.unknown.Statement.{statement}
 use Rattle.entry.proofs.running.unknown.Tie as tie

@@ -5,7 +5,7 @@ use native.Mathlib.Omega.{arith}
 use lib.ListN.{replicate}
 use Rattle.octets.specs.Bytes.{be32, laid}
 use Rattle.octets.specs.BytesLaws.{laid-more, laid-is}
-use Rattle.entry.specs.Happening.{halves}
+use Rattle.events.specs.Happening.{halves}
 use borrow.Author.Needs.{needs}
 use Rattle.entry.proofs.running.value_of.Statement.{statement}
 use Rattle.entry.proofs.running.value_of.Tie as tie

@@ -2,10 +2,10 @@ use mathlib.Core.Path.{sym, _∙_}
 use borrow.Author.Tests.{lt-ltb, le-ltb}
 use borrow.Author.Needs.{needs}
 use Rattle.association.specs.Bounds.{earlier}
-use Rattle.happening.specs.HappeningLaws.{refuses, stray-refused}
-use Rattle.happening.specs.HappeningLaws.{refuses}
-use Rattle.happening.specs.HappeningLaws.{goes}
-use Rattle.happening.specs.Happening.{lent, tellingAny, strayNumber}
+use Rattle.events.specs.Happening.{tellingAny, strayNumber}
+use Rattle.events.specs.HappeningLaws.{stray-refused}
+use Rattle.happening.specs.HappeningLaws.{goes, refuses}
+use Rattle.happening.specs.Happening.{lent}
 use Rattle.happening.proofs.running.error_stream.Statement.{statement}
 use Rattle.happening.proofs.running.error_stream.Tie as tie
 

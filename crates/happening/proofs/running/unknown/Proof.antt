@@ -1,5 +1,5 @@
 use borrow.Author.Needs.{needs}
-use Rattle.happening.specs.Happening.{unknownNumber}
+use Rattle.events.specs.Happening.{unknownNumber}
 use Rattle.happening.proofs.running.unknown.Statement.{statement}
 use Rattle.happening.proofs.running.unknown.Tie as tie
 

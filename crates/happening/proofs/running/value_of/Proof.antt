@@ -6,7 +6,7 @@ use lib.ListN.{replicate}
 use borrow.Author.Needs.{needs}
 use Rattle.octets.specs.Bytes.{be32, laid}
 use Rattle.octets.specs.BytesLaws.{laid-more, laid-is}
-use Rattle.happening.specs.Happening.{halves}
+use Rattle.events.specs.Happening.{halves}
 use Rattle.happening.proofs.running.value_of.Statement.{statement}
 use Rattle.happening.proofs.running.value_of.Tie as tie
 

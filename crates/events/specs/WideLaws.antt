@@ -17,11 +17,11 @@ use Rattle.calls.specs.Answer.{isShortOut, barred, refusing, answerOf}
 use Rattle.calls.specs.Telling.{tellingStream}
 use Rattle.calls.specs.PortLaws.{associate-ported, stale-ported}
 use Rattle.calls.specs.StreamLaws.{handed-agreed}
 use Rattle.events.specs.declared.event.Event.{Event}
 use Rattle.events.specs.Event.{at, tsnAt, streamsAt, streamAt, portAt, handInOf, eventOf}
 use Rattle.events.specs.EventLaws.{port-wide, streams-fit, streams-wide, associate-coded, hand-in-coded, stray-coded, stale-coded}
-use Rattle.entry.specs.Happening.{Buffers, strayNumber, tellingAny, happened}
-use Rattle.entry.specs.HappeningLaws.{refused-done, stray-refused}
+use Rattle.events.specs.Happening.{Buffers, strayNumber, tellingAny, happened}
+use Rattle.events.specs.HappeningLaws.{refused-done, stray-refused}
 
 -- what is not below a limit is at least it
 below : (n : ℕ) {X : Type 0} → (n < 65536 → X) → (65536 ≤ n → X) → X
