@@ -11,3 +11,4 @@ pub mod Acknowledging
 pub mod AcknowledgingLaws
 pub mod Transmit
 pub mod TransmitLaws
+pub mod BesideLaws
