@@ -1,2 +1,3 @@
--- That each promise leaves one outcome.
+-- What the record's type tells, and that each promise leaves one outcome.
+mod Types
 pub mod Unique

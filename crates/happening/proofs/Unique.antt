@@ -15,7 +15,7 @@ use Rattle.happening.proofs.happening.happen as happen
 
 pub run-unique : (κs : _) (a : _) (r q : _) (s t : _) → run-reads.Post κs a r s → run-reads.Post κs a q t
     → (r ≡ q) × (now (s .1 .1 .0) ≡ now (t .1 .1 .0)) × (now (s .1 .1 .1 .0) ≡ now (t .1 .1 .1 .0)) × (now (s .1 .1 .1 .1 .0) ≡ now (t .1 .1 .1 .1 .0)) × (now (s .1 .1 .1 .1 .1 .1 .1 .0) ≡ now (t .1 .1 .1 .1 .1 .1 .1 .0))
-run-unique κs a r q s t x y = let e = x ∙ sym y in (λ i. e i .ran, λ i. e i .received, λ i. e i .sent, λ i. e i .verdicts, λ i. e i .out)
+run-unique κs a r q s t x y = let e = x .0 ∙ sym (y .0) in (λ i. e i .ran, λ i. e i .received, λ i. e i .sent, λ i. e i .verdicts, λ i. e i .out)
 
 pub run-coded-unique : (κs : _) (a : _) (r q : _) (s t : _) → run-coded-reads.Post κs a r s → run-coded-reads.Post κs a q t
     → (r ≡ q) × (now (s .1 .1 .1 .0) ≡ now (t .1 .1 .1 .0)) × (now (s .1 .1 .1 .1 .0) ≡ now (t .1 .1 .1 .1 .0)) × (now (s .1 .1 .1 .1 .1 .0) ≡ now (t .1 .1 .1 .1 .1 .0)) × (now (s .1 .1 .1 .1 .1 .1 .1 .1 .0) ≡ now (t .1 .1 .1 .1 .1 .1 .1 .1 .0))

@@ -28,39 +28,34 @@ toldOf t = telling (t .number) (t .length) (t .over) (t .went) (t .sack) (t .mes
 abbrev pub verdictsIn : definition.Left → List Verdict
 verdictsIn d = take (d .ran .told .seen .count) (d .ran .told .seen .verdicts)
 
--- l shows d; of the words that were lent for verdicts, those behind the last stay
+-- l shows d. The words lent for verdicts are 1,460 (365 chunks of four): of so many, the first tell the verdicts, and those behind stay. That is the array's
+-- type, which no contract over `&mut [u32; 1460]` learns
 pub record Shows (words : List ℕ) (l : Left) (d : definition.Left) : Type 0 where
   pub told : l .ran .told ≡ toldOf (d .ran .told)
   pub association : shows (l .ran .association) ≡ d .ran .association
   pub received : l .received ≡ d .received
   pub sent : l .sent ≡ d .sent
   pub out : l .out ≡ d .out
-  pub verdicts : take (4 * d .ran .told .seen .count) (l .verdicts) ≡ wordsOf (verdictsIn d)
-  pub rest : drop (4 * d .ran .told .seen .count) (l .verdicts) ≡ drop (4 * d .ran .told .seen .count) words
+  pub verdicts : length words ≡ 1460 → take (4 * d .ran .told .seen .count) (l .verdicts) ≡ wordsOf (verdictsIn d)
+  pub rest : length words ≡ 1460 → drop (4 * d .ran .told .seen .count) (l .verdicts) ≡ drop (4 * d .ran .told .seen .count) words
 
--- what the types of an event's values give
-abbrev pub Within : Event → Type 0
-Within (Packet l e) = Unit
-Within (Associate tag tsn port streams) = Unit
-Within (HandIn stream unordered ppid) = (stream .0 < 65536) × (ppid < 4294967296)
-Within Transmit = Unit
-Within Take = Unit
-Within Acknowledge = Unit
-Within T1 = Unit
-Within T2 = Unit
-Within T3 = Unit
-Within Shutdown = Unit
-Within (Abort why) = Unit
-Within (ErrorStream stream) = Unit
-Within (ErrorStale port tag late) = Unit
-Within (Heartbeat x y) = Unit
-Within (Sample ms) = Unit
-Within Unknown = Unit
-
--- what the types of all that is lent give: how long a table is, and how large a number
-pub record Typed (a : Association) (e : Event) (b : Buffers) : Type 0 where
-  pub sized : Sized (a .held) (a .«next_in») (a .places) (a .«next_out») (a .cookie)
-  pub next : a .head .sender .«next_tsn» .0 < 4294967296
-  pub words : length (b .verdicts) ≡ 1460
-  pub octets : (i : ℕ) → getD (b .input) i 0 < 256
-  pub event : Within e
+-- what an event asks of the types of its record, its values and its buffers: how long a table is, and how large a number. Every call has it: `running::run`
+-- shows it of its own parameters
+abbrev pub Typed : Association → Buffers → Event → Type 0
+Typed a b (Packet l e) =
+    Sized (a .held) (a .«next_in») (a .places) (a .«next_out») (a .cookie) × ((i : ℕ) → getD (b .input) i 0 < 256)
+Typed a b (Associate tag tsn port streams) = Unit
+Typed a b (HandIn stream unordered ppid) = (length (a .places) ≡ 1024) × (stream .0 < 65536) × (ppid < 4294967296)
+Typed a b Transmit = (length (a .places) ≡ 1024) × (length (a .«next_out») ≡ 128) × (a .head .sender .«next_tsn» .0 < 4294967296)
+Typed a b Take = (length (a .held) ≡ 512) × (length (a .«next_in») ≡ 128)
+Typed a b Acknowledge = Unit
+Typed a b T1 = Unit
+Typed a b T2 = Unit
+Typed a b T3 = length (a .places) ≡ 1024
+Typed a b Shutdown = Unit
+Typed a b (Abort why) = Unit
+Typed a b (ErrorStream stream) = Unit
+Typed a b (ErrorStale port tag late) = Unit
+Typed a b (Heartbeat x y) = Unit
+Typed a b (Sample ms) = Unit
+Typed a b Unknown = Unit

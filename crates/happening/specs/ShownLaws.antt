@@ -1,14 +1,18 @@
 -- An event over tables is the event of the definition, of the record that they show. Assumes nothing.
-use Prim.Native.Nat.{ℕ, suc, _<_}
-use mathlib.Core.Path.{refl, ap}
+use Prim.Native.Nat.{ℕ, suc, _*_, _<_}
+use mathlib.Core.Path.{_≡_, refl, sym, ap, subst, _∙_}
 use mathlib.Core.Bool.{false}
-use mathlib.Core.List.{List, [], _∷_}
+use mathlib.Core.List.{List, [], _∷_, _++_}
 use lib.Dec.{ltb}
-use lib.ListN.{getD}
+use lib.ListN.{length, getD, drop, replicate, length-replicate, take-append-drop}
 use Rattle.scans.specs.Upto.{pick-keeps}
 use Rattle.scans.specs.Each.{All}
 use Rattle.chunks.specs.Again.{Octet}
 use Rattle.states.specs.declared.call.Call.the-variants.{FirstTimer, SecondTimer}
+use Rattle.steps.specs.declared.lent.Lent.{Lent}
+use Rattle.steps.specs.declared.lent.Echoed.{Echoed}
+use Rattle.arriving.specs.Arrival.{arrivedOf, areaOf, outOf}
+use Rattle.rows.specs.RowsLaws.{Sized}
 use Rattle.calls.specs.declared.answer.Answer.{Answer}
 use Rattle.calls.specs.declared.messages.HandedIn.{HandedIn}
 use Rattle.calls.specs.declared.messages.Delivered.{Delivered}
@@ -20,18 +24,21 @@ use Rattle.calls.specs.Timers.{expiring, sampling}
 use Rattle.calls.specs.Closing.{shutting, aborting}
 use Rattle.calls.specs.Telling.{tellingStale, beating}
 use Rattle.flat.specs.declared.head.Association.{Association}
-use Rattle.flat.specs.Shown.{shows}
+use Rattle.flat.specs.Shown.{shown, shows}
 use Rattle.asks.specs.BesideLaws.{Beside, answer-beside, expiry-beside, sample-beside, shutdown-beside, abort-beside, stream-beside, stale-beside, heartbeat-beside, sack-beside, opening-beside}
 use Rattle.asks.specs.MessagesLaws.{handover-shows, area-handed, delivery-shows, out-delivered}
 use Rattle.asks.specs.TimersLaws.{lapsed-shows}
 use Rattle.asks.specs.TransmitLaws.{dispatch-shows, out-dispatched}
-use Rattle.landing.specs.ShowLaws.{arrived-shows}
+use Rattle.landing.specs.Verdicts.{wordsOf, verdictsOf}
+use Rattle.landing.specs.VerdictsLaws.{Small, words-back}
+use Rattle.landing.specs.Landing.{After, landed}
+use Rattle.landing.specs.ShowLaws.{Arriving, arrived-shows, landed-any}
 use Rattle.events.specs.declared.event.Event.{Event}
 use Rattle.events.specs.declared.event.Event.the-variants.{Packet, Associate, HandIn, Transmit, Take, Acknowledge, T1, T2, T3, Shutdown, Abort, ErrorStream, ErrorStale, Heartbeat, Sample, Unknown}
 use Rattle.events.specs.Happening as definition
-use Rattle.happening.specs.Told.{noneWent, telling, plainly, ofAnswer}
+use Rattle.happening.specs.Told.{noneWent, telling, plainly, ofAnswer, ofLanded}
 use Rattle.happening.specs.Happening.{Buffers, Left, tablesOf, planned, keeping, happened}
-use Rattle.happening.specs.Shown.{lentOf, Shows, Typed}
+use Rattle.happening.specs.Shown.{lentOf, verdictsIn, Shows, Typed}
 
 all-octets : (s : List ℕ) → ((i : ℕ) → getD s i 0 < 256) → All Octet s
 all-octets [] h = tt
@@ -49,8 +56,8 @@ module _ (a : Association) (b : Buffers) where
     received = refl;
     sent = refl;
     out = refl;
-    verdicts = refl;
-    rest = refl;
+    verdicts = λ w. refl;
+    rest = λ w. refl;
   }
 
   keeping-shows : (p : Plan) → Beside (tablesOf a) p → Showing (keeping a p b) (definition.kept p (lentOf b))
@@ -60,8 +67,8 @@ module _ (a : Association) (b : Buffers) where
     received = refl;
     sent = refl;
     out = refl;
-    verdicts = refl;
-    rest = refl;
+    verdicts = λ w. refl;
+    rest = λ w. refl;
   }
 
   any-beside : (stream : ℕ) → Beside (tablesOf a) (definition.tellingAny (shows a) stream (b .out))
@@ -69,18 +76,26 @@ module _ (a : Association) (b : Buffers) where
   any-beside stream =
       pick-keeps (Beside (tablesOf a)) (ltb stream 65536) _ _ (stream-beside (a .head) (a .held) (a .«next_in») (a .places) (a .«next_out») (a .cookie) (record { 0 = stream }) (b .out)) refl
 
-  pub happened-shows : (e : Event) → Typed a e b → Showing (happened a e b) (definition.happened (shows a) e (lentOf b))
+  -- a packet, with words lent for its verdicts
+  arriving : (l : Lent) (e : Echoed) (words : List ℕ) → Sized (a .held) (a .«next_in») (a .places) (a .«next_out») (a .cookie) → ((i : ℕ) → getD (b .input) i 0 < 256) → length words ≡ 1460
+      → Arriving (landed (b .input) l (b .cookie) e (a .head) (a .held) (a .«next_in») (a .places) (a .«next_out») (a .cookie) (b .received) words (b .out))
+      (arrivedOf (shows a) (b .received) (b .input) l (b .cookie) e (b .out)) (areaOf (shows a) (b .received) (b .input) l (b .cookie) e (b .out)) (outOf (shows a) (b .received) (b .input) l (b .cookie) e (b .out)) words
+  arriving l e words z o m =
+      arrived-shows (b .input) (all-octets (b .input) o) l (b .cookie) e (a .head) (a .held) (a .«next_in») (a .places) (a .«next_out») (a .cookie) (b .received) words (b .out) z m
+
+  pub happened-shows : (e : Event) → Typed a b e → Showing (happened a e b) (definition.happened (shows a) e (lentOf b))
   unfolding happened definition.happened
   happened-shows (Packet l e) t =
-      let w = arrived-shows (b .input) (all-octets (b .input) (t .octets)) l (b .cookie) e (a .head) (a .held) (a .«next_in») (a .places) (a .«next_out») (a .cookie) (b .received) (b .verdicts) (b .out) (t .sized) (t .words) in
+      let w = arriving l e (replicate 1460 0) (t .0) (t .1) (length-replicate {A = ℕ} 1460 0) in
+      let q = landed-any (b .input) l (b .cookie) e (a .head) (a .held) (a .«next_in») (a .places) (a .«next_out») (a .cookie) (b .received) (b .out) (b .verdicts) (replicate 1460 0) in
       record {
-        told = λ i. telling (w .number i) (w .reply i) false noneWent noSack (noMessage 0) (w .count i);
-        association = w .association;
-        received = w .area;
+        told = ap (λ (x : After). ofLanded (x .landed)) q ∙ (λ i. telling (w .number i) (w .reply i) false noneWent noSack (noMessage 0) (w .count i));
+        association = ap (λ (x : After). shown (x .landed .head) (x .held) (x .next) (x .places) (x .nextOut) (x .kept)) q ∙ w .association;
+        received = ap (λ (x : After). x .area) q ∙ w .area;
         sent = refl;
-        out = w .out;
-        verdicts = w .told;
-        rest = w .rest;
+        out = ap (λ (x : After). x .out) q ∙ w .out;
+        verdicts = λ m. arriving l e (b .verdicts) (t .0) (t .1) m .told;
+        rest = λ m. arriving l e (b .verdicts) (t .0) (t .1) m .rest;
       }
   happened-shows (Associate tag tsn port streams) t = record {
     told = refl;
@@ -88,41 +103,41 @@ module _ (a : Association) (b : Buffers) where
     received = refl;
     sent = refl;
     out = refl;
-    verdicts = refl;
-    rest = refl;
+    verdicts = λ w. refl;
+    rest = λ w. refl;
   }
   happened-shows (HandIn stream unordered ppid) t =
-      let w = handover-shows (a .head) (a .held) (a .«next_in») (a .places) (a .«next_out») (a .cookie) (b .sent) (b .input) stream unordered ppid (t .sized .places) (t .event .0) (t .event .1) in
+      let w = handover-shows (a .head) (a .held) (a .«next_in») (a .places) (a .«next_out») (a .cookie) (b .sent) (b .input) stream unordered ppid (t .0) (t .1) (t .2) in
       record {
         told = ap (λ (x : HandedIn). plainly (x .number) (x .chunks) false) w;
         association = ap (λ (x : HandedIn). x .association) w;
         received = refl;
         sent = area-handed (a .head) (a .held) (a .«next_in») (a .places) (a .«next_out») (a .cookie) (b .sent) (b .input) stream unordered ppid;
         out = refl;
-        verdicts = refl;
-        rest = refl;
+        verdicts = λ w. refl;
+        rest = λ w. refl;
       }
   happened-shows Transmit t =
-      let w = dispatch-shows (a .head) (a .held) (a .«next_in») (a .places) (a .«next_out») (a .cookie) (b .sent) (b .out) (t .sized .places) (t .sized .nextOut) (t .next) in
+      let w = dispatch-shows (a .head) (a .held) (a .«next_in») (a .places) (a .«next_out») (a .cookie) (b .sent) (b .out) (t .0) (t .1) (t .2) in
       record {
         told = ap (λ (x : Transmitted). telling (x .number) (x .length) false (record { resent = x .resent; first = x .first; last = x .last }) noSack (noMessage 0) 0) w;
         association = ap (λ (x : Transmitted). x .association) w;
         received = refl;
         sent = refl;
-        out = out-dispatched (a .head) (a .held) (a .«next_in») (a .places) (a .«next_out») (a .cookie) (b .sent) (b .out) (t .sized .places) (t .sized .nextOut) (t .next);
-        verdicts = refl;
-        rest = refl;
+        out = out-dispatched (a .head) (a .held) (a .«next_in») (a .places) (a .«next_out») (a .cookie) (b .sent) (b .out) (t .0) (t .1) (t .2);
+        verdicts = λ w. refl;
+        rest = λ w. refl;
       }
   happened-shows Take t =
-      let w = delivery-shows (a .head) (a .held) (a .«next_in») (a .places) (a .«next_out») (a .cookie) (b .received) (b .out) (t .sized .held) (t .sized .next) in
+      let w = delivery-shows (a .head) (a .held) (a .«next_in») (a .places) (a .«next_out») (a .cookie) (b .received) (b .out) (t .0) (t .1) in
       record {
         told = ap (λ (x : Delivered). telling (x .number) (x .message .length) false noneWent noSack (x .message) 0) w;
         association = ap (λ (x : Delivered). x .association) w;
         received = refl;
         sent = refl;
         out = out-delivered (a .head) (a .held) (a .«next_in») (a .places) (a .«next_out») (a .cookie) (b .received) (b .out);
-        verdicts = refl;
-        rest = refl;
+        verdicts = λ w. refl;
+        rest = λ w. refl;
       }
   happened-shows Acknowledge t = record {
     told = refl;
@@ -130,21 +145,21 @@ module _ (a : Association) (b : Buffers) where
     received = refl;
     sent = refl;
     out = refl;
-    verdicts = refl;
-    rest = refl;
+    verdicts = λ w. refl;
+    rest = λ w. refl;
   }
   happened-shows T1 t = planned-shows (expiring (shows a) FirstTimer (b .out)) (expiry-beside (a .head) (a .held) (a .«next_in») (a .places) (a .«next_out») (a .cookie) FirstTimer (b .out))
   happened-shows T2 t = planned-shows (expiring (shows a) SecondTimer (b .out)) (expiry-beside (a .head) (a .held) (a .«next_in») (a .places) (a .«next_out») (a .cookie) SecondTimer (b .out))
   happened-shows T3 t =
-      let w = lapsed-shows (a .head) (a .held) (a .«next_in») (a .places) (a .«next_out») (a .cookie) (t .sized .places) in
+      let w = lapsed-shows (a .head) (a .held) (a .«next_in») (a .places) (a .«next_out») (a .cookie) t in
       record {
         told = ap (λ (x : Answer). ofAnswer x) (w .answer);
         association = ap (λ (x : Answer). x .association) (w .answer);
         received = refl;
         sent = refl;
         out = refl;
-        verdicts = refl;
-        rest = refl;
+        verdicts = λ w. refl;
+        rest = λ w. refl;
       }
   happened-shows Shutdown t = planned-shows (shutting (shows a) (b .out)) (shutdown-beside (a .head) (a .held) (a .«next_in») (a .places) (a .«next_out») (a .cookie) (b .out))
   happened-shows (Abort why) t = planned-shows (aborting (shows a) why (b .out)) (abort-beside (a .head) (a .held) (a .«next_in») (a .places) (a .«next_out») (a .cookie) why (b .out))
@@ -160,6 +175,18 @@ module _ (a : Association) (b : Buffers) where
     received = refl;
     sent = refl;
     out = refl;
-    verdicts = refl;
-    rest = refl;
+    verdicts = λ w. refl;
+    rest = λ w. refl;
   }
+
+  -- what leaves what it should shows what it should
+  pub left-shows : (e : Event) {l : Left} → l ≡ happened a e b → Typed a b e → (l ≡ happened a e b) × Showing l (definition.happened (shows a) e (lentOf b))
+  left-shows e {l} p t = (p, subst (λ (x : Left). Showing x (definition.happened (shows a) e (lentOf b))) (sym p) (happened-shows e t))
+
+-- read back, the words are the verdicts, where each is within its words: a packet that is let in has at most 1,472 bytes, a number is that of a `Fate` (a `u8`), and
+-- what happened is at most 5
+pub verdicts-read : {words : List ℕ} {l : Left} {d : definition.Left} → Shows words l d → length words ≡ 1460 → All Small (verdictsIn d) → verdictsOf (length (verdictsIn d)) (l .verdicts) ≡ verdictsIn d
+verdicts-read {words} {l} {d} w m s =
+    let n : ℕ = 4 * d .ran .told .seen .count in
+    let e : l .verdicts ≡ wordsOf (verdictsIn d) ++ drop n (l .verdicts) = sym (take-append-drop n (l .verdicts)) ∙ ap (λ (x : List ℕ). x ++ drop n (l .verdicts)) (w .verdicts m) in
+    ap (λ (x : List ℕ). verdictsOf (length (verdictsIn d)) x) e ∙ words-back (verdictsIn d) (drop n (l .verdicts)) s

@@ -1,11 +1,14 @@
 -- What does not fit in 16 bits passes for nothing that does (`events`), over tables too. Assumes nothing.
 use Prim.Native.Nat.{ℕ, _<_}
-use mathlib.Core.Path.{_≡_, sym, ap, _∙_}
+use mathlib.Core.Path.{_≡_, sym, ap, subst, _∙_}
+use mathlib.Core.Bool.{true, false}
 use mathlib.Core.List.{List}
 use Rattle.flat.specs.declared.head.Association.{Association}
 use Rattle.flat.specs.Shown.{shows}
 use Rattle.events.specs.declared.event.Event.{Event}
-use Rattle.events.specs.Event.{at, eventOf}
+use Rattle.events.specs.declared.event.Event.the-variants.{ErrorStream}
+use Rattle.events.specs.Event.{at, associateOf, handInOf, staleOf, eventOf}
+use Rattle.events.specs.EventLaws.{associate-coded, hand-in-coded, stray-coded, stale-coded}
 use Rattle.events.specs.Happening as definition
 use Rattle.events.specs.WideLaws as wide
 use Rattle.happening.specs.declared.told.Told.{Told}
@@ -15,24 +18,25 @@ use Rattle.happening.specs.ShownLaws.{happened-shows}
 
 module _ (a : Association) (vs : List ℕ) (b : Buffers) where
   -- the number that is told is the definition's
-  same-number : (e : Event) → Typed a e b → happened a e b .ran .told .number ≡ 0 → definition.happened (shows a) e (lentOf b) .ran .told .number ≡ 0
-  same-number e t z = sym (ap (λ (x : Told). x .number) (happened-shows a b e t .told)) ∙ z
+  same-number : (k : ℕ) (e : Event) → eventOf k vs ≡ e → Typed a b e → happened a (eventOf k vs) b .ran .told .number ≡ 0 → definition.happened (shows a) (eventOf k vs) (lentOf b) .ran .told .number ≡ 0
+  same-number k e p t z =
+      sym (ap (λ (x : Told). x .number) (happened-shows a b (eventOf k vs) (subst (λ (x : Event). Typed a b x) (sym p) t) .told)) ∙ z
 
   -- the peer's port
-  pub associate-fits : Typed a (eventOf 3 vs) b → happened a (eventOf 3 vs) b .ran .told .number ≡ 0 → at vs 2 < 65536
-  associate-fits t z = wide.associate-fits (shows a) vs (lentOf b) (same-number (eventOf 3 vs) t z)
+  pub associate-fits : happened a (eventOf 3 vs) b .ran .told .number ≡ 0 → at vs 2 < 65536
+  associate-fits z = wide.associate-fits (shows a) vs (lentOf b) (same-number 3 (associateOf vs) (associate-coded vs) tt z)
 
   -- the stream of a message, ordered or not: below 128 as it was given
-  pub hand-in-fits : (Typed a (eventOf 4 vs) b → happened a (eventOf 4 vs) b .ran .told .number ≡ 0 → at vs 0 < 128) × (Typed a (eventOf 5 vs) b → happened a (eventOf 5 vs) b .ran .told .number ≡ 0 → at vs 0 < 128)
+  pub hand-in-fits : (Typed a b (handInOf vs false) → happened a (eventOf 4 vs) b .ran .told .number ≡ 0 → at vs 0 < 128) × (Typed a b (handInOf vs true) → happened a (eventOf 5 vs) b .ran .told .number ≡ 0 → at vs 0 < 128)
   hand-in-fits = (
-    λ t z. wide.hand-in-fits (shows a) vs (lentOf b) .0 (same-number (eventOf 4 vs) t z),
-    λ t z. wide.hand-in-fits (shows a) vs (lentOf b) .1 (same-number (eventOf 5 vs) t z),
+    λ t z. wide.hand-in-fits (shows a) vs (lentOf b) .0 (same-number 4 (handInOf vs false) (hand-in-coded vs .0) t z),
+    λ t z. wide.hand-in-fits (shows a) vs (lentOf b) .1 (same-number 5 (handInOf vs true) (hand-in-coded vs .1) t z),
   )
 
   -- the port of the cookie's peer
-  pub stale-fits : Typed a (eventOf 17 vs) b → happened a (eventOf 17 vs) b .ran .told .number ≡ 0 → at vs 0 < 65536
-  stale-fits t z = wide.stale-fits (shows a) vs (lentOf b) (same-number (eventOf 17 vs) t z)
+  pub stale-fits : happened a (eventOf 17 vs) b .ran .told .number ≡ 0 → at vs 0 < 65536
+  stale-fits z = wide.stale-fits (shows a) vs (lentOf b) (same-number 17 (staleOf vs) (stale-coded vs) tt z)
 
   -- the stream of an ERROR
-  pub stray-fits : Typed a (eventOf 16 vs) b → happened a (eventOf 16 vs) b .ran .told .number ≡ 0 → at vs 0 < 65536
-  stray-fits t z = wide.stray-fits (shows a) vs (lentOf b) (same-number (eventOf 16 vs) t z)
+  pub stray-fits : happened a (eventOf 16 vs) b .ran .told .number ≡ 0 → at vs 0 < 65536
+  stray-fits z = wide.stray-fits (shows a) vs (lentOf b) (same-number 16 (ErrorStream (at vs 0)) (stray-coded vs) tt z)

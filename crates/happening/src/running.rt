@@ -32,9 +32,10 @@ ghost use Rattle.asks.specs.Messages.{handedOver, deliveredFrom};
 ghost use Rattle.asks.specs.Transmit.{dispatched};
 ghost use Rattle.landing.specs.Landing.{landed};
 ghost use Rattle.events.specs.Event.{eventOf};
-ghost use Rattle.events.specs.Happening.{unknownNumber, tellingAny, halves};
+ghost use Rattle.events.specs.Happening.{unknownNumber, tellingAny, halves, happened as defined};
 ghost use Rattle.happening.specs.Told.{plainly};
 ghost use Rattle.happening.specs.Happening.{lent, leftOf, ranOf, leaving, withHead, planned, keeping, associates, lapses, hands, dispatches, delivers, acknowledges, lands, happened};
+ghost use Rattle.happening.specs.Shown.{lentOf, Shows};
 
 fn with_head(mut a: Association, head: Head) -> Association
     ensures { λ r. ⌜ r ≡ withHead a head ⌝ }
@@ -387,7 +388,8 @@ fn unknown(a: Association) -> Ran
     }
 }
 
-// One event. `input` is the packet that arrives or the message handed in; `cookie` is lent for an INIT.
+// One event. `input` is the packet that arrives or the message handed in; `cookie` is lent for an INIT. What is left is said twice: word for word, and as the
+// definition has it of the record that is shown.
 pub fn run(
     a: Association,
     event: Event,
@@ -399,6 +401,7 @@ pub fn run(
     out: &mut [u8],
 ) -> Ran
     ensures { λ r. ⌜ leftOf r (now (received .exit)) (now (sent .exit)) (now (verdicts .exit)) (now (out .exit)) ≡ happened a event (lent (now (received .entry)) (now (sent .entry)) (now (verdicts .entry)) (now (input .entry)) (now (cookie .entry)) (now (out .entry))) ⌝ }
+    ensures { λ r. ⌜ Shows (now (verdicts .entry)) (leftOf r (now (received .exit)) (now (sent .exit)) (now (verdicts .exit)) (now (out .exit))) (defined (shows a) event (lentOf (lent (now (received .entry)) (now (sent .entry)) (now (verdicts .entry)) (now (input .entry)) (now (cookie .entry)) (now (out .entry))))) ⌝ }
 {
     match event {
         Event::Packet(from, echoed) => packet(

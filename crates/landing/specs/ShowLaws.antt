@@ -2,7 +2,7 @@
 use Prim.Native.Nat.{ℕ, zero, suc, _+_, _-_, _*_, _<_, _≤_}
 use mathlib.Core.Path.{_≡_, refl, sym, ap, _∙_, subst}
 use mathlib.Core.Bool.{Bool, true, false}
-use mathlib.Core.List.{List, _++_}
+use mathlib.Core.List.{List, [], _++_}
 use native.Mathlib.Decide.{decLt}
 use native.Mathlib.Omega.{arith}
 use lib.Dec.{ltb, eqb}
@@ -304,6 +304,59 @@ module _ (packet : List ℕ) (octets : All Octet packet) (lent : Lent) (cookie :
           let-in-shows verdicts turns turnsOf packet out
           (passed-shows packet octets lent cookie h held next places nextOut kept area verdicts sized words (heeded e))
       go false = refused-shows (numberOf a area packet e out)
+
+-- ---- the words lent for verdicts have no part in all else
+
+abbrev unsaid : Turn → Turn
+unsaid t = turnOf (t .walk) (t .held) (t .next) (t .places) (t .nextOut) (t .kept) (t .area) [] (t .space)
+
+turned-unsaid : (at : ℕ) (b : Beside) (cookie s : List ℕ) (t : Turn) → unsaid (turnedIn at b cookie s t) ≡ unsaid (turnedIn at b cookie s (unsaid t))
+unfolding turned turnedIn
+turned-unsaid at b cookie s t = go (t .walk .unread)
+  where
+    go : (x : Bool)
+        → unsaid (inWhole (t .space) (t .walk .used) (pick x (unreadTurn at (inPart t)) (readTurn at (inPart t) (rowedAt at b cookie s (inPart t)))))
+        ≡ unsaid (inWhole (t .space) (t .walk .used) (pick x (unreadTurn at (inPart (unsaid t))) (readTurn at (inPart (unsaid t)) (rowedAt at b cookie s (inPart (unsaid t))))))
+    go true = refl
+    go false = refl
+
+turned-alike : (at : ℕ) (b : Beside) (cookie s : List ℕ) (t u : Turn) → unsaid t ≡ unsaid u → unsaid (turnedIn at b cookie s t) ≡ unsaid (turnedIn at b cookie s u)
+turned-alike at b cookie s t u q = turned-unsaid at b cookie s t ∙ (ap (λ (x : Turn). unsaid (turnedIn at b cookie s x)) q ∙ sym (turned-unsaid at b cookie s u))
+
+-- what a packet leaves, but for those words
+abbrev pub wordless : After → After
+wordless x = afterOf (x .landed) (x .held) (x .next) (x .places) (x .nextOut) (x .kept) (x .area) [] (x .out)
+
+let-in-unsaid : (t : Turn) (packet out : List ℕ) → wordless (letIn t packet out) ≡ wordless (letIn (unsaid t) packet out)
+unfolding letIn
+let-in-unsaid t packet out = refl
+
+module _ (packet : List ℕ) (lent : Lent) (cookie : List ℕ) (e : Echoed) (h : Head) (held next places nextOut kept area out verdicts words : List ℕ) where
+  passed-any : (w : Echoed) → unsaid (passed packet lent cookie w h held next places nextOut kept area verdicts) ≡ unsaid (passed packet lent cookie w h held next places nextOut kept area words)
+  unfolding passed walkedOver
+  passed-any w =
+      over-both (λ (t u : Turn). unsaid t ≡ unsaid u) _ _ packet
+      (λ t u at q. turned-alike (length packet - length (drop at packet)) _ cookie (drop at packet) t u q)
+      (length packet) _ _ 12 (omega arith) refl
+
+  let-in-any : (w : Echoed)
+      → wordless (letIn (passed packet lent cookie w h held next places nextOut kept area verdicts) packet out) ≡ wordless (letIn (passed packet lent cookie w h held next places nextOut kept area words) packet out)
+  let-in-any w =
+      let-in-unsaid (passed packet lent cookie w h held next places nextOut kept area verdicts) packet out
+      ∙ (ap (λ (t : Turn). wordless (letIn t packet out)) (passed-any w) ∙ sym (let-in-unsaid (passed packet lent cookie w h held next places nextOut kept area words) packet out))
+
+  pub landed-any : wordless (landed packet lent cookie e h held next places nextOut kept area verdicts out) ≡ wordless (landed packet lent cookie e h held next places nextOut kept area words out)
+  unfolding landed
+  landed-any = go (eqb (numberOf (shown h held next places nextOut kept) area packet e out) 0)
+    where
+      number : ℕ
+      number = numberOf (shown h held next places nextOut kept) area packet e out
+
+      go : (x : Bool)
+          → wordless (pick x (letIn (passed packet lent cookie (heeded e) h held next places nextOut kept area verdicts) packet out) (afterOf (refusedAs h number) held next places nextOut kept area verdicts out))
+          ≡ wordless (pick x (letIn (passed packet lent cookie (heeded e) h held next places nextOut kept area words) packet out) (afterOf (refusedAs h number) held next places nextOut kept area words out))
+      go true = let-in-any (heeded e)
+      go false = refl
 
 -- read back, the words are the verdicts, where each is within its words: a packet has no more than 1,472 bytes, and each number its type
 pub verdicts-show : {x : After} {r : Arrived} {area' out' lent : List ℕ} → Arriving x r area' out' lent → All Small (take (r .count) (r .verdicts)) → verdictsOf (x .landed .count) (x .verdicts) ≡ take (r .count) (r .verdicts)

@@ -18,7 +18,7 @@ same-length-3 : tie.Need-same-length-3
 same-length-3 c = search needs
 
 returns : tie.Need-returns
-returns c = rw (← c .before .before .before .before .before .before .before .before .before .before .before .of .ensures) (c .before .before .before .before .before .before .run .ensures)
+returns c = rw (← c .before .before .before .before .before .before .before .before .before .before .before .of .ensures) (c .before .before .before .before .before .before .run .ensures .0)
 
 pub run-coded-spec : {M : Type 1} → statement M
 run-coded-spec =
