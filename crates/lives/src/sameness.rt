@@ -1,90 +1,110 @@
-// Whether two records are the same in every field.
+// The numbers of a record, and whether two records are the same in every field and in every word.
 use crate::page::same;
-use association::Association;
-use association::Cookie;
-use association::Ends;
-use delivery::Receiving;
-use holding::Held;
+use flat::Association;
+use flat::Head;
+use numbers::Keeping;
 use numbers::Rail;
-use numbers::Ssn;
 use numbers::Tsn;
 use path::Path;
-use places::Chunk;
 use places::Place;
-use sending::Sending;
+use sender::Sender;
 use states::State;
 
-// A state by a number: 100 for each that RFC 9260 names, and its tries.
-pub(crate) fn code(s: State) -> u64 {
+// A state by a number: 256 for each that RFC 9260 names before it, and its tries.
+pub(crate) fn code(s: State) -> u16 {
     match s {
         State::Closed => 0,
-        State::CookieWait(n) => 100 + n as u64,
-        State::CookieEchoed(n) => 400 + n as u64,
-        State::Established => 700,
-        State::ShutdownPending => 800,
-        State::ShutdownSent(n) => 900 + n as u64,
-        State::ShutdownReceived => 1200,
-        State::ShutdownAckSent(n) => 1300 + n as u64,
+        State::CookieWait(n) => 256 + n as u16,
+        State::CookieEchoed(n) => 512 + n as u16,
+        State::Established => 768,
+        State::ShutdownPending => 1024,
+        State::ShutdownSent(n) => 1280 + n as u16,
+        State::ShutdownReceived => 1536,
+        State::ShutdownAckSent(n) => 1792 + n as u16,
     }
 }
 
-fn same_ends(a: Ends, b: Ends) -> bool {
-    if a.local_port != b.local_port {
-        return false;
-    }
-    if a.peer_port != b.peer_port {
-        return false;
-    }
-    if a.my_tag != b.my_tag {
-        return false;
-    }
-    if a.peer_tag != b.peer_tag {
-        return false;
-    }
-    if a.streams_in != b.streams_in {
-        return false;
-    }
-    a.streams_out == b.streams_out
+// What a line shows of a record, in its order; of the sender and of the path, behind that, what no line shows.
+pub(crate) fn ends_of(h: Head) -> [u64; 7] {
+    let e = h.ends;
+    [
+        e.local_port as u64,
+        e.peer_port as u64,
+        e.my_tag as u64,
+        e.peer_tag as u64,
+        e.streams_in as u64,
+        e.streams_out as u64,
+        h.cookie_len as u64,
+    ]
 }
 
-fn same_flags(a: Held, b: Held) -> bool {
-    if a.used != b.used {
-        return false;
-    }
-    if a.begin != b.begin {
-        return false;
-    }
-    if a.end != b.end {
-        return false;
-    }
-    a.unordered == b.unordered
+pub(crate) fn come_of(k: Keeping, held: &[u32; 512]) -> [u64; 4] {
+    let highest = k.highest();
+    let free = taking::choosing::free_places(held);
+    [
+        k.point.0 as u64,
+        highest as u64,
+        free as u64,
+        k.listed as u64,
+    ]
 }
 
-fn is_held_alike(a: Held, b: Held) -> bool {
-    if !same_flags(a, b) {
-        return false;
-    }
-    if a.tsn.0 != b.tsn.0 {
-        return false;
-    }
-    if a.stream.0 != b.stream.0 {
-        return false;
-    }
-    if a.ssn.0 != b.ssn.0 {
-        return false;
-    }
-    if a.ppid != b.ppid {
-        return false;
-    }
-    a.len == b.len
+pub(crate) fn placed_of(places: &[u32; 1024]) -> [u64; 4] {
+    let waiting = marks::having(places, Place::WAITING);
+    let flying = marks::having(places, Place::FLYING);
+    let marked = marks::having(places, Place::MARKED);
+    let blocked = marks::having(places, Place::BLOCKED);
+    [waiting as u64, flying as u64, marked as u64, blocked as u64]
 }
 
-fn same_held(a: [Held; Rail::PLACES], b: [Held; Rail::PLACES]) -> bool {
-    let mut i: usize = 0;
-    while i < Rail::PLACES {
-        let x = a[i];
-        let y = b[i];
-        if !is_held_alike(x, y) {
+pub(crate) fn going_of(s: Sender) -> [u64; 4] {
+    [
+        s.acked.0 as u64,
+        s.next_tsn.0 as u64,
+        s.advertised as u64,
+        s.oldest as u64,
+    ]
+}
+
+pub(crate) fn path_of(p: Path) -> [u64; 11] {
+    let c = p.control;
+    let t = p.clock;
+    [
+        p.flight as u64,
+        c.cwnd as u64,
+        c.ssthresh as u64,
+        c.partial as u64,
+        p.running as u64,
+        t.rto as u64,
+        p.tries as u64,
+        p.until.0 as u64,
+        t.sampled as u64,
+        t.srtt as u64,
+        t.rttvar as u64,
+    ]
+}
+
+fn same_numbers(a: &[u64], b: &[u64]) -> bool {
+    if a.len() != b.len() {
+        return false;
+    }
+    let mut i = 0;
+    while i < a.len() {
+        if a[i] != b[i] {
+            return false;
+        }
+        i += 1;
+    }
+    true
+}
+
+fn same_words(a: &[u32], b: &[u32]) -> bool {
+    if a.len() != b.len() {
+        return false;
+    }
+    let mut i = 0;
+    while i < a.len() {
+        if a[i] != b[i] {
             return false;
         }
         i += 1;
@@ -116,12 +136,10 @@ fn same_dups(a: [Tsn; Rail::LISTED], b: [Tsn; Rail::LISTED]) -> bool {
     true
 }
 
-fn same_next(a: [Ssn; Rail::STREAMS], b: [Ssn; Rail::STREAMS]) -> bool {
+fn same_next(a: [u16; Rail::STREAMS], b: [u16; Rail::STREAMS]) -> bool {
     let mut i: usize = 0;
     while i < Rail::STREAMS {
-        let x = a[i];
-        let y = b[i];
-        if x.0 != y.0 {
+        if a[i] != b[i] {
             return false;
         }
         i += 1;
@@ -129,173 +147,108 @@ fn same_next(a: [Ssn; Rail::STREAMS], b: [Ssn; Rail::STREAMS]) -> bool {
     true
 }
 
-fn same_receiving(a: Receiving, b: Receiving) -> bool {
-    let k = a.keeping;
-    let m = b.keeping;
-    if k.point.0 != m.point.0 {
-        return false;
-    }
-    if k.listed != m.listed {
-        return false;
-    }
-    let come = k.come;
-    let came = m.come;
-    if !same_come(come, came) {
-        return false;
-    }
-    let dups = k.dups;
-    let twice = m.dups;
-    if !same_dups(dups, twice) {
-        return false;
-    }
-    let held = a.held;
-    let kept = b.held;
-    if !same_held(held, kept) {
-        return false;
-    }
-    let next = a.next;
-    let later = b.next;
-    same_next(next, later)
-}
-
-fn same_chunk(a: Chunk, b: Chunk) -> bool {
-    if a.tsn.0 != b.tsn.0 {
-        return false;
-    }
-    if a.order != b.order {
-        return false;
-    }
-    if a.stream.0 != b.stream.0 {
-        return false;
-    }
-    if a.ssn.0 != b.ssn.0 {
-        return false;
-    }
-    if a.ppid != b.ppid {
-        return false;
-    }
-    if a.len != b.len {
-        return false;
-    }
-    if a.begin != b.begin {
-        return false;
-    }
-    if a.end != b.end {
-        return false;
-    }
-    a.unordered == b.unordered
-}
-
-fn is_placed_alike(a: Place, b: Place) -> bool {
-    if a.status != b.status {
-        return false;
-    }
-    if a.misses != b.misses {
-        return false;
-    }
-    same_chunk(a.chunk, b.chunk)
-}
-
-fn same_places(a: [Place; Rail::PLACES], b: [Place; Rail::PLACES]) -> bool {
-    let mut i: usize = 0;
-    while i < Rail::PLACES {
-        let x = a[i];
-        let y = b[i];
-        if !is_placed_alike(x, y) {
-            return false;
-        }
-        i += 1;
-    }
-    true
+fn same_ends(a: Head, b: Head) -> bool {
+    let m = ends_of(a);
+    let n = ends_of(b);
+    same_numbers(&m, &n)
 }
 
 fn same_path(a: Path, b: Path) -> bool {
-    let k = a.control;
-    let m = b.control;
-    let c = a.clock;
-    let d = b.clock;
-    if k.cwnd != m.cwnd {
-        return false;
-    }
-    if k.ssthresh != m.ssthresh {
-        return false;
-    }
-    if k.partial != m.partial {
-        return false;
-    }
-    if c.sampled != d.sampled {
-        return false;
-    }
-    if c.srtt != d.srtt {
-        return false;
-    }
-    if c.rttvar != d.rttvar {
-        return false;
-    }
-    if c.rto != d.rto {
-        return false;
-    }
-    if a.flight != b.flight {
-        return false;
-    }
-    if a.running != b.running {
-        return false;
-    }
-    if a.until.0 != b.until.0 {
-        return false;
-    }
-    a.tries == b.tries
+    let m = path_of(a);
+    let n = path_of(b);
+    same_numbers(&m, &n)
 }
 
-fn same_sending(a: Sending, b: Sending) -> bool {
-    if a.acked.0 != b.acked.0 {
-        return false;
+fn same_sender(a: Sender, b: Sender) -> bool {
+    let m = going_of(a);
+    let n = going_of(b);
+    if same_numbers(&m, &n) {
+        return same_path(a.path, b.path);
     }
-    if a.next_tsn.0 != b.next_tsn.0 {
-        return false;
-    }
-    if a.advertised != b.advertised {
-        return false;
-    }
-    if a.oldest != b.oldest {
-        return false;
-    }
-    if !same_path(a.path, b.path) {
-        return false;
-    }
-    let ps = a.places;
-    let qs = b.places;
-    if !same_places(ps, qs) {
-        return false;
-    }
-    let next = a.next;
-    let later = b.next;
-    same_next(next, later)
+    false
 }
 
-fn same_cookie(a: Cookie, b: Cookie) -> bool {
-    if a.len != b.len {
+fn same_keeping(a: Keeping, b: Keeping) -> bool {
+    if a.point.0 != b.point.0 {
         return false;
     }
-    let x = a.bytes;
-    let y = b.bytes;
-    same(&x, &y)
+    if a.listed != b.listed {
+        return false;
+    }
+    let come = a.come;
+    let came = b.come;
+    if !same_come(come, came) {
+        return false;
+    }
+    let dups = a.dups;
+    let twice = b.dups;
+    same_dups(dups, twice)
 }
 
-pub(crate) fn same_record(a: Association, b: Association) -> bool {
+fn same_head(a: Head, b: Head) -> bool {
     let s = a.state;
     let t = b.state;
     if code(s) != code(t) {
         return false;
     }
-    if !same_ends(a.ends, b.ends) {
+    if !same_ends(a, b) {
         return false;
     }
-    if !same_cookie(a.cookie, b.cookie) {
+    if !same_keeping(a.keeping, b.keeping) {
         return false;
     }
-    if !same_receiving(a.receiving, b.receiving) {
+    same_sender(a.sender, b.sender)
+}
+
+fn same_held(a: [u32; 512], b: [u32; 512]) -> bool {
+    same_words(&a, &b)
+}
+
+fn same_places(a: [u32; 1024], b: [u32; 1024]) -> bool {
+    same_words(&a, &b)
+}
+
+fn same_cookie(a: [u8; 256], b: [u8; 256]) -> bool {
+    same(&a, &b)
+}
+
+fn same_receiving(a: Association, b: Association) -> bool {
+    let x = a.held;
+    let y = b.held;
+    if !same_held(x, y) {
         return false;
     }
-    same_sending(a.sending, b.sending)
+    let v = a.next_in;
+    let w = b.next_in;
+    same_next(v, w)
+}
+
+fn same_sending(a: Association, b: Association) -> bool {
+    let x = a.places;
+    let y = b.places;
+    if !same_places(x, y) {
+        return false;
+    }
+    let v = a.next_out;
+    let w = b.next_out;
+    same_next(v, w)
+}
+
+fn same_tables(a: Association, b: Association) -> bool {
+    if !same_receiving(a, b) {
+        return false;
+    }
+    if !same_sending(a, b) {
+        return false;
+    }
+    let x = a.cookie;
+    let y = b.cookie;
+    same_cookie(x, y)
+}
+
+pub(crate) fn same_record(a: Association, b: Association) -> bool {
+    if same_head(a.head, b.head) {
+        return same_tables(a, b);
+    }
+    false
 }

@@ -1,14 +1,13 @@
 use borrow.Author.Needs.{needs}
 use Prim.Native.Nat.{_-_}
-use Rattle.scans.specs.Scan.{long-mapped}
 use Rattle.lives.proofs.showing.say_arrived.Statement.{statement}
 use Rattle.lives.proofs.showing.say_arrived.Tie as tie
 
 abbrev Inv-loop : tie.InvT-loop
-Inv-loop should at number count verdicts to₀ i₀ t10 to i = Unit {0}
+Inv-loop should number count verdicts to₀ i₀ t8 t9 to i = Unit {0}
 
 abbrev μ-loop : tie.MeasureT-loop
-μ-loop should at number count verdicts to₀ i₀ t10 to i = 365 - i
+μ-loop should number count verdicts to₀ i₀ t8 t9 to i = 365 - i
 
 say-answer-requires : tie.Need-say-answer-requires Inv-loop μ-loop
 say-answer-requires c κs = search needs
@@ -19,33 +18,6 @@ returns c = search needs
 loop-holds : tie.Need-loop-holds Inv-loop μ-loop
 loop-holds c = tt
 
-mul-v : tie.Need-mul-v Inv-loop μ-loop
-mul-v c = search (needs, long-mapped)
-
-array-copy-out-v : tie.Need-array-copy-out-v Inv-loop μ-loop
-array-copy-out-v c = search (needs, long-mapped)
-
-say-verdict-requires : tie.Need-say-verdict-requires Inv-loop μ-loop
-say-verdict-requires c κs = search needs
-
-add-i : tie.Need-add-i Inv-loop μ-loop
-add-i c = search (needs, long-mapped)
-
-loop-less : tie.Need-loop-less Inv-loop μ-loop
-loop-less c = search (needs, long-mapped)
-
-loop-again : tie.Need-loop-again Inv-loop μ-loop
-loop-again c = tt
-
-add-i-2 : tie.Need-add-i-2 Inv-loop μ-loop
-add-i-2 c = search (needs, long-mapped)
-
-loop-less-2 : tie.Need-loop-less-2 Inv-loop μ-loop
-loop-less-2 c = search (needs, long-mapped)
-
-loop-again-2 : tie.Need-loop-again-2 Inv-loop μ-loop
-loop-again-2 c = tt
-
 slice-aggregate-say : tie.Need-slice-aggregate-say Inv-loop μ-loop
 slice-aggregate-say c = search needs
 
@@ -54,6 +26,63 @@ say-requires c κs = search needs
 
 returns-2 : tie.Need-returns-2 Inv-loop μ-loop
 returns-2 c = search needs
+
+mul-at : tie.Need-mul-at Inv-loop μ-loop
+mul-at c = search needs
+
+mul-say-verdict : tie.Need-mul-say-verdict Inv-loop μ-loop
+mul-say-verdict c = search needs
+
+element-copy-out-say-verdict : tie.Need-element-copy-out-say-verdict Inv-loop μ-loop
+element-copy-out-say-verdict c = search needs
+
+add-say-verdict : tie.Need-add-say-verdict Inv-loop μ-loop
+add-say-verdict c = search needs
+
+mul-say-verdict-2 : tie.Need-mul-say-verdict-2 Inv-loop μ-loop
+mul-say-verdict-2 c = search needs
+
+element-copy-out-say-verdict-2 : tie.Need-element-copy-out-say-verdict-2 Inv-loop μ-loop
+element-copy-out-say-verdict-2 c = search needs
+
+add-say-verdict-2 : tie.Need-add-say-verdict-2 Inv-loop μ-loop
+add-say-verdict-2 c = search needs
+
+mul-say-verdict-3 : tie.Need-mul-say-verdict-3 Inv-loop μ-loop
+mul-say-verdict-3 c = search needs
+
+element-copy-out-say-verdict-3 : tie.Need-element-copy-out-say-verdict-3 Inv-loop μ-loop
+element-copy-out-say-verdict-3 c = search needs
+
+add-say-verdict-3 : tie.Need-add-say-verdict-3 Inv-loop μ-loop
+add-say-verdict-3 c = search needs
+
+mul-say-verdict-4 : tie.Need-mul-say-verdict-4 Inv-loop μ-loop
+mul-say-verdict-4 c = search needs
+
+element-copy-out-say-verdict-4 : tie.Need-element-copy-out-say-verdict-4 Inv-loop μ-loop
+element-copy-out-say-verdict-4 c = search needs
+
+say-verdict-requires : tie.Need-say-verdict-requires Inv-loop μ-loop
+say-verdict-requires c κs = search needs
+
+add-i : tie.Need-add-i Inv-loop μ-loop
+add-i c = search needs
+
+loop-less : tie.Need-loop-less Inv-loop μ-loop
+loop-less c = search needs
+
+loop-again : tie.Need-loop-again Inv-loop μ-loop
+loop-again c = tt
+
+slice-aggregate-say-2 : tie.Need-slice-aggregate-say-2 Inv-loop μ-loop
+slice-aggregate-say-2 c = search needs
+
+say-requires-2 : tie.Need-say-requires-2 Inv-loop μ-loop
+say-requires-2 c κs = search needs
+
+returns-3 : tie.Need-returns-3 Inv-loop μ-loop
+returns-3 c = search needs
 
 pub say-arrived-spec : {M : Type 1} → statement M
 say-arrived-spec =
@@ -64,15 +93,25 @@ say-arrived-spec =
     say-answer-requires
     returns
     loop-holds
-    mul-v
-    array-copy-out-v
+    slice-aggregate-say
+    say-requires
+    returns-2
+    mul-at
+    mul-say-verdict
+    element-copy-out-say-verdict
+    add-say-verdict
+    mul-say-verdict-2
+    element-copy-out-say-verdict-2
+    add-say-verdict-2
+    mul-say-verdict-3
+    element-copy-out-say-verdict-3
+    add-say-verdict-3
+    mul-say-verdict-4
+    element-copy-out-say-verdict-4
     say-verdict-requires
     add-i
     loop-less
     loop-again
-    add-i-2
-    loop-less-2
-    loop-again-2
-    slice-aggregate-say
-    say-requires
-    returns-2)
+    slice-aggregate-say-2
+    say-requires-2
+    returns-3)
