@@ -1,13 +1,12 @@
 -- What the rules of receiving say, as equations: for one who reads the places from a table in place of a list. Assumes nothing.
 use Prim.Native.Nat.{ℕ, _-_, _*_}
 use mathlib.Core.Path.{_≡_, refl}
-use mathlib.Core.Bool.{Bool, false, not}
+use mathlib.Core.Bool.{Bool, true, false, not}
 use mathlib.Core.List.{List}
 use lib.ListN.{set, replicate}
 use lib.Dec.{eqb, ltb}
 use Rattle.numbers.specs.declared.circle.Tsn.{Tsn}
 use Rattle.numbers.specs.declared.circle.Ssn.{Ssn}
-use Rattle.numbers.specs.declared.keeping.Keeping.{Keeping}
 use Rattle.numbers.specs.Circle.{ssn0}
 use Rattle.numbers.specs.Numbering.{Numbering}
 use Rattle.numbers.specs.Profile.{Profile, isAgreed}
@@ -25,8 +24,13 @@ use Rattle.delivery.specs.declared.arrival.Look.{Look}
 use Rattle.delivery.specs.declared.arrival.Verdict.the-variants.{Kept, Empty, Long, Opposite, Duplicate, Wedged, Far, Stray, Clashing}
 use Rattle.delivery.specs.Receiving.{fresh, lowOf, takenBy, taken}
 use Rattle.delivery.specs.Arrival.{isOpposite, isOld, isBeyond, isRepeat, isWedged, judgementOf, verdictOf, noted, passed, kept, after, arrived, storedBy, areaAfter}
+use Rattle.delivery.specs.Contradiction.{isContradicted}
 use Rattle.delivery.specs.Acknowledging.{sackOf, told, acknowledged}
 use Rattle.delivery.specs.LookLaws.{Looked}
+
+pick-not : {A : Type 0} (t : Bool) (x y : A) → pick (not t) x y ≡ pick t y x
+pick-not true x y = refl
+pick-not false x y = refl
 
 module _ (T : Numbering) (P : Profile) where
   pub fresh-is : (t : Tsn) → fresh T P t ≡ record { keeping = keeping.fresh T P t; held = replicate (P .places) noHeld; next = replicate (P .streams) ssn0 }
@@ -49,7 +53,7 @@ module _ (T : Numbering) (P : Profile) where
       (pick (isBeyond (judged T (r .keeping .point .0) (P .places - w .low) (c .tsn .0))) Far
       (pick (isAgreed P (c .stream .0) streams) (pick (w .clash) Clashing Kept) Stray)))))))
   unfolding verdictOf judgementOf lowOf isRepeat
-  verdict-by r c n streams k = rw (k .low, k .held, k .clash n)
+  verdict-by r c n streams k = rw (k .low, k .held, k .clash n, pick-not (isAgreed P (c .stream .0) streams) Stray (pick (isContradicted T (r .held) (asHeld c n)) Clashing Kept))
 
   pub noted-is : (r : Receiving) (t : Tsn) → noted P r t ≡ record { keeping = keeping.listed P (r .keeping) t; held = r .held; next = r .next }
   unfolding noted

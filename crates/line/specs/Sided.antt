@@ -2,7 +2,7 @@
 -- Assumes nothing.
 use Prim.Native.Nat.{ℕ, _-_, _<_}
 use mathlib.Core.Path.{_≡_, refl, sym, ap, subst}
-use mathlib.Core.Bool.{Bool, true, false}
+use mathlib.Core.Bool.{Bool, true, false, not}
 use mathlib.Core.List.{List, [], _∷_}
 use native.Mathlib.Omega.{arith}
 use lib.ListN.{length}
@@ -65,8 +65,8 @@ module _ (P : Profile) (r : Receiving) (h : Held) (streams : ℕ) where
       (either (isRepeat line (r .keeping) (r .held) (h .tsn .0)) Duplicate _ (other Duplicate (omega arith))
       (either (isWedged line P (lowOf line r) (r .held) (r .next) (r .keeping .point .0)) Wedged _ (other Wedged (omega arith))
       (either (isBeyond (judgementOf line P r (h .tsn .0))) Far _ (other Far (omega arith))
-      (either (isAgreed P (h .stream .0) streams) _ Stray
-      (either (isContradicted line (r .held) h) Clashing Kept (other Clashing (omega arith)) (other Kept (omega arith))) (other Stray (omega arith)))))))))
+      (either (not (isAgreed P (h .stream .0) streams)) Stray _ (other Stray (omega arith))
+      (either (isContradicted line (r .held) h) Clashing Kept (other Clashing (omega arith)) (other Kept (omega arith))))))))))
 
 -- ---- every answer
 
