@@ -1,15 +1,14 @@
 -- What the sending side over tables of words needs of the definitions: each of them as an equation. Assumes nothing.
-use Prim.Native.Nat.{ℕ, _+_, _-_, _*_, _%_, _^_, _<_}
+use Prim.Native.Nat.{ℕ, _+_, _-_, _%_, _^_}
 use mathlib.Core.Path.{_≡_, refl}
-use mathlib.Core.Bool.{Bool, true, false, not}
+use mathlib.Core.Bool.{Bool, true, false}
 use mathlib.Core.List.{List, map}
-use native.Mathlib.Omega.{arith}
 use lib.ListN.{length, set, getD, replicate}
 use lib.Dec.{eqb, ltb, leb}
 use Rattle.numbers.specs.declared.circle.Tsn.{Tsn}
 use Rattle.numbers.specs.declared.circle.Ssn.{Ssn}
 use Rattle.numbers.specs.declared.circle.StreamId.{StreamId}
-use Rattle.numbers.specs.Circle.{tsn0, ssn0, steps}
+use Rattle.numbers.specs.Circle.{tsn0, ssn0}
 use Rattle.numbers.specs.Numbering.{ring, on}
 use Rattle.numbers.specs.Judgement.{judged}
 use Rattle.numbers.specs.Profile.{Profile}
@@ -24,19 +23,16 @@ use Rattle.places.specs.Places.{aheadOf, being, hasStatus, weightOf, tallied, m
 use Rattle.places.specs.Blocks.{held, lastEnd}
 use Rattle.places.specs.Sack.{takenIn}
 use Rattle.sending.specs.declared.sending.Sending.{Sending}
-use Rattle.sending.specs.declared.acknowledging.Answer.{Answer}
-use Rattle.sending.specs.declared.expiring.Expiry.{Expiry}
 use Rattle.sending.specs.declared.choosing.Best.{Best}
 use Rattle.sending.specs.declared.choosing.Chosen.{Chosen}
 use Rattle.sending.specs.declared.cutting.Message.{Message}
-use Rattle.sending.specs.declared.cutting.Handed.{Handed}
 use Rattle.sending.specs.Sending.{noPlace, fresh, roomOf, isBare, hasOutstanding, withFlight, withPath, sampled, doubled, heard}
 use Rattle.sending.specs.Acknowledge.{judgedBlocks, judgedBy, judgedPoint, isMoved, limitOf, answeredBy, pathAfter, accepted, acknowledged, shutOf, shutdownPoint}
 use Rattle.sending.specs.Expiry.{overdue, expired}
 use Rattle.sending.specs.Bounds.{isOdd, isGap, hasGap, isSuccessive, isWithin}
 use Rattle.sending.specs.Carry.{carried}
 use Rattle.sending.specs.HandIn.{chunksOf, isRefused, refusal, partLen, chunkAt, waitingAt, takes, after, laidOut, stored, storedIn, waited, handedIn, areaAfter}
-use Rattle.sending.specs.Choose.{rankOf, better, bestOf, sizeOf, goes, nextSsn, counted, numbered, put, again, first, sent, tsnOf, Going, going, filling, begun, filled}
+use Rattle.sending.specs.Choose.{rankOf, better, bestOf, sizeOf, goes, nextSsn, counted, numbered, put, again, first, sent, tsnOf, going, filling, begun, filled}
 
 -- ---- a record that begins, whether anything is left, and what bears on the path alone
 
