@@ -1,10 +1,10 @@
 // Rows of words, and forms: a text in which a # stands for each number.
-use crate::page::plus;
-use crate::page::same;
-use crate::page::say;
-use crate::page::say_number;
-use crate::reading::between;
-use crate::reading::find;
+use pages::page::plus;
+use pages::page::same;
+use pages::page::say;
+use pages::page::say_number;
+use pages::reading::between;
+use pages::reading::find;
 
 const MARK: u8 = 35;
 

@@ -1,11 +1,5 @@
 // What the host does: each line names an event of its association, a packet that comes, or a record of the line's own making.
 use crate::forms::row_of;
-use crate::page::say;
-use crate::reading::rest;
-use crate::reading::spell;
-use crate::reading::value16;
-use crate::reading::value32;
-use crate::reading::word;
 use crate::showing;
 use crate::verbs;
 use flat::Association;
@@ -14,6 +8,12 @@ use happening::Told;
 use octets::get32;
 use octets::part;
 use octets::put_all;
+use pages::page::say;
+use pages::reading::rest;
+use pages::reading::spell;
+use pages::reading::value16;
+use pages::reading::value32;
+use pages::reading::word;
 use states::State;
 ghost use Prim.Native.Nat.{_≤_};
 

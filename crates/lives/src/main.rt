@@ -2,8 +2,6 @@
 // come of it; the output repeats the line, with what came of it before what should, and whether they are the same.
 mod forms;
 mod host;
-mod page;
-mod reading;
 mod sameness;
 mod showing;
 mod verbs;
@@ -13,17 +11,18 @@ use crate::host::LONGEST;
 use crate::host::SPACE;
 use crate::host::Said;
 use crate::host::least;
-use crate::page::plus;
-use crate::page::say;
-use crate::page::text;
-use crate::reading::between;
-use crate::reading::find;
-use crate::reading::rest;
 use flat::Association;
 use libc::STDIN_FILENO;
 use octets::get8;
 use octets::part;
 use octets::put_all;
+use pages::page::compare;
+use pages::page::plus;
+use pages::page::say;
+use pages::page::text;
+use pages::reading::between;
+use pages::reading::find;
+use pages::reading::rest;
 
 const LINES: usize = 4000;
 
@@ -76,18 +75,7 @@ fn say_sent(should: &[u8], at: usize, packet: &[u8]) -> usize {
         return at;
     }
     let to = say(should, at, b" /");
-    page::say_packet(should, to, packet)
-}
-
-// What should have come of it, and whether it is what came.
-fn compare(should: &[u8], end: usize) {
-    text(b" | ");
-    text(should);
-    if end == should.len() {
-        text(b" same\n");
-        return;
-    }
-    text(b" DIFFERS\n");
+    pages::page::say_packet(should, to, packet)
 }
 
 // The state, whether the record and the areas are kept, and the packet.

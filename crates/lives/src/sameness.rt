@@ -1,10 +1,10 @@
 // The numbers of a record, and whether two records are the same in every field and in every word.
-use crate::page::same;
 use flat::Association;
 use flat::Head;
 use numbers::Keeping;
 use numbers::Rail;
 use numbers::Tsn;
+use pages::page::same;
 use path::Path;
 use places::Place;
 use sender::Sender;

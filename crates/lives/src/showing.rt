@@ -1,9 +1,6 @@
 // What is said of a record, of an event, and of a packet that is only looked at.
 use crate::forms::row;
 use crate::forms::say_form;
-use crate::page::say;
-use crate::page::say_number;
-use crate::page::say_packet;
 use crate::sameness;
 use calls::Peeked;
 use chunks::init::Init;
@@ -15,6 +12,9 @@ use happening::Told;
 use holding::taking::Message;
 use numbers::Keeping;
 use octets::part;
+use pages::page::say;
+use pages::page::say_number;
+use pages::page::say_packet;
 use path::Path;
 use sender::Sender;
 use states::State;
