@@ -1,5 +1,4 @@
 // Ports and verification tag (number 4). The first chunk settles which tag rule holds.
-use association::Association;
 use association::Ends;
 use chunks::kind::Kind;
 use octets::size;
@@ -9,7 +8,7 @@ use steps::Echoed;
 ghost use mathlib.Core.Path.{_≡_};
 ghost use Rattle.octets.specs.Walk.{firstItem};
 ghost use Rattle.chunks.specs.Kind.{isInit};
-ghost use Rattle.arriving.specs.Tags.{arePorts, isReflecting, ruleClosed, ruleOpen, isAbort, hasAbort, ruleFor, isTag, headNumber};
+ghost use Rattle.arriving.specs.Tags.{arePorts, isReflecting, ruleClosed, ruleOpen, isAbort, hasAbort, ruleFor, isTag};
 
 // Which tag a packet must carry.
 pub enum Rule {
@@ -167,19 +166,4 @@ pub fn is_tag(rule: Rule, tag: u32) -> bool
         Rule::Any => true,
         Rule::Never => false,
     }
-}
-
-// 4, or 0. `s` is the packet from its first chunk on.
-pub fn check_head(a: Association, h: Header, s: &[u8], echoed: Echoed) -> u8
-    ensures { λ r. ⌜ r ≡ headNumber a h (now (s .entry)) echoed ⌝ }
-{
-    let state = a.state;
-    let ends = a.ends;
-    if are_ports(state, ends, h) {
-        if is_tag(rule_for(state, ends, s, echoed), h.tag) {
-            return 0;
-        }
-        return 4;
-    }
-    4
 }

@@ -1,5 +1,4 @@
 // Number 1: the bounds of a record.
-use crate::ends::Association;
 use crate::ends::Ends;
 use numbers::Rail;
 use states::State;
@@ -7,7 +6,7 @@ ghost use mathlib.Core.Path.{_≡_};
 ghost use mathlib.Core.List.{List};
 ghost use Prim.Native.Nat.{ℕ};
 ghost use Rattle.chunks.specs.CookieChunk.{isCookie};
-ghost use Rattle.association.specs.Bounds.{areStreams, lacksPort, lacksTag, areEnds, areFew, isHead, isSound};
+ghost use Rattle.association.specs.Bounds.{areStreams, lacksPort, lacksTag, areEnds, areFew, isHead};
 
 // At least one stream, and no more than the profile has.
 pub fn are_streams(n: u16) -> bool
@@ -95,31 +94,5 @@ pub fn is_head(state: State, e: Ends, len: u16) -> bool
         State::ShutdownSent(_) => are_ends(e, true),
         State::ShutdownReceived => are_ends(e, true),
         State::ShutdownAckSent(_) => are_ends(e, true),
-    }
-}
-
-impl Association {
-    // Whether the record is within its bounds.
-    pub fn is_sound(self) -> bool
-        ensures { λ r. ⌜ r ≡ isSound self ⌝ }
-    {
-        let state = self.state;
-        let ends = self.ends;
-        let cookie = self.cookie;
-        let receiving = self.receiving;
-        let sending = self.sending;
-        if !state.within_tries() {
-            return false;
-        }
-        if 256 < cookie.len {
-            return false;
-        }
-        if !is_head(state, ends, cookie.len) {
-            return false;
-        }
-        if !receiving.is_sound() {
-            return false;
-        }
-        sending::is_within(sending)
     }
 }

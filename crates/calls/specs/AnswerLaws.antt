@@ -17,7 +17,7 @@ use Rattle.association.specs.Bounds.{leastOut}
 use Rattle.association.specs.BoundsLaws.{first-none}
 use Rattle.calls.specs.declared.answer.Answer.{Answer}
 use Rattle.calls.specs.Packet.{Sent}
-use Rattle.calls.specs.Answer.{isShortOut, barred, Plan, refusing, quietly, carrying, ending, unless, answerOf, outOf, Done, Kept}
+use Rattle.calls.specs.Answer.{isShortOut, barred, Plan, quietly, carrying, ending, unless, answerOf, outOf, Done, Kept}
 
 -- a call that is let in has its lent output and area, and is one for the state
 pub let-in : (a : Association) (short : Bool) (call : Call) → barred a short call ≡ 0 → (short ≡ false) × (permitted call (a .state) ≡ true)
@@ -71,13 +71,6 @@ module _ {out : List ℕ} (a : Association) {r : Answer} where
 module _ (a : Association) {r : Answer} where
   pub kept-quiet : Told a 0 r → Kept (quietly a) r
   kept-quiet t = record { answer = done-quiet {out = []} a t .answer }
-
-  pub kept-over : Over a r → Kept (ending a) r
-  kept-over t = record { answer = done-over {out = []} a t .answer }
-
-  pub kept-refusing : {n : ℕ} → Refused a n r → Kept (refusing a n) r
-  unfolding answerOf
-  kept-refusing t = record { answer = t .is }
 
   module _ {n : ℕ} (p : Plan) where
     pub kept-refused : {m : ℕ} → m ≡ n → (m ≡ 0 → ⊥) → Refused a m r → Kept (unless n a p) r

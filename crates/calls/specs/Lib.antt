@@ -18,4 +18,6 @@ pub mod SoundLaws
 pub mod LeftLaws
 pub mod PortLaws
 pub mod SizeLaws
+pub mod Outcomes
+pub mod OutcomesLaws
 pub mod StreamLaws

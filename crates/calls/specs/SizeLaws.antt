@@ -26,7 +26,7 @@ use Rattle.calls.specs.Transmit.{dataOf, chunkBytes, Bundle, added, turn
 
 -- ---- one chunk
 
-chunk-most : (area : List ℕ) (p : Place) (i : ℕ) → length (chunkBytes area p i) ≤ sizeOf p
+pub chunk-most : (area : List ℕ) (p : Place) (i : ℕ) → length (chunkBytes area p i) ≤ sizeOf p
 unfolding chunkBytes
 chunk-most area p i =
     let b : List ℕ = take (p .chunk .len) (drop (512 * i) area) in
@@ -70,6 +70,9 @@ bundled-ends m area f out h = bundle-ends m out area (f .count) (f .sending .pla
 module _ (a : Association) (area out : List ℕ) where
   packet-ends : Ends 548 out (bundled area (filled railSizes rail (a .sending)) out)
   packet-ends = bundled-ends 548 area (filled railSizes rail (a .sending)) out (omega (arith, filled-fits railSizes rail (a .sending)))
+
+  pub packet-short : bundled area (filled railSizes rail (a .sending)) out .at ≤ 548
+  packet-short = packet-ends .by
 
   length-most : (b : Bundle) → b .at ≤ 548 → bundleLength b ≤ 548
   unfolding bundleLength

@@ -1,34 +1,16 @@
-// The calls of the host, but the arrival of a packet. Each takes the record and gives it back beside its answer; what is refused leaves all.
+// The calls of the host, but the arrival of a packet: what each answers and leaves; what is refused leaves all. Their code over tables: `asks`.
 pub mod acknowledging;
 pub mod answer;
 pub mod closing;
 pub mod messages;
-pub mod opening;
-mod packet;
 pub mod peeking;
-pub mod telling;
-pub mod timers;
 pub mod transmitting;
 
 pub use crate::acknowledging::Acknowledged;
-pub use crate::acknowledging::sack;
 pub use crate::answer::Answer;
 pub use crate::closing::Reason;
-pub use crate::closing::abort;
-pub use crate::closing::shutdown;
 pub use crate::messages::Delivered;
 pub use crate::messages::HandedIn;
-pub use crate::messages::hand_in;
-pub use crate::messages::take;
-pub use crate::opening::associate;
 pub use crate::peeking::Peeked;
 pub use crate::peeking::peek;
-pub use crate::telling::error_stale;
-pub use crate::telling::error_stream;
-pub use crate::telling::heartbeat;
-pub use crate::timers::rtt;
-pub use crate::timers::t1;
-pub use crate::timers::t2;
-pub use crate::timers::t3;
 pub use crate::transmitting::Transmitted;
-pub use crate::transmitting::transmit;

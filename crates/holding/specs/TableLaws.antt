@@ -1,7 +1,7 @@
 -- What the rules of messages and of a take say, as equations: for one who reads the places from a table in place of a list. Assumes nothing.
 use Prim.Native.Nat.{ℕ}
 use mathlib.Core.Path.{_≡_, refl}
-use mathlib.Core.Bool.{Bool, true, false}
+use mathlib.Core.Bool.{true, false}
 use mathlib.Core.List.{List}
 use lib.ListN.{set, getD}
 use lib.Dec.{eqb, ltb}
@@ -14,7 +14,7 @@ use Rattle.holding.specs.declared.held.Held.{Held}
 use Rattle.holding.specs.declared.message.Best.{Best}
 use Rattle.holding.specs.Held.{holds}
 use Rattle.holding.specs.Message.{isWhole, continues, follow, isLeftEnd, isExpected, opens, chosen}
-use Rattle.holding.specs.MessageLaws.{isBetter, tried, continues-holds}
+use Rattle.holding.specs.MessageLaws.{isBetter, tried}
 use Rattle.holding.specs.Taking.{advanced, tookBy, took}
 
 -- what does not hold the number does not go on with a run at it

@@ -1,14 +1,11 @@
 use Prim.Native.Nat.{_-_, _^_}
-use mathlib.Core.Path.{_≡_, refl, sym, ap, _∙_}
+use mathlib.Core.Path.{_≡_, sym, ap, _∙_}
 use native.Mathlib.Omega.{arith}
 use borrow.Author.Needs.{needs}
-use borrow.Author.Tests.{lt-ltb, le-ltb}
 use lib.ListN.{length}
 use Rattle.numbers.specs.Numbering.{ring}
 use Rattle.numbers.specs.Profile.{rail}
 use Rattle.holding.specs.MessageLaws.{isBetter, tried, Choosing, choose-start, choose-better, choose-worse, choose-end}
-use Rattle.holding.specs.TableLaws.{tried-is}
-use Rattle.tables.specs.Open.{by}
 use Rattle.tables.specs.Held.{heldOf}
 use Rattle.tables.specs.HeldLaws.{held-long}
 use Rattle.tables.specs.Ssns.{ssnsOf}

@@ -1,23 +1,11 @@
-use Prim.Native.Nat.{_-_, _^_}
-use mathlib.Core.Bool.{not}
-use mathlib.Core.Path.{_≡_, refl, sym, ap, _∙_}
+use Prim.Native.Nat.{_-_}
+use mathlib.Core.Path.{refl, ap, _∙_}
 use native.Mathlib.Omega.{arith}
 use borrow.Author.Needs.{needs}
-use borrow.Author.Tests.{lt-ltb, le-ltb}
-use mir.Facts.{fits-le, fits-lit}
-use lib.ListN.{take, length-set}
-use Rattle.numbers.specs.Numbering.{ring}
 use Rattle.numbers.specs.Profile.{rail}
-use Rattle.scans.specs.Scan.{Counting, count-start, count-bit, bit-within, count-end, Finding, find-yes, find-no, find-end, Summing, sum-start, sum-end}
 use Rattle.holding.specs.declared.held.Held.{Held}
-use Rattle.holding.specs.Held.{noHeld, isFree}
-use Rattle.holding.specs.Message.{continues}
-use Rattle.holding.specs.MessageLaws.{Gathering, gather-start, gather-end, gather-more, gather-none}
-use Rattle.holding.specs.Taking.{lenAt}
 use Rattle.tables.specs.Held.{heldOf}
-use Rattle.tables.specs.HeldLaws.{held-long}
-use Rattle.taking.specs.FreeLaws.{free-two, free-add, free-eight, count-free}
-use Rattle.taking.specs.TakingLaws.{gather-whole, Listed, listed-long, add-place, Copying, copy-more, copy-end, Clearing, clear-more, clear-end}
+use Rattle.taking.specs.TakingLaws.{Copying, copy-more, copy-end}
 use Rattle.taking.proofs.giving.copy_out.Statement.{statement}
 use Rattle.taking.proofs.giving.copy_out.Tie as tie
 use Rattle.taking.proofs.giving.copy_out.Reads as reads

@@ -1,5 +1,5 @@
 use Prim.Native.Nat.{_^_}
-use mathlib.Core.Path.{refl, ap, _∙_}
+use mathlib.Core.Path.{ap, _∙_}
 use Rattle.numbers.specs.Numbering.{ring}
 use Rattle.numbers.specs.Profile.{rail}
 use Rattle.holding.specs.declared.held.Held.{Held}
