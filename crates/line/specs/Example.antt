@@ -2,7 +2,7 @@
 -- goes over the end of the circle of TSNs, with what the circle receiver answers to it: C8 and C9, 18 with the length needed, 17, and 11 for a chunk
 -- that comes again after it was taken above a hole. Assumes nothing.
 use Prim.Native.Nat.{ℕ, zero, suc, _+_, _-_, _^_, _<_, _≤_}
-use mathlib.Core.Path.{_≡_, refl, sym}
+use mathlib.Core.Path.{_≡_, refl, sym, _∙_}
 use mathlib.Core.Bool.{Bool, true, false}
 use mathlib.Core.List.{List, [], _∷_, _++_, map}
 use mir.Val.{boolByte as bit}
@@ -17,7 +17,7 @@ use Rattle.numbers.specs.declared.circle.Tsn.{Tsn}
 use Rattle.numbers.specs.declared.keeping.Blocks.{Blocks}
 use Rattle.numbers.specs.Circle.{onCircle}
 use Rattle.numbers.specs.Numbering.{ring, line, on, before, far, key}
-use Rattle.numbers.specs.Profile.{rail}
+use Rattle.numbers.specs.Profile.{Profile, rail, isAgreed}
 use Rattle.numbers.specs.Judgement.{judged}
 use Rattle.numbers.specs.Keeping as keeping
 use Rattle.numbers.specs.Keeping.{offsetOf, isCome, settled, marked, listed}
@@ -41,70 +41,77 @@ use Rattle.line.specs.Sender.{Sender, starts, ordinal, ordinal-suc, ordi
 use Rattle.line.specs.Runs.{Event, arrive, take, sack, judges, gives, tells, start, answers, reduceEvent, reduceAnswer, Fair}
 use Rattle.line.specs.Agreement.{rail-agrees}
 
+-- a sender of messages of one chunk each, of stream 0: ordered ones, and from the number `loose` on unordered ones
+module _ (first loose : ℕ) where
+  abbrev pub chunkOf : ℕ → Chunk
+  chunkOf n = record {
+    begin = true;
+    end = true;
+    unordered = leb loose n;
+    tsn = record { 0 = n };
+    stream = record { 0 = 0 };
+    ssn = record { 0 = pick (leb loose n) 0 (n - first) };
+    ppid = 7;
+  }
+
+  each : (n : ℕ) → n < loose → Dec (n < first) → bit (starts first chunkOf 0 n) + (n - first) ≡ suc n - first
+  unfolding starts
+  each n m (yes l) = rw (lt-ltb n first l) (omega arith)
+  each n m (no l) = rw (le-ltb n first (omega arith), lt-leb loose n m) (omega arith)
+
+  counted : (n : ℕ) → n ≤ loose → ordinal first chunkOf 0 n ≡ n - first
+  counted zero m = ordinal-zero first chunkOf 0 ∙ omega arith
+  counted (suc n) m = omega (arith, ordinal-suc first chunkOf 0 n, counted n (omega arith), each n (omega arith) (decLt n first))
+
+  pub single : (P : Profile) → isAgreed P 0 1 ≡ true → Sender P first 1 chunkOf
+  single P e = record {
+    number = λ n l. refl;
+    begins = refl;
+    parts = λ n l. refl;
+    one-stream = λ n l e. refl;
+    one-kind = λ n l e. clash (sym e);
+    one-ssn = λ n l e u. clash (sym e);
+    in-order = λ n l b u. let m : n < loose = leb-false loose n u in rw (lt-leb loose n m) (sym (counted n (omega arith)));
+    agreed = λ n l. e;
+  }
+
+-- the two bytes of each
+abbrev pub payloadOf : ℕ → ℕ → List ℕ
+payloadOf first n = (n - first) ∷ (9 ∷ [])
+
 -- the last number of the circle; on the line, one turn further
-abbrev last : ℕ
+abbrev pub last : ℕ
 last = 2 ^ 32 - 1
 
-abbrev first : ℕ
+abbrev pub first : ℕ
 first = last + 2 ^ 32
 
-abbrev initial : Tsn
+abbrev pub initial : Tsn
 initial = record { 0 = first }
 
--- from here on the messages are unordered
-abbrev loose : ℕ
-loose = first + 2
+-- two ordered ones, then unordered ones
+abbrev pub chunk : ℕ → Chunk
+chunk = chunkOf first (first + 2)
 
--- a message of one chunk for each number
-abbrev chunk : ℕ → Chunk
-chunk n = record {
-  begin = true;
-  end = true;
-  unordered = leb loose n;
-  tsn = record { 0 = n };
-  stream = record { 0 = 0 };
-  ssn = record { 0 = pick (leb loose n) 0 (n - first) };
-  ppid = 7;
-}
+abbrev pub payload : ℕ → List ℕ
+payload = payloadOf first
 
--- its two bytes
-abbrev payload : ℕ → List ℕ
-payload n = (n - first) ∷ (9 ∷ [])
-
-each : (n : ℕ) → n < loose → Dec (n < first) → bit (starts first chunk 0 n) + (n - first) ≡ suc n - first
-unfolding starts
-each n m (yes l) = rw (lt-ltb n first l) (omega arith)
-each n m (no l) = rw (le-ltb n first (omega arith), lt-leb loose n m) (omega arith)
-
-counted : (n : ℕ) → n ≤ loose → ordinal first chunk 0 n ≡ n - first
-counted zero m = ordinal-zero first chunk 0
-counted (suc n) m = omega (arith, ordinal-suc first chunk 0 n, counted n (omega arith), each n (omega arith) (decLt n first))
-
-honest : Sender rail first 1 chunk
-honest = record {
-  number = λ n l. refl;
-  begins = refl;
-  parts = λ n l. refl;
-  one-stream = λ n l e. refl;
-  one-kind = λ n l e. clash (sym e);
-  one-ssn = λ n l e u. clash (sym e);
-  in-order = λ n l b u. let m : n < loose = leb-false loose n u in rw (lt-leb loose n m) (sym (counted n (omega arith)));
-  agreed = λ n l. refl;
-}
+pub honest : Sender rail first 1 chunk
+honest = single first (first + 2) rail refl
 
 -- a lent area; only its first two places are used
-abbrev area : List ℕ
+abbrev pub area : List ℕ
 area = replicate 1024 0
 
 -- a lent output of three bytes, and one of a single byte
-abbrev out : List ℕ
+abbrev pub out : List ℕ
 out = 5 ∷ (5 ∷ (5 ∷ []))
 
-abbrev short : List ℕ
+abbrev pub short : List ℕ
 short = 5 ∷ []
 
 -- the chunk of a number arrives
-abbrev comes : ℕ → Event
+abbrev pub comes : ℕ → Event
 comes n = arrive (chunk n) (payload n)
 
 -- the second before the first, across the wrap; both taken, the first at the second try; then an unordered one behind a gap, and the same again

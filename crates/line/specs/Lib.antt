@@ -1,4 +1,7 @@
--- The circle agrees with the line. To read: Agreement, and what it speaks of, Runs, Sender and Reduce; Example shows that the premises can be met.
+-- Demand 3: the circle agrees with the line. To read: Demand, and what it speaks of, Runs, Sender and Reduce; Builds, what it keeps out; Agreement, the
+-- same over any profile and circles, with more of the line receiver. Example shows that the premises can be met.
+pub mod Demand
+pub mod Builds
 pub mod Agreement
 pub mod Runs
 pub mod Sender
@@ -15,3 +18,5 @@ pub mod Sequence
 pub mod Payloads
 pub mod Wedge
 pub mod Sided
+pub mod DemandLaws
+pub mod BuildsLaws

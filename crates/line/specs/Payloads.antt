@@ -234,13 +234,13 @@ module _ {P : Profile} {base streams : ℕ} {chunk : ℕ → Chunk} (payload : �
         go Clashing e = w
         go Stray e = w
 
-    lodged-arrive : (n : ℕ) → base ≤ n → (c : Chunk) (bytes : List ℕ) → c ≡ chunk n → bytes ≡ payload n → length (r .held) ≡ P .places
+    pub lodged-arrive : (n : ℕ) → base ≤ n → (c : Chunk) (bytes : List ℕ) → c ≡ chunk n → bytes ≡ payload n → length (r .held) ≡ P .places
         → LodgedOf (turn line line P streams l (arrive c bytes) .lent)
     lodged-arrive n lb c bytes e b long =
         subst (λ (x : Chunk). LodgedOf (turn line line P streams l (arrive x bytes) .lent)) (sym e)
         (subst (λ (x : List ℕ). LodgedOf (turn line line P streams l (arrive (chunk n) x) .lent)) (sym b) (lodged-chunk n lb long))
 
-    lodged-take : (out : List ℕ) → LodgedOf (turn line line P streams l (take out) .lent)
+    pub lodged-take : (out : List ℕ) → LodgedOf (turn line line P streams l (take out) .lent)
     unfolding taken took
     lodged-take out = go (chosen line P (r .held) (r .next) (r .keeping .point .0))
       where
@@ -252,7 +252,7 @@ module _ {P : Profile} {base streams : ℕ} {chunk : ℕ → Chunk} (payload : �
             fits true = w
             fits false = lodged-emptied P payload (l .area) is (r .held) w
 
-    lodged-sack : LodgedOf (turn line line P streams l sack .lent)
+    pub lodged-sack : LodgedOf (turn line line P streams l sack .lent)
     unfolding acknowledged told
     lodged-sack = w
 
