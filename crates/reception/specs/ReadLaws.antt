@@ -1,18 +1,17 @@
 -- The loops over the held chunks, by the place that was read from its words. Assumes nothing.
-use Prim.Native.Nat.{ℕ, _+_, _<_, _≤_}
-use mathlib.Core.Path.{_≡_, refl, ap, _∙_, subst}
-use mathlib.Core.Bool.{Bool, true, false}
+use Prim.Native.Nat.{ℕ, _+_, _%_, _<_, _≤_}
+use mathlib.Core.Path.{_≡_, refl, ap, _∙_}
+use mathlib.Core.Bool.{Bool, true, false, not}
 use mathlib.Core.List.{List}
 use native.Mathlib.Omega.{arith}
 use native.Mathlib.Decide.{decLt}
 use borrow.Author.Tests.{lt-ltb, le-ltb}
 use lib.ListN.{length, getD, set, take, replicate}
-use lib.Dec.{ltb}
 use mir.Val.{boolByte}
 use Rattle.numbers.specs.declared.keeping.Keeping.{Keeping}
-use Rattle.numbers.specs.Numbering.{Numbering, ring, far}
+use Rattle.numbers.specs.Numbering.{Numbering}
 use Rattle.numbers.specs.Profile.{Profile}
-use Rattle.scans.specs.Scan.{any, either, pick, Counting, count-start, count-no, Seeking, seek-no}
+use Rattle.scans.specs.Scan.{pick, any, either, Counting, count-start, count-no, Seeking, seek-no}
 use Rattle.holding.specs.declared.held.Held.{Held}
 use Rattle.holding.specs.Held.{noHeld, holds}
 use Rattle.delivery.specs.Receiving.{isLow}
@@ -20,9 +19,10 @@ use Rattle.delivery.specs.LowLaws.{low-free}
 use Rattle.delivery.specs.Contradiction.{contradictsNext}
 use Rattle.delivery.specs.LookLaws.{Looking, look-used, look-free, orFree}
 use Rattle.delivery.specs.Bounds.{isTwice, isUnfit}
-use Rattle.delivery.specs.BoundsLaws.{slotOf, Checking, check-start, check-free, unfit-free, check-seen, check-near, check-held, check-far}
+use Rattle.delivery.specs.BoundsLaws.{unfit-free}
 use Rattle.taking.specs.Taking.{freeFor}
 use Rattle.taking.specs.FreeLaws.{over-free, free-first}
+use Rattle.reception.specs.NoteLaws.{Checking, check-start, check-free, check-new, check-held, check-same}
 
 -- a used place, as it was read, in the pass that an arrival makes
 module _ {T : Numbering} {P : Profile} {k : Keeping} {hs : List Held} {h : Held} {i a : ℕ} {b d : Bool} {f : ℕ} (w : Looking T P k hs h i a b d f)
@@ -34,17 +34,13 @@ module _ {T : Numbering} {P : Profile} {k : Keeping} {hs : List Held} {h : Held}
       (r ∙ ap (λ (m : Held). either d (either (contradictsNext T m h) (contradictsNext T h m))) e)
 
 -- the same, in the pass that looks for a number held twice
-module _ {n base : ℕ} {hs : List Held} {m : ℕ} {seen : List Bool} {i : ℕ} (w : Checking n base hs m seen i) (h : i < m)
-    (u : getD hs i noHeld .used ≡ true) (g : Held) (e : g ≡ getD hs i noHeld) {d : ℕ} (s : d ≡ slotOf (far (ring n) base (g .tsn .0))) where
-  there : d ≡ slotOf (far (ring n) base (getD hs i noHeld .tsn .0))
-  there = s ∙ ap (λ (x : Held). slotOf (far (ring n) base (x .tsn .0))) e
+module _ {hs : List Held} {m : ℕ} {seen : List Bool} {i : ℕ} (w : Checking hs m seen i) (h : i < m)
+    (u : getD hs i noHeld .used ≡ true) (g : Held) (e : g ≡ getD hs i noHeld) {d : ℕ} (s : d ≡ g .tsn .0 % 128) where
+  there : d ≡ getD hs i noHeld .tsn .0 % 128
+  there = s ∙ ap (λ (x : Held). x .tsn .0 % 128) e
 
-  module _ (b : g .tsn .0 < n) (l : d < 512) where
-    pub read-seen : getD seen d false ≡ true → true ≡ isTwice hs
-    read-seen q = check-seen w h u there (subst (λ (x : Held). x .tsn .0 < n) e b) l q
-
-    pub read-near : getD seen d false ≡ false → Checking n base hs m (set seen d true) (i + 1)
-    read-near q = check-near w h u there (subst (λ (x : Held). x .tsn .0 < n) e b) l q
+  pub read-new : d < 128 → getD seen d false ≡ false → Checking hs m (set seen d true) (i + 1)
+  read-new l q = check-new w h u there l q
 
   module _ {y : Bool} (b : y ≡ any (holds (g .tsn .0)) (take i hs)) where
     before : y ≡ any (holds (getD hs i noHeld .tsn .0)) (take i hs)
@@ -53,24 +49,29 @@ module _ {n base : ℕ} {hs : List Held} {m : ℕ} {seen : List Bool} {i : ℕ} 
     pub read-held : y ≡ true → true ≡ isTwice hs
     read-held q = check-held w h u there before q
 
-    pub read-far : 512 ≤ d → y ≡ false → Checking n base hs m seen (i + 1)
-    read-far l q = check-far w h u there before l q
+    pub read-same : getD seen d false ≡ true → y ≡ false → Checking hs m seen (i + 1)
+    read-same t q = check-same w h u there before t q
+
+-- the answer of a test, turned round
+pub turned : (b : Bool) → not b ≡ pick b false true
+turned true = refl
+turned false = refl
 
 -- free places, in the pass that weighs them
 module _ (T : Numbering) (P : Profile) (k : Keeping) {hs : List Held} where
-  pub weigh-free : {n base m : ℕ} {seen : List Bool} {i low : ℕ} (j : ℕ)
-      → Checking n base hs m seen i × Seeking (isUnfit P) hs m i × Counting (isLow T k) hs m i low → i + j ≤ m → freeFor hs i j ≡ true
-      → Checking n base hs m seen (i + j) × Seeking (isUnfit P) hs m (i + j) × Counting (isLow T k) hs m (i + j) low
-  weigh-free {n} {base} {m} {seen} {i} {low} j w l e =
-      over-free (λ (x : ℕ). Checking n base hs m seen x × Seeking (isUnfit P) hs m x × Counting (isLow T k) hs m x low) hs j i e
+  pub weigh-free : {m : ℕ} {seen : List Bool} {i low : ℕ} (j : ℕ)
+      → Checking hs m seen i × Seeking (isUnfit P) hs m i × Counting (isLow T k) hs m i low → i + j ≤ m → freeFor hs i j ≡ true
+      → Checking hs m seen (i + j) × Seeking (isUnfit P) hs m (i + j) × Counting (isLow T k) hs m (i + j) low
+  weigh-free {m} {seen} {i} {low} j w l e =
+      over-free (λ (x : ℕ). Checking hs m seen x × Seeking (isUnfit P) hs m x × Counting (isLow T k) hs m x low) hs j i e
       (λ x a b u v. (check-free (v .0) (omega arith) u, seek-no (v .1) noHeld (omega arith) (unfit-free P (getD hs x noHeld) u), count-no (v .2) noHeld (omega arith) (low-free T k (getD hs x noHeld) u))) w
 
   -- those from the first on
-  pub weigh-first : {n base m : ℕ} (j : ℕ) → length hs ≡ m → base < n → j ≤ m → freeFor hs 0 j ≡ true
-      → Checking n base hs m (replicate 512 false) j × Seeking (isUnfit P) hs m j × Counting (isLow T k) hs m j 0
-  weigh-first {n} {base} {m} j q b l e =
+  pub weigh-first : {m : ℕ} (j : ℕ) → length hs ≡ m → j ≤ m → freeFor hs 0 j ≡ true
+      → Checking hs m (replicate 128 false) j × Seeking (isUnfit P) hs m j × Counting (isLow T k) hs m j 0
+  weigh-first {m} j q l e =
       let z : 0 + j ≡ j = omega arith in
-      rw z at (weigh-free j (check-start n base hs m q b, record { long = q; rest = refl }, count-start (isLow T k) hs m q) (omega arith) e)
+      rw z at (weigh-free j (check-start hs m q, record { long = q; rest = refl }, count-start (isLow T k) hs m q) (omega arith) e)
 
 -- and in the other, where the first of eight is the lowest free place, if there was none
 module _ {T : Numbering} {P : Profile} {k : Keeping} {hs : List Held} where

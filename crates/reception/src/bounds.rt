@@ -9,10 +9,12 @@ use taking::choosing;
 ghost use mathlib.Core.Path.{_≡_};
 ghost use mathlib.Core.Bool.{true};
 ghost use mathlib.Core.List.{[]};
-ghost use Prim.Native.Nat.{_^_, _≤_};
-ghost use lib.ListN.{take};
+ghost use Prim.Native.Nat.{_+_, _^_, _%_, _<_, _≤_};
+ghost use lib.ListN.{length, take};
+ghost use lib.Dec.{ltb};
 ghost use Rattle.numbers.specs.Numbering.{ring};
 ghost use Rattle.numbers.specs.Profile.{rail};
+ghost use Rattle.numbers.specs.Come.{highest};
 ghost use Rattle.scans.specs.Scan.{any};
 ghost use Rattle.holding.specs.Held.{holds};
 ghost use Rattle.delivery.specs.Bounds.{isSound};
@@ -51,8 +53,15 @@ fn free_before(words: &[u32; held::WORDS]) -> usize
     i
 }
 
-// How many held chunks are low; more than may be where one is unfit or a number is held twice. A number near the point is looked up where it was
-// noted; only others are compared with all before them. Where nothing is held nothing is noted.
+// The slot in which a number is noted.
+fn slot(tsn: Tsn) -> usize
+    ensures { λ d. ⌜ (d ≡ tsn .0 % 128) × (d < 128) ⌝ }
+{
+    (tsn.0 % 128) as usize
+}
+
+// How many held chunks are low; more than may be where one is unfit or a number is held twice. Only where a slot is noted is a number compared with
+// all before it. Where nothing is held nothing is noted.
 fn weight(keeping: Keeping, words: &[u32; held::WORDS]) -> usize
     ensures { λ n. ⌜ (n ≡ weightOf (ring (2 ^ 32)) rail keeping (heldOf rail (now (words .entry)))) × (n ≤ 129) ⌝ }
 {
@@ -60,11 +69,9 @@ fn weight(keeping: Keeping, words: &[u32; held::WORDS]) -> usize
     if Rail::PLACES <= start {
         return 0;
     }
-    let point = keeping.point;
-    let base = point.after(bounds::BEFORE);
     let come = keeping.come;
     let mut low: usize = 0;
-    let mut seen = [false; bounds::NEAR];
+    let mut seen = [false; Rail::PLACES];
     let mut i: usize = start;
     while i < Rail::PLACES {
         if choosing::are_free(words, i) {
@@ -79,17 +86,14 @@ fn weight(keeping: Keeping, words: &[u32; held::WORDS]) -> usize
             let offset = keeping.offset(tsn);
             let j = receiving::flag_at(offset);
             low += receiving::is_low_by(offset, come[j]) as usize;
-            let d = bounds::slot(base, tsn);
-            if d < bounds::NEAR {
-                if seen[d] {
-                    return bounds::TOO_MANY;
-                }
-                seen[d] = true;
-                i += 1;
-            } else {
+            let d = slot(tsn);
+            if seen[d] {
                 if is_held_before(words, i, tsn) {
                     return bounds::TOO_MANY;
                 }
+                i += 1;
+            } else {
+                seen[d] = true;
                 i += 1;
             }
         } else {
@@ -97,6 +101,22 @@ fn weight(keeping: Keeping, words: &[u32; held::WORDS]) -> usize
         }
     }
     low
+}
+
+// Whether the highest offset come and so many low chunks are more than there are places: no flag is looked at that may be set.
+fn is_over(come: &[bool; Rail::PLACES], low: usize) -> bool
+    requires { ⌜ (low ≤ 128) × (length (now come) ≡ 128) ⌝ }
+    ensures { λ y. ⌜ y ≡ ltb 128 (highest (now (come .entry)) + low) ⌝ }
+{
+    let room = Rail::PLACES - low;
+    let mut i: usize = Rail::PLACES;
+    while room < i {
+        if come[i - 1] {
+            return true;
+        }
+        i -= 1;
+    }
+    false
 }
 
 // Whether number-keeping and the places are within their bounds; any next expected SSNs are.
@@ -110,8 +130,9 @@ pub fn is_sound(keeping: Keeping, words: &[u32; held::WORDS]) -> bool
     if n < 1 {
         return true;
     }
-    if Rail::PLACES < keeping.highest() + n {
+    if Rail::PLACES < n {
         return false;
     }
-    true
+    let come = keeping.come;
+    !is_over(&come, n)
 }

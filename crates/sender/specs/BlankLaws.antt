@@ -1,11 +1,12 @@
 -- Places side by side that are free and have no misses, in the pass that looks at every place. Assumes nothing.
-use Prim.Native.Nat.{ℕ, zero, suc, _+_, _<_, _≤_}
+use Prim.Native.Nat.{ℕ, zero, suc, _+_, _-_, _≤_}
 use mathlib.Core.Path.{_≡_, refl, sym, ap, _∙_, subst}
-use mathlib.Core.Bool.{Bool, true, false}
+use mathlib.Core.Bool.{Bool, true, false, not}
 use mathlib.Core.List.{List}
 use native.Mathlib.Omega.{arith}
-use borrow.Author.Tests.{le-ltb, ltb-false, eqb-true}
-use lib.ListN.{getD}
+use borrow.Author.Tests.{le-ltb, ne-eqb, ltb-false, eqb-true}
+use lib.ListN.{take, replicate, length-replicate}
+use lib.Seq.{take-all}
 use lib.Dec.{eqb, ltb}
 use Rattle.numbers.specs.declared.circle.Tsn.{Tsn}
 use Rattle.numbers.specs.Profile.{Profile}
@@ -13,8 +14,9 @@ use Rattle.scans.specs.Scan.{pick, either}
 use Rattle.scans.specs.Each.{clash, after-so, pick-self}
 use Rattle.places.specs.declared.place.Place.{Place}
 use Rattle.sending.specs.Bounds.{isOdd}
-use Rattle.sending.specs.Survey.{Surveying, survey-free}
+use Rattle.sending.specs.Survey.{Surveyed, Surveying, survey-start, survey-free, survey-end}
 use Rattle.tables.specs.Place.{placesOf, placeAt}
+use Rattle.tables.specs.PlaceLaws.{places-long}
 use Rattle.sender.specs.Seen.{isBlank, blankFor}
 
 -- one, and one more
@@ -65,3 +67,27 @@ survey-blank P ws {acked} {oldest} {i} {f} {o} {s} {t} {a} {b} (suc n) w l e =
     let r : o ≡ either o (isOdd P (placeAt P ws i)) = sym (ap (either o) (blank-even P (placeAt P ws i) (q .0)) ∙ pick-self o) in
     subst (λ (k : ℕ). Surveying P acked oldest (placesOf P ws) k f o s t a b) z
     (survey-blank P ws n (survey-free w (omega arith) (blank-free (placeAt P ws i) (q .0) .0) r) (omega arith) (q .1))
+
+-- eight more behind those from the first on
+pub blank-more : (P : Profile) (ws : List ℕ) (n : ℕ) → blankFor P ws 0 n ≡ true → blankFor P ws n 8 ≡ true → blankFor P ws 0 (n + 8) ≡ true
+blank-more P ws n e f =
+    let z : 0 + n ≡ n = omega arith in
+    rw (blank-add P ws n 0 8, e, z) f
+
+-- the pass begins behind them
+pub survey-first : (P : Profile) (ws : List ℕ) (acked : Tsn) (oldest : ℕ) (seen : List Bool) (n : ℕ) → take (P .places) seen ≡ replicate (P .places) false → n ≤ P .places
+    → blankFor P ws 0 n ≡ true → Surveying P acked oldest (placesOf P ws) n 0 false 0 0 seen seen
+survey-first P ws acked oldest seen n q l e =
+    let z : 0 + n ≡ n = omega arith in
+    rw z at (survey-blank P ws n (survey-start P acked oldest (placesOf P ws) seen (places-long P ws) q) (omega arith) e)
+
+-- what it would find where all are
+pub survey-none : (P : Profile) (ws : List ℕ) (acked : Tsn) (oldest n : ℕ) → P .places ≤ n → n ≤ P .places → blankFor P ws 0 n ≡ true
+    → Surveyed P acked oldest (placesOf P ws) (record { flight = 0; odd = false; sent = 0; waiting = 0; «seen_sent» = replicate (P .places) false; «seen_waiting» = replicate (P .places) false })
+survey-none P ws acked oldest n a b e = survey-end (survey-first P ws acked oldest (replicate (P .places) false) n (take-all (P .places) (replicate (P .places) false) (omega (arith, length-replicate (P .places) false))) b e) a
+
+-- nothing is sent: the next number follows our point
+pub next-follows : (d : ℕ) (f : ℕ → Bool) (b : Bool) → f 0 ≡ false → b ≡ true → eqb d 1 ≡ pick (ltb d 1) false (pick (pick (eqb 0 (d - 1)) (not (f (d - 1))) false) b false)
+next-follows zero f b e g = refl
+next-follows (suc zero) f b e g = rw (e, g)
+next-follows (suc (suc d)) f b e g = rw (ne-eqb (suc (suc d)) 1 (λ q. omega arith), le-ltb (suc (suc d)) 1 (omega arith), ne-eqb 0 (suc (suc d) - 1) (λ q. omega arith))

@@ -6,7 +6,7 @@ use places::Place;
 use sending::bounds;
 use sending::bounds::Survey;
 ghost use mathlib.Core.Path.{_≡_};
-ghost use mathlib.Core.Bool.{not, false};
+ghost use mathlib.Core.Bool.{not, true, false};
 ghost use mathlib.Core.List.{List, []};
 ghost use Prim.Native.Nat.{ℕ, _<_, _≤_};
 ghost use lib.Dec.{eqb, ltb};
@@ -132,52 +132,64 @@ fn are_blank(t: &[u32; 1024], i: usize) -> bool
     false
 }
 
-// What one pass finds. Whether a place is odd is asked in both arms: of a free one only the misses are left to look at.
-fn survey_of(t: &[u32; 1024], acked: Tsn, oldest: u32) -> Survey
+// How many places from the first on are free with no misses, counted by eights.
+fn blank_before(t: &[u32; 1024]) -> usize
+    ensures { λ n. ⌜ (blankFor rail (now (t .entry)) 0 n ≡ true) × (n ≤ 128) ⌝ }
+{
+    let mut i: usize = 0;
+    while i < Rail::PLACES {
+        if are_blank(t, i) {
+            i += 8;
+        } else {
+            return i;
+        }
+    }
+    i
+}
+
+// What one pass finds, where the places before `start` are free with no misses. Whether a place is odd is asked in both arms: of a free one only the
+// misses are left to look at.
+fn survey_of(t: &[u32; 1024], start: usize, acked: Tsn, oldest: u32) -> Survey
+    requires { ⌜ (blankFor rail (now t) 0 start ≡ true) × (start ≤ 128) ⌝ }
     ensures { λ r. ⌜ Surveyed rail acked oldest (placesOf rail (now (t .entry))) r ⌝ }
 {
-    let mut flight: u32 = 0;
-    let mut odd = false;
-    let mut sent: usize = 0;
-    let mut waiting: usize = 0;
-    let mut seen_sent = [false; bounds::SPOTS];
-    let mut seen_waiting = [false; bounds::SPOTS];
-    let mut i: usize = 0;
+    let mut v = Survey {
+        flight: 0,
+        odd: false,
+        sent: 0,
+        waiting: 0,
+        seen_sent: [false; bounds::SPOTS],
+        seen_waiting: [false; bounds::SPOTS],
+    };
+    let mut i: usize = start;
     while i < Rail::PLACES {
         if are_blank(t, i) {
             i += 8;
         } else {
             let p = tables::place::place_at(t, i);
             if p.status == Place::FREE {
-                odd = bounds::or_odd(odd, p);
+                v.odd = bounds::or_odd(v.odd, p);
                 i += 1;
             } else {
-                odd = bounds::or_odd(odd, p);
-                flight += p.flight();
-                sent += p.is_sent() as usize;
-                waiting += (p.status == Place::WAITING) as usize;
+                v.odd = bounds::or_odd(v.odd, p);
+                v.flight += p.flight();
+                v.sent += p.is_sent() as usize;
+                v.waiting += (p.status == Place::WAITING) as usize;
                 let j = bounds::spot_of(bounds::key_of(p, true, acked, oldest));
-                seen_sent[j] = true;
+                v.seen_sent[j] = true;
                 let k = bounds::spot_of(bounds::key_of(p, false, acked, oldest));
-                seen_waiting[k] = true;
+                v.seen_waiting[k] = true;
                 i += 1;
             }
         }
     }
-    Survey {
-        flight: flight,
-        odd: odd,
-        sent: sent,
-        waiting: waiting,
-        seen_sent: seen_sent,
-        seen_waiting: seen_waiting,
-    }
+    v
 }
 
 // Whether one of the first n is missing.
-fn has_gap(seen: [bool; bounds::SPOTS], n: usize) -> bool
+fn has_gap(seen: &[bool; bounds::SPOTS], n: usize) -> bool
     requires { ⌜ n ≤ 128 ⌝ }
-    ensures { λ r. ⌜ r ≡ hasGap seen n ⌝ }
+    ensures { λ r. ⌜ r ≡ hasGap (now (seen .entry)) n ⌝ }
 {
     let mut j: usize = 0;
     while j < n {
@@ -191,9 +203,9 @@ fn has_gap(seen: [bool; bounds::SPOTS], n: usize) -> bool
 }
 
 // Whether there are n, and each of the numbers 1 to n is among theirs.
-fn is_successive(seen: [bool; bounds::SPOTS], many: usize, n: u32) -> bool
+fn is_successive(seen: &[bool; bounds::SPOTS], many: usize, n: u32) -> bool
     requires { ⌜ many ≤ 128 ⌝ }
-    ensures { λ r. ⌜ r ≡ pick (eqb many n) (not (hasGap seen n)) false ⌝ }
+    ensures { λ r. ⌜ r ≡ pick (eqb many n) (not (hasGap (now (seen .entry)) n)) false ⌝ }
 {
     if many == n as usize {
         return !has_gap(seen, many);
@@ -201,13 +213,20 @@ fn is_successive(seen: [bool; bounds::SPOTS], many: usize, n: u32) -> bool
     false
 }
 
-// Whether the sending side is within its bounds, whatever the next SSNs.
+// Whether the sending side is within its bounds, whatever the next SSNs. Where every place is free nothing is noted.
 pub fn is_within(s: Sender, t: &[u32; 1024]) -> bool
     ensures { λ r. ⌜ ((ns : List ℕ) → r ≡ isWithin railSizes rail (seen rail s (now (t .entry)) ns)) ⌝ }
 {
     let p = s.path;
     if p.is_within() {
-        let v = survey_of(t, s.acked, s.oldest);
+        let start = blank_before(t);
+        if Rail::PLACES <= start {
+            if p.flight == 0 {
+                return numbers::keeping::ahead_of(s.acked, s.next_tsn) == 1;
+            }
+            return false;
+        }
+        let v = survey_of(t, start, s.acked, s.oldest);
         if v.flight == p.flight {
             if v.odd {
                 return false;
@@ -216,10 +235,8 @@ pub fn is_within(s: Sender, t: &[u32; 1024]) -> bool
             if d < 1 {
                 return false;
             }
-            let sent = v.seen_sent;
-            if is_successive(sent, v.sent, s.room()) {
-                let waiting = v.seen_waiting;
-                return is_successive(waiting, v.waiting, v.waiting as u32);
+            if is_successive(&v.seen_sent, v.sent, s.room()) {
+                return is_successive(&v.seen_waiting, v.waiting, v.waiting as u32);
             }
             return false;
         }

@@ -1,19 +1,7 @@
 use Prim.Native.Nat.{_-_}
-use mathlib.Core.Bool.{true, false}
-use mathlib.Core.Path.{refl, sym, ap, _∙_}
-use native.Mathlib.Omega.{arith}
-use borrow.Author.Tests.{lt-ltb, le-ltb, eq-eqb, ne-eqb}
-use mir.Facts.{fits-le, fits-lit}
-use Rattle.numbers.specs.Profile.{rail}
-use Rattle.scans.specs.Scan.{either, bit-within}
-use Rattle.places.specs.declared.place.Place.{Place}
-use Rattle.places.specs.Places.{hasStatus, flightOf, isSent}
-use Rattle.sending.specs.Bounds.{isOdd, keyOf, spotOf}
-use Rattle.sending.specs.Survey.{Surveying, survey-start, survey-free, survey-more, survey-end}
-use Rattle.tables.specs.Place.{placesOf}
-use Rattle.tables.specs.PlaceLaws.{places-long}
+use mathlib.Core.Path.{ap}
+use borrow.Author.Tests.{eq-eqb, ne-eqb}
 use Rattle.sender.specs.Seen.{isBlank}
-use Rattle.sender.specs.BlankLaws.{blank-two, blank-add, blank-eight, survey-blank}
 use borrow.Author.Needs.{needs}
 use Rattle.sender.proofs.is_blank.Statement.{statement}
 use Rattle.sender.proofs.is_blank.Tie as tie

@@ -1,20 +1,12 @@
-use Prim.Native.Nat.{_-_, _^_, _≤_}
+use Prim.Native.Nat.{_-_, _≤_}
 use mathlib.Core.Bool.{true}
-use mathlib.Core.Path.{_≡_, refl, sym, ap, _∙_}
+use mathlib.Core.Path.{_≡_, refl}
 use native.Mathlib.Omega.{arith}
 use borrow.Author.Needs.{needs}
-use mir.Facts.{fits-le, fits-lit}
-use Rattle.numbers.specs.Numbering.{ring}
 use Rattle.numbers.specs.Profile.{rail}
-use Rattle.scans.specs.Scan.{bit-within}
-use Rattle.holding.specs.declared.held.Held.{Held}
 use Rattle.tables.specs.Held.{heldOf}
-use Rattle.tables.specs.HeldLaws.{held-long}
 use Rattle.taking.specs.Taking.{freeFor}
 use Rattle.taking.specs.FreeLaws.{free-eight, free-more}
-use Rattle.delivery.specs.LowLaws.{low-by}
-use Rattle.delivery.specs.LookLaws.{Looking, look-start, look-free, look-end}
-use Rattle.reception.specs.ReadLaws.{read-used, look-eight}
 use Rattle.reception.proofs.bounds.free_before.Statement.{statement}
 use Rattle.reception.proofs.bounds.free_before.Tie as tie
 use Rattle.reception.proofs.bounds.free_before.Reads as reads

@@ -1,8 +1,4 @@
-use Rattle.path.specs.Sizes.{railSizes}
-use Rattle.numbers.specs.Profile.{rail}
-use mathlib.Core.List.{[]}
-use Rattle.sending.specs.TableLaws.{fresh-is, sampled-is, doubled-is, heard-is}
-use Rattle.sender.specs.Seen.{seen}
+use Rattle.sending.specs.TableLaws.{heard-is}
 use borrow.Author.Needs.{needs}
 use Rattle.sender.proofs.Sender.heard.Statement.{statement}
 use Rattle.sender.proofs.Sender.heard.Tie as tie
