@@ -1,4 +1,6 @@
--- What `arrive` sends passes our own checks 2, 3, 5 and 6, and is at most 1,472 bytes.
+-- What any call sends passes our own checks 2, 3, 5 and 6, is no longer than it may be, and touches no byte behind.
+pub mod Sent
 pub mod Reply
 pub mod ReplyLaws
 pub mod Passes
+pub mod SentLaws

@@ -1,4 +1,4 @@
--- "what `arrive` writes passes our own walk (2, 3, 5, 6) and is at most 1,472 bytes". Assumes nothing.
+-- What `arrive` writes passes our own checks 2, 3, 5 and 6, is at most 1,472 bytes, and touches no byte behind. Assumes nothing.
 use Prim.Native.Nat.{ℕ, zero, suc, _+_, _-_, _<_, _≤_}
 use mathlib.Core.Path.{_≡_, refl, sym, ap, _∙_}
 use mathlib.Core.Bool.{Bool, false}
@@ -9,13 +9,13 @@ use lib.ListN.{length, take, drop, length-append}
 use Rattle.scans.specs.Scan.{either}
 use Rattle.scans.specs.Each.{All, clash}
 use Rattle.octets.specs.Bytes.{laid}
-use Rattle.octets.specs.BytesLaws.{length-laid}
+use Rattle.octets.specs.BytesLaws.{length-laid, drop-past}
 use Rattle.octets.specs.Walk.{size, walk, overItems, joined}
 use Rattle.octets.specs.WalkLaws.{size-least, walk-on, over-on, over-end}
 use Rattle.octets.specs.WritingLaws.{first}
 use Rattle.packets.specs.declared.header.Header.{Header}
 use Rattle.packets.specs.Header.{sealCount, sealBytes}
-use Rattle.packets.specs.HeaderLaws.{seal-done}
+use Rattle.packets.specs.HeaderLaws.{seal-done, seal-rest, seal-behind}
 use Rattle.packets.specs.Shape.{alone, shapeNumber}
 use Rattle.packets.specs.ShapeLaws.{shape-together, init-alone}
 use Rattle.packets.specs.Body.{Sound}
@@ -37,10 +37,11 @@ use Rattle.arriving.specs.Outcomes.Turning.{unread, read}
 use Rattle.arriving.specs.Outcomes.Closing.{as-gathered, shut, displaced}
 use Rattle.arriving.specs.Outcomes.Sealed.{nothing, behind}
 use Rattle.arriving.specs.Outcomes.Arriving.{left, answered}
-use Rattle.replies.specs.Reply.{Shared, Fits, Held, Packed, Passing}
+use Rattle.replies.specs.Reply.{Shared, Fits, Held, Packed}
 use Rattle.replies.specs.Reply.Fits.{several, single}
 use Rattle.replies.specs.Reply.Held.{together, apart}
-use Rattle.replies.specs.Reply.Passing.{untouched, passes}
+use Rattle.replies.specs.Sent.{longestReply, Passing}
+use Rattle.replies.specs.Sent.Passing.{untouched, passes}
 use Rattle.replies.specs.ReplyLaws.{shared-none, shared-one, shared-both, shared-as, shared-fitting, shutdown-shares, reply-fits, fits-fitting, sound-packed, shared-packed}
 
 -- ---- the walk
@@ -139,7 +140,7 @@ module _ (h : Header) (bs out : List ℕ) (w : Packed bs) (short : length bs ≤
   room : 12 + length bs ≤ length (laid out 12 bs)
   room = omega (arith, length-laid out 12 bs)
 
-  counts : 12 + length bs ≡ sealCount (12 + length bs) (laid out 12 bs)
+  pub counts : 12 + length bs ≡ sealCount (12 + length bs) (laid out 12 bs)
   counts = seal-done h (12 + length bs) (laid out 12 bs) (12 + length bs) (omega arith) room refl (first _ _ refl) refl refl .0
 
   stands : drop 12 (take (12 + length bs) (laid out 12 bs)) ≡ joined (w .chunks)
@@ -149,21 +150,29 @@ module _ (h : Header) (bs out : List ℕ) (w : Packed bs) (short : length bs ≤
   sealed-passes =
       written-passes h (12 + length bs) (laid out 12 bs) (w .chunks) (w .sound) (w .together) (omega (arith, packed-least w some)) (omega arith) room stands
 
-sealed-as : {bs out exit : List ℕ} {n : ℕ} → Packed bs → length bs ≤ 1460 → 1472 ≤ length out → Sealed bs out n exit → Passing out n exit
-sealed-as w short fit (nothing e d) = untouched e d
-sealed-as {bs} {out} w short fit (behind h some e d) =
+  pub reads-back : drop 12 (take (12 + length bs) (sealBytes h (12 + length bs) (laid out 12 bs))) ≡ bs
+  reads-back = seal-rest h (12 + length bs) (laid out 12 bs) (omega arith) room ∙ stands ∙ sym (w .is)
+
+  stays : drop (12 + length bs) (sealBytes h (12 + length bs) (laid out 12 bs)) ≡ drop (12 + length bs) out
+  stays = seal-behind h (12 + length bs) (laid out 12 bs) (omega arith) room ∙ drop-past bs out 12 (12 + length bs) (omega arith)
+
+pub sealed-as : {most : ℕ} {bs out exit : List ℕ} {n : ℕ} → Packed bs → 12 + length bs ≤ most → length bs ≤ 1460 → 1472 ≤ length out → Sealed bs out n exit → Passing most out n exit
+sealed-as w few short fit (nothing e d) = untouched e d
+sealed-as {most} {bs} {out} w few short fit (behind h some e d) =
     let k = e ∙ sym (counts h bs out w short some fit) in
     passes (omega (arith, k)) ((λ i. packetNumber (take (k i) (d i))) ∙ sealed-passes h bs out w short some fit)
+    ((λ i. drop (k i) (d i)) ∙ stays h bs out w short some fit ∙ ap (λ (j : ℕ). drop j out) (sym k))
 
 -- ---- whatever packet arrives, and whatever the host lends
 
 pub arrive-passes : (a : Association) (area packet : List ℕ) (lent : Lent) (cookie : List ℕ) (e : Echoed) (out : List ℕ)
-    → Passing out (arrivedOf a area packet lent cookie e out .length) (outOf a area packet lent cookie e out)
+    → Passing longestReply out (arrivedOf a area packet lent cookie e out .length) (outOf a area packet lent cookie e out)
 arrive-passes a area packet lent cookie e out = go (arriving a area packet lent cookie e out)
   where
-    go : {n : ℕ} {exit : List ℕ} → Arriving a area packet lent cookie e out n exit → Passing out n exit
+    go : {n : ℕ} {exit : List ℕ} → Arriving a area packet lent cookie e out n exit → Passing longestReply out n exit
     go (left p q) = untouched p q
     go (answered h s) =
         let t : Turn = passed a area packet lent cookie (heeded e) in
+        let l = whole-small (t .walked) (t .reply) (passed-small a area packet lent cookie (heeded e)) in
         sealed-as (closed (walk-holds a area packet lent cookie (heeded e) (let-in-shape a area packet lent cookie e out h)) (closing (t .walked) (t .reply)))
-        (whole-small (t .walked) (t .reply) (passed-small a area packet lent cookie (heeded e))) (let-in-long a area packet lent cookie e out h) s
+        (omega (arith, l)) l (let-in-long a area packet lent cookie e out h) s

@@ -1,15 +1,13 @@
 -- What a reply is made of: chunks that may share one packet, or one that stands alone.
-use Prim.Native.Nat.{ℕ, _≤_}
+use Prim.Native.Nat.{ℕ}
 use mathlib.Core.Path.{_≡_}
 use mathlib.Core.Bool.{Bool, false}
 use mathlib.Core.List.{List}
-use lib.ListN.{take}
 use Rattle.scans.specs.Each.{All}
 use Rattle.octets.specs.Bytes.{u8}
 use Rattle.octets.specs.Walk.{joined}
 use Rattle.packets.specs.Shape.{alone}
 use Rattle.packets.specs.Body.{Sound, Together}
-use Rattle.packets.specs.Checks.{packetNumber}
 use Rattle.steps.specs.declared.verdict.Owed.{Owed}
 use Rattle.steps.specs.declared.verdict.Owed.the-variants.{Nothing}
 
@@ -40,8 +38,3 @@ pub record Packed (bs : List ℕ) : Type 0 where
   pub sound : All Sound chunks
   pub together : Together chunks
   pub is : bs ≡ joined chunks
-
--- what is sent from an output: nothing, and it is as it was; or a packet of at most 1,472 bytes that passes our own checks 2, 3, 5 and 6
-pub data Passing (out : List ℕ) (n : ℕ) (exit : List ℕ) : Type 0 where
-  untouched : n ≡ 0 → exit ≡ out → Passing out n exit
-  passes : n ≤ 1472 → packetNumber (take n exit) ≡ 0 → Passing out n exit

@@ -1,1 +1,1 @@
-// What `arrive` writes passes the checks of a reader: the laws are in specs/.
+// What any call writes passes the checks of a reader: the laws are in specs/.
