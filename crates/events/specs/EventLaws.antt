@@ -3,7 +3,6 @@ use Prim.Native.Nat.{ℕ, _<_, _≤_}
 use mathlib.Core.Path.{_≡_, refl}
 use mathlib.Core.Bool.{true, false}
 use mathlib.Core.List.{List}
-use native.Mathlib.Omega.{arith}
 use borrow.Author.Tests.{lt-ltb, le-ltb}
 use Rattle.events.specs.declared.event.Event.the-variants.{ErrorStream}
 use Rattle.events.specs.Event.{at, streamsAt, portAt, associateOf, handInOf, staleOf, eventOf}

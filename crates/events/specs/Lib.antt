@@ -5,3 +5,6 @@ pub mod Told
 pub mod Happening
 pub mod HappeningLaws
 pub mod WideLaws
+pub mod Refusal
+pub mod RefusalLaws
+pub mod HappenedLaws

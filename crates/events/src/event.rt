@@ -8,7 +8,6 @@ use steps::Made;
 ghost use mathlib.Core.Path.{_≡_};
 ghost use mathlib.Core.Bool.{false, true};
 ghost use lib.Dec.{ltb};
-ghost use lib.ListN.{getD};
 ghost use Rattle.scans.specs.Scan.{pick};
 ghost use Rattle.scans.specs.Upto.{smaller};
 ghost use Rattle.events.specs.Event.{at, tsnAt, streamAt, streamsAt, portAt, lentOf, madeOf, associateOf, handInOf, staleOf, eventOf};
