@@ -42,7 +42,8 @@ enum owh_kind {
     OWH_QUIET = 5,     /* the peer owes an answer and was last heard `milliseconds` ago */
     OWH_HEARD = 6,     /* it is heard again */
     OWH_MOVED = 7,     /* it has another address now: owh_peer */
-    OWH_DOWN = 8       /* it is over for `why`; the `undelivered` messages from `ticket` on may not have come. What came can still be taken */
+    OWH_DOWN = 8,      /* it is over for `why`; the `undelivered` messages from `ticket` on may not have come. What came can still be taken */
+    OWH_RESTARTED = 9  /* it takes the place of `before`, of which the peer had lost all that it knew */
 };
 
 enum owh_why {
@@ -63,6 +64,7 @@ struct owh_event {
     owh_ticket ticket;
     uint64_t undelivered;
     uint64_t milliseconds;
+    owh_head before;
 };
 
 struct owh_message {

@@ -64,6 +64,11 @@ pub enum Event {
         /// Where they go.
         to: SocketAddr,
     },
+    /// It takes the place of an association with the same peer, which had lost all that it knew of that one.
+    Restarted {
+        /// The association before, which is down.
+        before: HeadId,
+    },
     /// It is over. What came and was acknowledged can still be taken; of these messages nobody knows whether the peer has them.
     Down {
         /// How it came to its end.
@@ -423,7 +428,10 @@ impl<L: Library> Hub<L> {
                     if let Some(before) = before {
                         self.supersede(before, incoming.at);
                     }
-                    self.add(session, incoming.from, incoming.at);
+                    let id = self.add(session, incoming.from, incoming.at);
+                    if let Some(before) = before {
+                        self.events.push_back((id, Event::Restarted { before }));
+                    }
                 }
             }
         }

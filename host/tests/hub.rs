@@ -166,6 +166,7 @@ fn a_head_that_lost_its_power_is_served_at_once<L: Library>() {
     assert_eq!(world.taken[&old].len(), 3);
     let new = world.id_of(address(0)).expect("it is up again");
     assert!(new != old && world.field.heads().count() == 2);
+    assert_eq!(world.events_of(new)[1], &Event::Restarted { before: old });
     let id = world.outposts[0].id;
     world.outposts[0].hub.hand_in(id, b"anew", 0, false, 0).expect("there is room");
     world.run_for(SECOND);

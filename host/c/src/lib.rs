@@ -51,6 +51,7 @@ pub struct OwhEvent {
     ticket: u64,
     undelivered: u64,
     milliseconds: u64,
+    before: u64,
 }
 
 #[repr(C)]
@@ -121,6 +122,7 @@ fn told(head: HeadId, event: Event) -> OwhEvent {
         Event::Quiet(silence) => OwhEvent { milliseconds: silence.as_millis() as u64, ..plain(5) },
         Event::Heard => plain(6),
         Event::Moved { .. } => plain(7),
+        Event::Restarted { before } => OwhEvent { before: before.number(), ..plain(9) },
         // Messages are delivered in the order of their tickets, so that those which were not follow each other.
         Event::Down { why, undelivered } => OwhEvent {
             why: why_for_c(why),

@@ -236,6 +236,7 @@ impl<L: Library> Field<L> {
                     visit.peer = to;
                 }
                 Event::Down { why, .. } => visit.why = Some(why),
+                Event::Restarted { .. } => self.news.push(format!("  {} has begun anew", visit.who())),
                 Event::Up { .. } | Event::Writable | Event::Delivered(_) => {}
             }
         }
