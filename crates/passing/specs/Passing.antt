@@ -53,8 +53,8 @@ module _ (v : Init) (c s : List ℕ) (h : length c ≤ 256) (n : length c ≡ 0 
       (init-sound 2 0 (initFields v ++ gatherAll ROOM true (parameter COOKIE c) (paramsOf s)) refl (omega arith) (filling-tiles (gathered-fills c (paramsOf s))))
 
 module _ (k : Sack) (h : k .blocks .count ≤ 64) (g : k .listed ≤ 16) where
-  long : length (sackFields k) ≡ 12 + 4 * (k .blocks .count + k .listed)
-  long =
+  pub sack-long : length (sackFields k) ≡ 12 + 4 * (k .blocks .count + k .listed)
+  sack-long =
       omega (arith, length-append (items (blockAt (k .blocks .starts) (k .blocks .ends)) 0 (k .blocks .count)) (items (dupAt (k .dups)) 0 (k .listed)), length-items (blockAt (k .blocks .starts) (k .blocks .ends)) (λ j. refl) 0 (k .blocks .count), length-items (dupAt (k .dups)) (λ j. refl) 0 (k .listed))
 
   pub sack-passes : Sound (sackBytes rail k)
@@ -63,7 +63,7 @@ module _ (k : Sack) (h : k .blocks .count ≤ 64) (g : k .listed ≤ 16) where
       let s : List ℕ = framed 3 0 v in
       let a : u16 s 12 ≡ k .blocks .count = u16-at s 12 (k .blocks .count) refl in
       let b : u16 s 14 ≡ k .listed = u16-at s 14 (k .listed) refl in
-      rw (sack-is k h g) (sack-sound 0 v (omega (arith, long)) (omega (arith, long, a, b)))
+      rw (sack-is k h g) (sack-sound 0 v (omega (arith, sack-long)) (omega (arith, sack-long, a, b)))
 
 pub shutdown-passes : (point : Tsn) → Sound (shutdownBytes point)
 shutdown-passes point = shutdown-sound 0 (be32 (point .0)) (omega arith)
