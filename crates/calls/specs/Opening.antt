@@ -6,8 +6,8 @@ use Rattle.scans.specs.Scan.{pick}
 use Rattle.scans.specs.Upto.{smaller}
 use Rattle.numbers.specs.declared.circle.Tsn.{Tsn}
 use Rattle.chunks.specs.declared.init.Init.{Init}
-use Rattle.chunks.specs.InitChunk.{initFields}
-use Rattle.chunks.specs.Frame.{framed}
+use Rattle.chunks.specs.InitChunk.{initFields, ownInit}
+use Rattle.chunks.specs.Frame.{framed, inRow}
 use Rattle.states.specs.declared.state.State.the-variants.{CookieWait}
 use Rattle.states.specs.declared.call.Call.the-variants.{Associate}
 use Rattle.association.specs.declared.ends.Association.{Association}
@@ -28,7 +28,7 @@ initOf a = record {
 
 -- the same as bytes
 abbrev pub initBytes : Association → List ℕ
-initBytes a = framed 1 0 (initFields (initOf a))
+initBytes a = framed 1 0 (initFields (initOf a) ++ inRow ownInit)
 
 -- "our own INIT, starts from a fresh record": the peer's tag and initial TSN are not known yet; "128 streams each way at most"
 unfoldable pub wanting : Association → ℕ → Tsn → ℕ → ℕ → Association
