@@ -99,7 +99,7 @@ typedef uint16_t ow_ssn;    /* stream sequence number, on the circle of 2^16 */
 #define OW_SHUTDOWN_RECEIVED 6
 #define OW_SHUTDOWN_ACK_SENT 7 /* * T2 runs */
 
-/* Ports, verification tags, and the streams agreed each way; in OW_COOKIE_WAIT those wanted. */
+/* Ports, verification tags, the streams agreed each way, and the options agreed; in OW_COOKIE_WAIT those wanted. */
 struct ow_ends {
     uint16_t local_port;
     uint16_t peer_port;
@@ -107,6 +107,7 @@ struct ow_ends {
     uint32_t peer_tag;
     uint16_t streams_in;
     uint16_t streams_out;
+    uint8_t options; /* 0: there is none yet, and any other number is outside the record's bounds */
 };
 
 /* Which TSNs have come: all up to `point`, and point + 1 + i where `come[i]` is 1; the first `listed` of `dups` came again since the last SACK. */
@@ -273,7 +274,8 @@ static inline struct ow_answer ow_associate(struct ow_association *association, 
 
 /*
  * The first chunk of a packet. An INIT: the port that the packet came from and the INIT's fields; `outs` and `ins` are the streams that the peer
- * wants to send on and takes at most. A COOKIE ECHO: the cookie is the `len` bytes of the packet from `at` on. All other fields are 0.
+ * wants to send on and takes at most, `options` those that it offers and we know. A COOKIE ECHO: the cookie is the `len` bytes of the packet from `at` on. All
+ * other fields are 0.
  */
 struct ow_peeked {
     uint8_t number;
@@ -286,6 +288,7 @@ struct ow_peeked {
     ow_tsn tsn;
     size_t at;
     size_t len;
+    uint8_t options;
 };
 
 /*
@@ -296,14 +299,21 @@ static inline struct ow_peeked ow_peek(const uint8_t *packet, size_t packet_len)
 
 /* ---- A packet arrives -------------------------------------------------------------------------------------------------------------------- */
 
-/* For the INIT ACK that answers an INIT: our tag, not 0, our first TSN, both random, and the streams wanted for sending. For any other packet 0s will do. */
+/*
+ * For the INIT ACK that answers an INIT: our tag, not 0, our first TSN, both random, the streams wanted for sending, and the options: 0, for there is none yet, and
+ * the INIT is refused 8 with any other number. For any other packet 0s will do.
+ */
 struct ow_lent {
     uint32_t tag;
     ow_tsn tsn;
     uint16_t streams;
+    uint8_t options;
 };
 
-/* What a cookie was made from: the tags, the streams agreed each way, both first TSNs and the peer's window. */
+/*
+ * What a cookie was made from: the tags, the streams agreed each way, both first TSNs and the peer's window; the tie-tags (RFC 9260 section 5.2.2), 0 for none, which
+ * nothing reads yet; the options agreed, 0, for a good cookie with any other number counts as bad.
+ */
 struct ow_made {
     uint32_t my_tag;
     uint32_t peer_tag;
@@ -312,6 +322,9 @@ struct ow_made {
     ow_tsn my_tsn;
     ow_tsn peer_tsn;
     uint32_t window;
+    uint32_t my_tie;
+    uint32_t peer_tie;
+    uint8_t options;
 };
 
 /* `word`. Any other number counts as OW_BAD. */
@@ -528,7 +541,7 @@ static inline struct ow_answer ow_heartbeat(struct ow_association *association, 
  * Over the record's parts: its head, its tables, its cookie, each lent whole. A function returns the number, and `told` gets what else it answers, in the order of
  * the call's struct; of ow_lent_sack the length, point, window, and how many blocks and duplicates there are.
  */
-#define OW_VERSION 1 /* what ow_version answers where this header is the library's */
+#define OW_VERSION 2 /* what ow_version answers where this header is the library's */
 
 uint32_t ow_version(void);
 
@@ -540,12 +553,12 @@ uint32_t ow_lent_close(struct ow_head *head, uint32_t held[OW_HELD_WORDS * OW_PL
 uint32_t ow_lent_associate(struct ow_head *head, uint32_t held[OW_HELD_WORDS * OW_PLACES], ow_ssn next_in[OW_STREAMS],
     uint32_t places[OW_PLACE_WORDS * OW_PLACES], ow_ssn next_out[OW_STREAMS], uint8_t kept_cookie[OW_COOKIE_MOST], uint32_t tag, ow_tsn tsn,
     uint16_t port, uint16_t streams, uint8_t *out, size_t out_len, size_t told[2]);
-uint32_t ow_lent_peek(const uint8_t *packet, size_t packet_len, size_t told[9]);
+uint32_t ow_lent_peek(const uint8_t *packet, size_t packet_len, size_t told[10]);
 uint32_t ow_lent_arrive(struct ow_head *head, uint32_t held[OW_HELD_WORDS * OW_PLACES], ow_ssn next_in[OW_STREAMS],
     uint32_t places[OW_PLACE_WORDS * OW_PLACES], ow_ssn next_out[OW_STREAMS], uint8_t kept_cookie[OW_COOKIE_MOST], uint8_t *area, size_t area_len,
     uint32_t verdicts[OW_VERDICT_WORDS * OW_VERDICTS], const uint8_t *packet, size_t packet_len, uint32_t tag, ow_tsn tsn, uint16_t streams,
-    const uint8_t *cookie, size_t cookie_len, uint8_t word, uint32_t my_tag, uint32_t peer_tag, uint16_t streams_in, uint16_t streams_out,
-    ow_tsn my_tsn, ow_tsn peer_tsn, uint32_t window, uint8_t *out, size_t out_len, size_t told[2]);
+    uint8_t options, const uint8_t *cookie, size_t cookie_len, uint8_t word, uint32_t my_tag, uint32_t peer_tag, uint16_t streams_in, uint16_t streams_out,
+    ow_tsn my_tsn, ow_tsn peer_tsn, uint32_t window, uint32_t my_tie, uint32_t peer_tie, uint8_t agreed, uint8_t *out, size_t out_len, size_t told[2]);
 uint32_t ow_lent_hand_in(struct ow_head *head, const uint32_t held[OW_HELD_WORDS * OW_PLACES], uint32_t places[OW_PLACE_WORDS * OW_PLACES],
     uint8_t *area, size_t area_len, const uint8_t *message, size_t message_len, ow_stream stream, uint8_t unordered, uint32_t ppid, size_t told[1]);
 uint32_t ow_lent_transmit(struct ow_head *head, const uint32_t held[OW_HELD_WORDS * OW_PLACES], uint32_t places[OW_PLACE_WORDS * OW_PLACES],
@@ -606,7 +619,7 @@ static inline struct ow_answer ow_associate(struct ow_association *a, uint32_t t
 }
 
 static inline struct ow_peeked ow_peek(const uint8_t *packet, size_t packet_len) {
-    size_t told[9];
+    size_t told[10];
     struct ow_peeked peeked;
     peeked.number = (uint8_t)ow_lent_peek(packet, packet_len, told);
     peeked.kind = (uint8_t)told[0];
@@ -618,6 +631,7 @@ static inline struct ow_peeked ow_peek(const uint8_t *packet, size_t packet_len)
     peeked.tsn = (ow_tsn)told[6];
     peeked.at = told[7];
     peeked.len = told[8];
+    peeked.options = (uint8_t)told[9];
     return peeked;
 }
 
@@ -627,8 +641,8 @@ static inline struct ow_arrived ow_arrive(struct ow_association *a, uint8_t *are
     struct ow_made made = echoed.made;
     struct ow_arrived arrived;
     arrived.number = (uint8_t)ow_lent_arrive(&a->head, a->held, a->next_in, a->places, a->next_out, a->cookie, area, area_len, verdicts, packet, packet_len,
-        lent.tag, lent.tsn, lent.streams, cookie, cookie_len, echoed.word, made.my_tag, made.peer_tag, made.streams_in, made.streams_out, made.my_tsn,
-        made.peer_tsn, made.window, out, out_len, told);
+        lent.tag, lent.tsn, lent.streams, lent.options, cookie, cookie_len, echoed.word, made.my_tag, made.peer_tag, made.streams_in, made.streams_out, made.my_tsn,
+        made.peer_tsn, made.window, made.my_tie, made.peer_tie, made.options, out, out_len, told);
     arrived.count = told[0];
     arrived.length = told[1];
     return arrived;

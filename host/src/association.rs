@@ -92,7 +92,7 @@ impl<L: Library> Association<L> {
 
     /// A packet arrives: a verdict for each of its chunks, and what is to be answered at once is written to `out`.
     pub fn arrive(&mut self, packet: &[u8], lent: &Lent, echoed: Echoed, out: &mut [u8]) -> Answer<Arrived> {
-        let values = library::Lent { tag: lent.tag, tsn: lent.tsn, streams: lent.streams };
+        let values = library::Lent { tag: lent.tag, tsn: lent.tsn, streams: lent.streams, options: 0 };
         let answer = L::arrive(&mut self.record, &mut self.received, packet, values, &lent.cookie, echoed_for_c(echoed), out);
         let verdicts = answer.verdicts.iter().map(verdict_of).collect();
         answered(answer.number, Arrived { verdicts, reply: answer.length })

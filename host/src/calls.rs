@@ -202,6 +202,8 @@ pub struct Init {
     pub ins: u16,
     /// The peer's first TSN.
     pub tsn: u32,
+    /// The options that it offers: 0.
+    pub options: u8,
 }
 
 impl Init {
@@ -215,6 +217,7 @@ impl Init {
             my_tsn,
             peer_tsn: self.tsn,
             window: self.window,
+            ..Made::default()
         }
     }
 }
@@ -249,6 +252,12 @@ pub struct Made {
     pub peer_tsn: u32,
     /// The peer's window.
     pub window: u32,
+    /// Our tie-tag, 0 for none.
+    pub my_tie: u32,
+    /// The peer's tie-tag, 0 for none.
+    pub peer_tie: u32,
+    /// The options agreed: 0.
+    pub options: u8,
 }
 
 /// The host's word on an echoed cookie.
@@ -407,7 +416,7 @@ mod tests {
 
     #[test]
     fn streams_are_agreed_by_the_smaller_number() {
-        let init = Init { source: 5001, tag: 3, window: 2000, outs: 300, ins: 10, tsn: 4 };
+        let init = Init { source: 5001, tag: 3, window: 2000, outs: 300, ins: 10, tsn: 4, options: 0 };
         let made = init.agreed(1, 2, 200);
         assert_eq!((made.streams_in, made.streams_out), (128, 10));
         let wide = Init { ins: 500, ..init }.agreed(1, 2, 200);

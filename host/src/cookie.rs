@@ -76,6 +76,7 @@ impl CookieJar {
             my_tsn: fields.word(),
             peer_tsn: fields.word(),
             window: fields.word(),
+            ..Made::default()
         };
         let baked = Duration::from_millis(fields.double());
         let is_for_this_peer = fields.half() == port && fields.0 == address_bytes(from);
@@ -153,8 +154,18 @@ impl Fields<'_> {
 mod tests {
     use super::*;
 
-    const MADE: Made =
-        Made { my_tag: 0x0102_0304, peer_tag: 0xfffe_fdfc, streams_in: 8, streams_out: 127, my_tsn: 4_294_967_196, peer_tsn: 7, window: 65_536 };
+    const MADE: Made = Made {
+        my_tag: 0x0102_0304,
+        peer_tag: 0xfffe_fdfc,
+        streams_in: 8,
+        streams_out: 127,
+        my_tsn: 4_294_967_196,
+        peer_tsn: 7,
+        window: 65_536,
+        my_tie: 0,
+        peer_tie: 0,
+        options: 0,
+    };
 
     fn peer() -> SocketAddr {
         SocketAddr::from(([192, 0, 2, 7], 9899))

@@ -98,7 +98,7 @@ pub const CAUSE_USER: u8 = 12;
 /// The call that a verdict names: `ow_abort`.
 pub const CAUSE_VIOLATION: u8 = 13;
 
-/// Ports, tags and streams.
+/// Ports, tags, streams and options.
 #[derive(Clone, Copy, Debug, PartialEq, Eq)]
 #[repr(C)]
 pub struct Ends {
@@ -114,6 +114,8 @@ pub struct Ends {
     pub streams_in: u16,
     /// Streams for sending.
     pub streams_out: u16,
+    /// Options: 0.
+    pub options: u8,
 }
 
 /// Which TSNs have come.
@@ -200,7 +202,7 @@ pub struct Head {
     pub tries: u8,
     /// Bytes of the cookie that is kept for T1.
     pub cookie_len: u16,
-    /// Ports, tags and streams.
+    /// Ports, tags, streams and options.
     pub ends: Ends,
     /// Which TSNs have come.
     pub keeping: Keeping,
@@ -349,7 +351,7 @@ extern "C" {
     ) -> u32;
     pub(crate) fn ow_version() -> u32;
     pub(crate) fn ow_sizes(told: *mut [usize; 7]);
-    pub(crate) fn ow_lent_peek(packet: *const u8, packet_len: usize, told: *mut [usize; 9]) -> u32;
+    pub(crate) fn ow_lent_peek(packet: *const u8, packet_len: usize, told: *mut [usize; 10]) -> u32;
     pub(crate) fn ow_lent_arrive(
         head: *mut Head,
         held: *mut [u32; HELD_WORDS * PLACES],
@@ -365,6 +367,7 @@ extern "C" {
         tag: u32,
         tsn: u32,
         streams: u16,
+        options: u8,
         cookie: *const u8,
         cookie_len: usize,
         word: u8,
@@ -375,6 +378,9 @@ extern "C" {
         my_tsn: u32,
         peer_tsn: u32,
         window: u32,
+        my_tie: u32,
+        peer_tie: u32,
+        agreed: u8,
         out: *mut u8,
         out_len: usize,
         told: *mut [usize; 2],

@@ -39,6 +39,8 @@ pub struct Lent {
     pub tsn: u32,
     /// The streams wanted for sending.
     pub streams: u16,
+    /// Options: 0.
+    pub options: u8,
 }
 
 /// The host's word on an echoed cookie.
@@ -220,7 +222,7 @@ mod proved {
             state: 0,
             tries: 0,
             cookie_len: 0,
-            ends: ffi::Ends { local_port: 0, peer_port: 0, my_tag: 0, peer_tag: 0, streams_in: 0, streams_out: 0 },
+            ends: ffi::Ends { local_port: 0, peer_port: 0, my_tag: 0, peer_tag: 0, streams_in: 0, streams_out: 0, options: 0 },
             keeping: ffi::Keeping { point: 0, come: [0; PLACES], dups: [0; LISTED], listed: 0 },
             sender: ffi::Sender {
                 acked: 0,
@@ -274,10 +276,18 @@ mod proved {
         }
 
         fn peek(packet: &[u8]) -> Peeked {
-            let mut told = [0; 9];
+            let mut told = [0; 10];
             let number = unsafe { ffi::ow_lent_peek(packet.as_ptr(), packet.len(), &mut told) } as u8;
-            let [kind, source, tag, window, outs, ins, tsn, at, len] = told;
-            let init = Init { source: source as u16, tag: tag as u32, window: window as u32, outs: outs as u16, ins: ins as u16, tsn: tsn as u32 };
+            let [kind, source, tag, window, outs, ins, tsn, at, len, options] = told;
+            let init = Init {
+                source: source as u16,
+                tag: tag as u32,
+                window: window as u32,
+                outs: outs as u16,
+                ins: ins as u16,
+                tsn: tsn as u32,
+                options: options as u8,
+            };
             Peeked { number, kind: kind as u8, init, at, len }
         }
 
@@ -302,6 +312,7 @@ mod proved {
                     lent.tag,
                     lent.tsn,
                     lent.streams,
+                    lent.options,
                     cookie.as_ptr(),
                     cookie.len(),
                     word,
@@ -312,6 +323,9 @@ mod proved {
                     made.my_tsn,
                     made.peer_tsn,
                     made.window,
+                    made.my_tie,
+                    made.peer_tie,
+                    made.options,
                     out.as_mut_ptr(),
                     out.len(),
                     &mut told,

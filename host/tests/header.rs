@@ -41,7 +41,7 @@ fn claims() -> String {
     let mut text = String::new();
     let claims = &mut text;
     layouts! { claims:
-        ow_ends Ends { local_port peer_port my_tag peer_tag streams_in streams_out }
+        ow_ends Ends { local_port peer_port my_tag peer_tag streams_in streams_out options }
         ow_keeping Keeping { point come dups listed }
         ow_control Control { cwnd ssthresh partial }
         ow_clock Clock { sampled srtt rttvar rto }

@@ -21,13 +21,14 @@ AT(head, 3, ends);
 AT(head, 4, keeping);
 AT(head, 5, sender);
 
-SIZE(ends, 6);
+SIZE(ends, 7);
 AT(ends, 0, local_port);
 AT(ends, 1, peer_port);
 AT(ends, 2, my_tag);
 AT(ends, 3, peer_tag);
 AT(ends, 4, streams_in);
 AT(ends, 5, streams_out);
+AT(ends, 6, options);
 
 SIZE(keeping, 4);
 AT(keeping, 0, point);

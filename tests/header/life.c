@@ -22,8 +22,8 @@ static struct side ours, theirs;
 static uint8_t packet[OW_OUTPUT], reply[OW_OUTPUT], taken[OW_MESSAGE_MOST];
 static uint32_t verdicts[OW_VERDICT_WORDS * OW_VERDICTS];
 static const uint8_t cookie[4] = {1, 2, 3, 4};
-static const struct ow_lent no_lent = {0, 0, 0};
-static const struct ow_echoed no_word = {0, {0, 0, 0, 0, 0, 0, 0}};
+static const struct ow_lent no_lent = {0, 0, 0, 0};
+static const struct ow_echoed no_word = {0, {0, 0, 0, 0, 0, 0, 0, 0, 0, 0}};
 
 /* What the side makes of the packet's first `length` bytes: let in, its chunk accepted; the reply's length. */
 static size_t arrives(struct side *at, const void *bytes, size_t length, struct ow_lent lent, struct ow_echoed echoed, uint8_t event) {
@@ -38,7 +38,7 @@ static size_t arrives(struct side *at, const void *bytes, size_t length, struct 
 }
 
 static void opens(void) {
-    struct ow_lent lent = {0x22222222, 2000, 10};
+    struct ow_lent lent = {0x22222222, 2000, 10, 0};
     struct ow_echoed echoed = no_word;
     struct ow_peeked p;
     struct ow_answer r;
@@ -56,7 +56,7 @@ static void opens(void) {
     CHECK(r.number == OW_DONE && r.length == 32 && ours.record.head.tries == 1);
 
     p = ow_peek(packet, r.length);
-    CHECK(p.number == OW_DONE && p.kind == OW_SAW_INIT && p.source == 36412 && p.tag == 0x11111111 && p.tsn == 1000 && p.outs == 10);
+    CHECK(p.number == OW_DONE && p.kind == OW_SAW_INIT && p.source == 36412 && p.tag == 0x11111111 && p.tsn == 1000 && p.outs == 10 && p.options == 0);
     n = arrives(&theirs, packet, r.length, lent, no_word, OW_NO_EVENT);
     CHECK(n > 0 && theirs.record.head.state == OW_CLOSED);
     n = arrives(&ours, memcpy(packet, reply, n), n, no_lent, no_word, OW_NO_EVENT);

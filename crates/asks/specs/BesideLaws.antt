@@ -122,7 +122,7 @@ module _ (h : Head) (held next places nextOut kept : List ℕ) where
   unfolding wanting
   wanting-beside tag tsn port streams =
       started-shows (CookieWait 0)
-      (record { «local_port» = h .ends .«local_port»; «peer_port» = port; «my_tag» = tag; «peer_tag» = 0; «streams_in» = 128; «streams_out» = smaller streams 128 })
+      (record { «local_port» = h .ends .«local_port»; «peer_port» = port; «my_tag» = tag; «peer_tag» = 0; «streams_in» = 128; «streams_out» = smaller streams 128; options = 0 })
       tsn
       0
       (record { 0 = 1 })

@@ -54,7 +54,7 @@ module _ (h : Head) (held next places nextOut kept : List ℕ) (tag : ℕ) (tsn 
   begun e a b c d k =
       (λ i. shown (e i) (a i) (b i) (c i) (d i) (k i))
       ∙ started-shows (CookieWait 0)
-      (record { «local_port» = h .ends .«local_port»; «peer_port» = port; «my_tag» = tag; «peer_tag» = 0; «streams_in» = 128; «streams_out» = smaller streams 128 })
+      (record { «local_port» = h .ends .«local_port»; «peer_port» = port; «my_tag» = tag; «peer_tag» = 0; «streams_in» = 128; «streams_out» = smaller streams 128; options = 0 })
       tsn
       0
       (record { 0 = 1 })

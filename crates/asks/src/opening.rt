@@ -40,6 +40,7 @@ fn waiting(head: Head, tag: u32, tsn: Tsn, port: u16, streams: u16) -> Head
         peer_tag: 0,
         streams_in: Rail::STREAMS as u16,
         streams_out,
+        options: 0,
     };
     Head::started(State::CookieWait(0), ends, tsn, 0, Tsn(1))
 }

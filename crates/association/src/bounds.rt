@@ -6,7 +6,7 @@ ghost use mathlib.Core.Path.{_≡_};
 ghost use mathlib.Core.List.{List};
 ghost use Prim.Native.Nat.{ℕ};
 ghost use Rattle.chunks.specs.CookieChunk.{isCookie};
-ghost use Rattle.association.specs.Bounds.{areStreams, lacksPort, lacksTag, areEnds, areFew, isHead};
+ghost use Rattle.association.specs.Bounds.{areStreams, areOptions, areAgreed, lacksPort, lacksTag, areEnds, areFew, isHead};
 
 // At least one stream, and no more than the profile has.
 pub fn are_streams(n: u16) -> bool
@@ -16,6 +16,26 @@ pub fn are_streams(n: u16) -> bool
         return false;
     }
     (n as usize) <= Rail::STREAMS
+}
+
+// Options that we know: there is none yet.
+pub fn are_options(options: u8) -> bool
+    ensures { λ r. ⌜ r ≡ areOptions options ⌝ }
+{
+    options == 0
+}
+
+// What two ends can agree on: streams each way, and options.
+pub fn are_agreed(ins: u16, outs: u16, options: u8) -> bool
+    ensures { λ r. ⌜ r ≡ areAgreed ins outs options ⌝ }
+{
+    if are_streams(ins) {
+        if are_streams(outs) {
+            return are_options(options);
+        }
+        return false;
+    }
+    false
 }
 
 // Whether one of two ports is 0.
@@ -38,7 +58,7 @@ fn lacks_tag(known: bool, tag: u32) -> bool
     false
 }
 
-// Both ports, our tag, the peer's where it is `known`, and the streams.
+// Both ports, our tag, the peer's where it is `known`, and what was agreed.
 fn are_ends(e: Ends, known: bool) -> bool
     ensures { λ r. ⌜ r ≡ areEnds e known ⌝ }
 {
@@ -51,18 +71,18 @@ fn are_ends(e: Ends, known: bool) -> bool
     if lacks_tag(known, e.peer_tag) {
         return false;
     }
-    if are_streams(e.streams_in) {
-        return are_streams(e.streams_out);
-    }
-    false
+    are_agreed(e.streams_in, e.streams_out, e.options)
 }
 
-// No more streams than the profile has: in CLOSED none need be agreed.
+// No more streams than the profile has: in CLOSED none need be agreed. No option that we do not know.
 fn are_few(e: Ends) -> bool
     ensures { λ r. ⌜ r ≡ areFew e ⌝ }
 {
     if (e.streams_in as usize) <= Rail::STREAMS {
-        return (e.streams_out as usize) <= Rail::STREAMS;
+        if (e.streams_out as usize) <= Rail::STREAMS {
+            return are_options(e.options);
+        }
+        return false;
     }
     false
 }

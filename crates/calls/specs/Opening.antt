@@ -1,6 +1,6 @@
 -- Our own INIT (RFC 9260 section 5.1 A).
 use Prim.Native.Nat.{ℕ}
-use mathlib.Core.List.{List}
+use mathlib.Core.List.{List, _++_}
 use lib.Dec.{eqb}
 use Rattle.scans.specs.Scan.{pick}
 use Rattle.scans.specs.Upto.{smaller}
@@ -26,7 +26,7 @@ initOf a = record {
   tsn = a .sending .«next_tsn»;
 }
 
--- the same as bytes
+-- the same as bytes, with our own parameters
 abbrev pub initBytes : Association → List ℕ
 initBytes a = framed 1 0 (initFields (initOf a) ++ inRow ownInit)
 
@@ -41,6 +41,7 @@ wanting a tag tsn port streams =
       «peer_tag» = 0;
       «streams_in» = 128;
       «streams_out» = smaller streams 128;
+      options = 0;
     })
     tsn
     0

@@ -16,17 +16,17 @@ use Rattle.calls.specs.declared.peeking.Peeked.the-variants.{Refused, No
 abbrev pub numberOf : Peeked → ℕ
 numberOf (Refused n) = n
 numberOf Nothing = 0
-numberOf (Init v source) = 0
+numberOf (Init v source options) = 0
 numberOf (Echo at len) = 0
 
 -- the packet from its first chunk on
 abbrev pub firstChunk : List ℕ → List ℕ
 firstChunk packet = take (length packet) (drop 12 packet)
 
--- an INIT with the port that it came from; where the cookie of a COOKIE ECHO stands
+-- an INIT with the port that it came from, and of the options that it offers those that we know: none yet; where the cookie of a COOKIE ECHO stands
 unfoldable pub seen : List ℕ → List ℕ → Peeked
 seen packet s =
-    pick (eqb (u8 s 0) 1) (Init (initOf s) (headerOf packet .source))
+    pick (eqb (u8 s 0) 1) (Init (initOf s) (headerOf packet .source) 0)
     (pick (eqb (u8 s 0) 10) (Echo (12 + partFrom 4 s .at) (partFrom 4 s .len)) Nothing)
 
 -- 2, 3, 5, 6 come first

@@ -72,7 +72,7 @@ wanting-kept : (a : Association) (tag : ℕ) (tsn : Tsn) (port streams : ℕ) �
 unfolding wanting
 wanting-kept a tag tsn port streams h p t n =
     kept-started (CookieWait 0) _ tsn 0 (record { 0 = 1 }) refl
-    (ended-ends _ false (record { ported = p; mine = t; theirs = refl; ins = refl; outs = fewer-streams streams 128 n (omega arith) (smaller-right streams 128) })) h (omega arith)
+    (ended-ends _ false (record { ported = p; mine = t; theirs = refl; ins = refl; outs = fewer-streams streams 128 n (omega arith) (smaller-right streams 128); options = refl })) h (omega arith)
 
 module _ (a : Association) (k : Kept a) where
   unless-keeps : (n : ℕ) (p : Plan) → (n ≡ 0 → Keeps p) → Keeps (unless n a p)

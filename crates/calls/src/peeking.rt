@@ -3,11 +3,11 @@ use chunks::init::Init;
 ghost use mathlib.Core.Path.{_≡_};
 ghost use Rattle.calls.specs.Peek.{seen, peeked};
 
-// An INIT, with the port that it came from, or a COOKIE ECHO, whose cookie stands in the packet at an offset and has a length.
+// An INIT, with the port that it came from and the options that it offers, or a COOKIE ECHO, whose cookie stands in the packet at an offset and has a length.
 pub enum Peeked {
     Refused(u8),
     Nothing,
-    Init(Init, u16),
+    Init(Init, u16, u8),
     Echo(usize, usize),
 }
 
@@ -19,7 +19,7 @@ fn see(packet: &[u8], s: &[u8]) -> Peeked
     if kind == 1 {
         let v = chunks::init::read_init(s);
         let h = packets::read_header(packet);
-        return Peeked::Init(v, h.source);
+        return Peeked::Init(v, h.source, 0);
     }
     if kind == 10 {
         let p = chunks::cookie::cookie(s);

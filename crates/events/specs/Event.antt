@@ -28,6 +28,10 @@ streamsAt vs i = smaller (at vs i) 65535
 abbrev pub portAt : List ℕ → ℕ → ℕ
 portAt vs i = pick (ltb (at vs i) 65536) (at vs i) 0
 
+-- options over 255: all that can be said, among them some that nobody knows
+abbrev pub optionsAt : List ℕ → ℕ → ℕ
+optionsAt vs i = smaller (at vs i) 255
+
 -- the i-th value as a TSN, as a stream
 abbrev pub tsnAt : List ℕ → ℕ → Tsn
 tsnAt vs i = record { 0 = at vs i }
@@ -35,9 +39,9 @@ tsnAt vs i = record { 0 = at vs i }
 abbrev pub streamAt : List ℕ → ℕ → StreamId
 streamAt vs i = record { 0 = streamsAt vs i }
 
--- what the host lends beside a packet: its tag, its first TSN, how many streams it wants
+-- what the host lends beside a packet: its tag, its first TSN, how many streams it wants, its options
 abbrev pub lentOf : List ℕ → Lent
-lentOf vs = record { tag = at vs 0; tsn = tsnAt vs 1; streams = streamsAt vs 2 }
+lentOf vs = record { tag = at vs 0; tsn = tsnAt vs 1; streams = streamsAt vs 2; options = optionsAt vs 13 }
 
 -- what the echoed cookie was made from
 abbrev pub madeOf : List ℕ → Made
@@ -49,6 +53,9 @@ madeOf vs = record {
   «my_tsn» = tsnAt vs 7;
   «peer_tsn» = tsnAt vs 8;
   window = at vs 9;
+  «my_tie» = at vs 10;
+  «peer_tie» = at vs 11;
+  options = optionsAt vs 12;
 }
 
 -- the events that take values: our INIT; a message that is handed in; an ERROR with cause 3

@@ -10,7 +10,7 @@ ghost use mathlib.Core.Bool.{false, true};
 ghost use lib.Dec.{ltb};
 ghost use Rattle.scans.specs.Scan.{pick};
 ghost use Rattle.scans.specs.Upto.{smaller};
-ghost use Rattle.events.specs.Event.{at, tsnAt, streamAt, streamsAt, portAt, lentOf, madeOf, associateOf, handInOf, staleOf, eventOf};
+ghost use Rattle.events.specs.Event.{at, tsnAt, streamAt, streamsAt, portAt, optionsAt, lentOf, madeOf, associateOf, handInOf, staleOf, eventOf};
 
 pub enum Event {
     // A packet arrives, with what is lent for an INIT and the word on an echoed cookie.
@@ -67,6 +67,18 @@ fn port_of(x: u32) -> u16
     0
 }
 
+const ALL: u8 = 255;
+
+// No more than 255.
+fn options_of(x: u32) -> u8
+    ensures { λ r. ⌜ r ≡ smaller x 255 ⌝ }
+{
+    if x < 255 {
+        return x as u8;
+    }
+    ALL
+}
+
 fn streams(values: &[u32], i: usize) -> u16
     ensures { λ r. ⌜ r ≡ streamsAt (now (values .entry)) i ⌝ }
 {
@@ -77,6 +89,12 @@ fn port(values: &[u32], i: usize) -> u16
     ensures { λ r. ⌜ r ≡ portAt (now (values .entry)) i ⌝ }
 {
     port_of(value(values, i))
+}
+
+fn options(values: &[u32], i: usize) -> u8
+    ensures { λ r. ⌜ r ≡ optionsAt (now (values .entry)) i ⌝ }
+{
+    options_of(value(values, i))
 }
 
 fn tsn(values: &[u32], i: usize) -> Tsn
@@ -98,6 +116,7 @@ fn lent_of(values: &[u32]) -> Lent
         tag: value(values, 0),
         tsn: tsn(values, 1),
         streams: streams(values, 2),
+        options: options(values, 13),
     }
 }
 
@@ -112,6 +131,9 @@ fn made_of(values: &[u32]) -> Made
         my_tsn: tsn(values, 7),
         peer_tsn: tsn(values, 8),
         window: value(values, 9),
+        my_tie: value(values, 10),
+        peer_tie: value(values, 11),
+        options: options(values, 12),
     }
 }
 

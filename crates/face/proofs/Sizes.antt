@@ -40,7 +40,7 @@ laid τ = size τ ∷ starts zero (parts τ)
 pub head-laid : laid K′.mir ≡ 296 ∷ 0 ∷ 1 ∷ 2 ∷ 4 ∷ 24 ∷ 232 ∷ []
 head-laid = refl
 
-pub ends-laid : laid (within K′.mir 3) ≡ 16 ∷ 0 ∷ 2 ∷ 4 ∷ 8 ∷ 12 ∷ 14 ∷ []
+pub ends-laid : laid (within K′.mir 3) ≡ 20 ∷ 0 ∷ 2 ∷ 4 ∷ 8 ∷ 12 ∷ 14 ∷ 16 ∷ []
 ends-laid = refl
 
 pub keeping-laid : laid (within K′.mir 4) ≡ 208 ∷ 0 ∷ 4 ∷ 132 ∷ 200 ∷ []

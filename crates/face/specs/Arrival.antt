@@ -10,11 +10,11 @@ use Rattle.kept.specs.Kept.{packed}
 use Rattle.face.specs.Left.{Told, toldOf, Left, left, served}
 
 -- what is handed over number by number
-abbrev pub lentAs : ℕ → ℕ → ℕ → Lent
-lentAs tag tsn streams = record { tag = tag; tsn = record { 0 = tsn }; streams = streams }
+abbrev pub lentAs : ℕ → ℕ → ℕ → ℕ → Lent
+lentAs tag tsn streams options = record { tag = tag; tsn = record { 0 = tsn }; streams = streams; options = options }
 
-abbrev pub madeAs : ℕ → ℕ → ℕ → ℕ → ℕ → ℕ → ℕ → Made
-madeAs ours theirs ins outs first second window = record {
+abbrev pub madeAs : ℕ → ℕ → ℕ → ℕ → ℕ → ℕ → ℕ → ℕ → ℕ → ℕ → Made
+madeAs ours theirs ins outs first second window tie tied agreed = record {
   «my_tag» = ours;
   «peer_tag» = theirs;
   «streams_in» = ins;
@@ -22,6 +22,9 @@ madeAs ours theirs ins outs first second window = record {
   «my_tsn» = record { 0 = first };
   «peer_tsn» = record { 0 = second };
   window = window;
+  «my_tie» = tie;
+  «peer_tie» = tied;
+  options = agreed;
 }
 
 abbrev pub landedTold : Landed → Told

@@ -24,7 +24,7 @@ fn judged(r: Landed, told: &mut [usize; 2]) -> Served
     }
 }
 
-// A packet arrives: `lent` and `cookie` serve an INIT, the word and what the cookie was made from a COOKIE ECHO.
+// A packet arrives: what is lent and `cookie` serve an INIT, the word and what the cookie was made from, its options `agreed`, a COOKIE ECHO.
 pub fn arrive(
     k: Kept,
     held: &mut [u32; 512],
@@ -38,6 +38,7 @@ pub fn arrive(
     tag: u32,
     tsn: u32,
     streams: u16,
+    options: u8,
     cookie: &[u8],
     word: u8,
     my_tag: u32,
@@ -47,10 +48,13 @@ pub fn arrive(
     my_tsn: u32,
     peer_tsn: u32,
     window: u32,
+    my_tie: u32,
+    peer_tie: u32,
+    agreed: u8,
     out: &mut [u8],
     told: &mut [usize; 2],
 ) -> Served
-    ensures { λ r. ⌜ left (toldOf (r .number) (r .kept) (now (told .exit))) (arrivedLent (now (held .exit)) (now («next_in» .exit)) (now (places .exit)) (now («next_out» .exit)) (now («kept_cookie» .exit)) (now (area .exit)) (now (verdicts .exit)) (now (out .exit))) ≡ arrivedLeft k (landed (now (packet .entry)) (lentAs tag tsn streams) (now (cookie .entry)) (echoedOf word (madeAs «my_tag» «peer_tag» «streams_in» «streams_out» «my_tsn» «peer_tsn» window)) (unpacked k) (now (held .entry)) (now («next_in» .entry)) (now (places .entry)) (now («next_out» .entry)) (now («kept_cookie» .entry)) (now (area .entry)) (now (verdicts .entry)) (now (out .entry))) (arrivedLent (now (held .entry)) (now («next_in» .entry)) (now (places .entry)) (now («next_out» .entry)) (now («kept_cookie» .entry)) (now (area .entry)) (now (verdicts .entry)) (now (out .entry))) ⌝ }
+    ensures { λ r. ⌜ left (toldOf (r .number) (r .kept) (now (told .exit))) (arrivedLent (now (held .exit)) (now («next_in» .exit)) (now (places .exit)) (now («next_out» .exit)) (now («kept_cookie» .exit)) (now (area .exit)) (now (verdicts .exit)) (now (out .exit))) ≡ arrivedLeft k (landed (now (packet .entry)) (lentAs tag tsn streams options) (now (cookie .entry)) (echoedOf word (madeAs «my_tag» «peer_tag» «streams_in» «streams_out» «my_tsn» «peer_tsn» window «my_tie» «peer_tie» agreed)) (unpacked k) (now (held .entry)) (now («next_in» .entry)) (now (places .entry)) (now («next_out» .entry)) (now («kept_cookie» .entry)) (now (area .entry)) (now (verdicts .entry)) (now (out .entry))) (arrivedLent (now (held .entry)) (now («next_in» .entry)) (now (places .entry)) (now («next_out» .entry)) (now («kept_cookie» .entry)) (now (area .entry)) (now (verdicts .entry)) (now (out .entry))) ⌝ }
 {
     if kept::is_named(k) {
         let head = kept::unpack(k);
@@ -58,6 +62,7 @@ pub fn arrive(
             tag,
             tsn: Tsn(tsn),
             streams,
+            options,
         };
         let made = Made {
             my_tag,
@@ -67,6 +72,9 @@ pub fn arrive(
             my_tsn: Tsn(my_tsn),
             peer_tsn: Tsn(peer_tsn),
             window,
+            my_tie,
+            peer_tie,
+            options: agreed,
         };
         let echoed = kept::word::echoed_of(word, made);
         let r = landing::arrive(
@@ -104,6 +112,7 @@ pub extern "C" fn ow_lent_arrive(
     tag: u32,
     tsn: u32,
     streams: u16,
+    options: u8,
     cookie: &[u8],
     word: u8,
     my_tag: u32,
@@ -113,10 +122,13 @@ pub extern "C" fn ow_lent_arrive(
     my_tsn: u32,
     peer_tsn: u32,
     window: u32,
+    my_tie: u32,
+    peer_tie: u32,
+    agreed: u8,
     out: &mut [u8],
     told: &mut [usize; 2],
 ) -> u32
-    ensures { λ r. ⌜ left (toldOf r (now (k .exit)) (now (told .exit))) (arrivedLent (now (held .exit)) (now («next_in» .exit)) (now (places .exit)) (now («next_out» .exit)) (now («kept_cookie» .exit)) (now (area .exit)) (now (verdicts .exit)) (now (out .exit))) ≡ arrivedLeft (now (k .entry)) (landed (now (packet .entry)) (lentAs tag tsn streams) (now (cookie .entry)) (echoedOf word (madeAs «my_tag» «peer_tag» «streams_in» «streams_out» «my_tsn» «peer_tsn» window)) (unpacked (now (k .entry))) (now (held .entry)) (now («next_in» .entry)) (now (places .entry)) (now («next_out» .entry)) (now («kept_cookie» .entry)) (now (area .entry)) (now (verdicts .entry)) (now (out .entry))) (arrivedLent (now (held .entry)) (now («next_in» .entry)) (now (places .entry)) (now («next_out» .entry)) (now («kept_cookie» .entry)) (now (area .entry)) (now (verdicts .entry)) (now (out .entry))) ⌝ }
+    ensures { λ r. ⌜ left (toldOf r (now (k .exit)) (now (told .exit))) (arrivedLent (now (held .exit)) (now («next_in» .exit)) (now (places .exit)) (now («next_out» .exit)) (now («kept_cookie» .exit)) (now (area .exit)) (now (verdicts .exit)) (now (out .exit))) ≡ arrivedLeft (now (k .entry)) (landed (now (packet .entry)) (lentAs tag tsn streams options) (now (cookie .entry)) (echoedOf word (madeAs «my_tag» «peer_tag» «streams_in» «streams_out» «my_tsn» «peer_tsn» window «my_tie» «peer_tie» agreed)) (unpacked (now (k .entry))) (now (held .entry)) (now («next_in» .entry)) (now (places .entry)) (now («next_out» .entry)) (now («kept_cookie» .entry)) (now (area .entry)) (now (verdicts .entry)) (now (out .entry))) (arrivedLent (now (held .entry)) (now («next_in» .entry)) (now (places .entry)) (now («next_out» .entry)) (now («kept_cookie» .entry)) (now (area .entry)) (now (verdicts .entry)) (now (out .entry))) ⌝ }
 {
     let o = arrive(
         *k,
@@ -131,6 +143,7 @@ pub extern "C" fn ow_lent_arrive(
         tag,
         tsn,
         streams,
+        options,
         cookie,
         word,
         my_tag,
@@ -140,6 +153,9 @@ pub extern "C" fn ow_lent_arrive(
         my_tsn,
         peer_tsn,
         window,
+        my_tie,
+        peer_tie,
+        agreed,
         out,
         told,
     );

@@ -5,9 +5,9 @@ ghost use mathlib.Core.List.{[], _∷_};
 // It grows by one with each change of what crosses.
 #[no_mangle]
 pub extern "C" fn ow_version() -> u32
-    ensures { λ r. ⌜ r ≡ 1 ⌝ }
+    ensures { λ r. ⌜ r ≡ 2 ⌝ }
 {
-    1
+    2
 }
 
 // The bytes of all that is lent: head, held chunks, next SSNs in, places, next SSNs out, cookie, verdicts.

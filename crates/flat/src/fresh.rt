@@ -39,6 +39,7 @@ impl Head {
             peer_tag: 0,
             streams_in: 0,
             streams_out: 0,
+            options: 0,
         };
         Head::started(State::Closed, ends, Tsn(1), 0, Tsn(1))
     }

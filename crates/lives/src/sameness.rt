@@ -24,8 +24,8 @@ pub(crate) fn code(s: State) -> u16 {
     }
 }
 
-// What a line shows of a record, in its order; of the sender and of the path, behind that, what no line shows.
-pub(crate) fn ends_of(h: Head) -> [u64; 7] {
+// What a line shows of a record, in its order; of the ends, the sender and the path, behind that, what no line shows.
+pub(crate) fn ends_of(h: Head) -> [u64; 8] {
     let e = h.ends;
     [
         e.local_port as u64,
@@ -35,6 +35,7 @@ pub(crate) fn ends_of(h: Head) -> [u64; 7] {
         e.streams_in as u64,
         e.streams_out as u64,
         h.cookie_len as u64,
+        e.options as u64,
     ]
 }
 

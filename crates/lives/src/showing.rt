@@ -246,7 +246,7 @@ pub(crate) fn say_peeked(should: &[u8], p: Peeked) -> usize {
     match p {
         Peeked::Refused(n) => say_answer(should, n),
         Peeked::Nothing => say(should, 0, b"nothing"),
-        Peeked::Init(v, port) => say_init(should, v, port),
+        Peeked::Init(v, port, _) => say_init(should, v, port),
         Peeked::Echo(from, len) => say_form(
             should,
             0,

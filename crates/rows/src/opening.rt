@@ -149,6 +149,7 @@ fn established(head: Head, source: u16, m: Made) -> Head
         peer_tag: m.peer_tag,
         streams_in: m.streams_in,
         streams_out: m.streams_out,
+        options: m.options,
     };
     Head::started(State::Established, ends, m.my_tsn, m.window, m.peer_tsn)
 }

@@ -105,7 +105,8 @@ impl<'a> Arriving<'a> {
             return refused(7);
         }
         let odd_cookie = self.cookie.is_empty() || self.cookie.len() > COOKIE_MOST;
-        if self.lent.tag == 0 || self.lent.streams == 0 || odd_cookie || is_poor(&i) {
+        let is_lent = self.lent.tag != 0 && self.lent.streams != 0 && self.lent.options == 0;
+        if !is_lent || odd_cookie || is_poor(&i) {
             return refused(8);
         }
         self.reply.tag = i.tag;
@@ -177,6 +178,7 @@ impl<'a> Arriving<'a> {
             peer_tag: m.peer_tag,
             streams_in: m.streams_in,
             streams_out: m.streams_out,
+            options: m.options,
         };
         *self.a = association::fresh(ESTABLISHED, ends, m.my_tsn, m.window, m.peer_tsn);
         self.reply.add(&write::chunk(read::COOKIE_ACK, 0, &[]));

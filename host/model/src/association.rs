@@ -36,9 +36,12 @@ pub fn are_streams(n: u16) -> bool {
     (1..=STREAMS).contains(&usize::from(n))
 }
 
-/// "128 streams each way at most" holds in every state. A closed record need have no stream, no tag and no port yet.
+/// "128 streams each way at most" holds in every state, and none has an option. A closed record need have no stream, no tag and no port yet.
 fn are_ends(a: &Association) -> bool {
     let e = &a.ends;
+    if e.options != 0 {
+        return false;
+    }
     if a.state == CLOSED {
         return usize::from(e.streams_in) <= STREAMS && usize::from(e.streams_out) <= STREAMS;
     }

@@ -34,7 +34,7 @@ fn flag(r: &mut Random) -> u8 {
 }
 
 fn head(r: &mut Random, a: &mut Association) {
-    match r.below(10) {
+    match r.below(11) {
         0 => a.state = r.word() as u8,
         1 => a.state = r.below(9) as u8,
         2 => a.tries = r.pick(&[0, 1, 8, 9, 10, 11, 255]),
@@ -44,6 +44,7 @@ fn head(r: &mut Random, a: &mut Association) {
         6 => a.ends.streams_out = r.pick(&[0, 1, 128, 129, 65_535]),
         7 => a.ends.local_port = r.below(2) as u16,
         8 => a.ends.peer_port = r.below(2) as u16,
+        9 => a.ends.options = r.pick(&[1, 2, 128, 255]),
         _ => a.cookie.len = r.pick(&[0, 1, 256, 257, 65_535]),
     }
 }

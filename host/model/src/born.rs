@@ -70,6 +70,7 @@ pub fn record(r: &mut Random) -> Association {
         peer_tag: if state == CLOSED || state == COOKIE_WAIT { r.word() & 1 } else { r.word() | 1 },
         streams_in: streams(r),
         streams_out: streams(r),
+        options: 0,
     };
     if state == CLOSED {
         unsettle(r, &mut ends);

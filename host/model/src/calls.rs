@@ -69,6 +69,7 @@ pub fn associate(a: &mut Association, tag: u32, tsn: u32, port: u16, streams: u1
         peer_tag: 0,
         streams_in: STREAMS as u16,
         streams_out: streams.min(STREAMS as u16),
+        options: 0,
     };
     // "after our own INIT, the INIT ACK sets its point": until then it is 0.
     *a = association::fresh(COOKIE_WAIT, ends, tsn, 0, 1);

@@ -17,7 +17,7 @@ pub struct Met<'a> {
 type Case = (&'static str, fn(&Met<'_>) -> bool);
 
 #[rustfmt::skip]
-pub const CASES: [Case; 30] = [
+pub const CASES: [Case; 32] = [
     ("an INIT with a Host Name ahead of what stops", |m| m.first(read::INIT).map_or(false, |c| host_name(c) < stop(c) && has_stop(c))),
     ("an INIT with a Host Name behind what stops", |m| m.first(read::INIT).map_or(false, is_passed)),
     ("an INIT ACK with a Host Name ahead of what stops",
@@ -33,6 +33,8 @@ pub const CASES: [Case; 30] = [
     ("error_stale answered 4 for the tag alone", |m| m.is_no_way(|ours, port, tag| ours && port && !tag)),
     ("a closed record with too many streams in alone outside", |m| m.is_outside_by(CLOSED, |e| e.streams_in = 128)),
     ("a closed record with too many streams out alone outside", |m| m.is_outside_by(CLOSED, |e| e.streams_out = 128)),
+    ("a closed record with an option alone outside", |m| m.is_outside_by(CLOSED, |e| e.options = 0)),
+    ("an open record with an option alone outside", |m| m.before.state != CLOSED && m.is_outside_by(m.before.state, |e| e.options = 0)),
     ("a closed record with 128 streams each way within", |m| m.is_closed_within(|e| (e.streams_in, e.streams_out) == (128, 128))),
     ("a closed record with no streams within", |m| m.is_closed_within(|e| e.streams_in == 0 && e.streams_out > 0)),
     ("a closed record with no ports within", |m| m.is_closed_within(|e| e.local_port == 0 && e.peer_port == 0)),

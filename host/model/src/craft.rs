@@ -34,7 +34,8 @@ fn cookie_length(r: &mut Random) -> usize {
 pub fn lent(r: &mut Random) -> Lent {
     let tag = if r.one_in(20) { 0 } else { r.word() | 1 };
     let streams = if r.one_in(20) { 0 } else { r.pick(&[1, 5, 128, 129, 65_535]) };
-    Lent { tag, tsn: born::tsn(r), streams }
+    let options = if r.one_in(20) { r.pick(&[1, 2, 128, 255]) } else { 0 };
+    Lent { tag, tsn: born::tsn(r), streams, options }
 }
 
 /// Mostly good, on values that an association can start from.
@@ -47,6 +48,9 @@ pub fn echoed(r: &mut Random) -> Echoed {
         my_tsn: born::tsn(r),
         peer_tsn: born::tsn(r),
         window: r.pick(&[1_500, 1_501, 65_536, u32::MAX]),
+        my_tie: r.pick(&[0, 0, 1, u32::MAX]),
+        peer_tie: r.pick(&[0, 0, 1, u32::MAX]),
+        options: 0,
     };
     match r.below(40) {
         0 => made.my_tag = 0,
@@ -54,6 +58,7 @@ pub fn echoed(r: &mut Random) -> Echoed {
         2 => made.streams_in = r.pick(&[0, 129, 65_535]),
         3 => made.streams_out = r.pick(&[0, 129, 65_535]),
         4 => made.window = r.pick(&[0, 1_499]),
+        5 => made.options = r.pick(&[1, 2, 128, 255]),
         _ => {}
     }
     Echoed { word: r.pick(&[GOOD, GOOD, GOOD, GOOD, LATE, BAD, 3, 255]), made }

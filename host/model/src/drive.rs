@@ -229,6 +229,7 @@ impl<'m> Episode<'m> {
                 window: at(4),
                 streams_in: (at(5) >> 16) as u16,
                 streams_out: at(5) as u16,
+                ..Made::default()
             };
             if !self.r.one_in(30) {
                 c.echoed.word = GOOD;

@@ -75,6 +75,6 @@ pub fn faults(core: &dyn Maker) -> Vec<String> {
 fn established() -> Association {
     let mut a = association::closed(1);
     a.state = ESTABLISHED;
-    a.ends = Ends { local_port: 1, peer_port: 2, my_tag: 7, peer_tag: 9, streams_in: 1, streams_out: 1 };
+    a.ends = Ends { local_port: 1, peer_port: 2, my_tag: 7, peer_tag: 9, streams_in: 1, streams_out: 1, options: 0 };
     a
 }

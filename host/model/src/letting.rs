@@ -7,7 +7,8 @@ use crate::record::*;
 /// A good word on values that no association can start from counts as bad, and so does a word that there is not.
 pub fn heeded(mut e: Echoed) -> Echoed {
     let m = &e.made;
-    let is_made = m.my_tag != 0 && m.peer_tag != 0 && are_streams(m.streams_in) && are_streams(m.streams_out) && m.window >= WINDOW_LEAST;
+    let is_agreed = are_streams(m.streams_in) && are_streams(m.streams_out) && m.options == 0;
+    let is_made = m.my_tag != 0 && m.peer_tag != 0 && is_agreed && m.window >= WINDOW_LEAST;
     if e.word > GOOD || (e.word == GOOD && !is_made) {
         e.word = BAD;
     }

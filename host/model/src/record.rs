@@ -66,7 +66,7 @@ pub const NO: u8 = 0;
 /// A flag of the record that is set.
 pub const YES: u8 = 1;
 
-/// Ports, tags and streams.
+/// Ports, tags, streams and options.
 #[repr(C)]
 #[derive(Clone, Copy, Debug, Default, PartialEq, Eq)]
 pub struct Ends {
@@ -82,6 +82,8 @@ pub struct Ends {
     pub streams_in: u16,
     /// Streams for sending.
     pub streams_out: u16,
+    /// Options: there is none yet.
+    pub options: u8,
 }
 
 /// The cookie of the peer's INIT ACK.
@@ -252,7 +254,7 @@ pub struct Association {
     pub state: u8,
     /// Expiries of the timer of a state that waits.
     pub tries: u8,
-    /// Ports, tags and streams.
+    /// Ports, tags, streams and options.
     pub ends: Ends,
     /// The cookie that is kept for T1.
     pub cookie: Cookie,
@@ -274,6 +276,8 @@ pub struct Lent {
     pub tsn: u32,
     /// The streams wanted for sending.
     pub streams: u16,
+    /// Options: there is none yet.
+    pub options: u8,
 }
 
 /// What a cookie was made from.
@@ -294,6 +298,12 @@ pub struct Made {
     pub peer_tsn: u32,
     /// The peer's window.
     pub window: u32,
+    /// Our tie-tag, 0 for none: nothing reads it yet.
+    pub my_tie: u32,
+    /// The peer's tie-tag, 0 for none: nothing reads it yet.
+    pub peer_tie: u32,
+    /// Options: there is none yet.
+    pub options: u8,
 }
 
 /// Of an echoed cookie: not ours, or changed.
@@ -358,6 +368,8 @@ pub struct Peeked {
     pub at: usize,
     /// Of a COOKIE ECHO: the cookie's bytes.
     pub len: usize,
+    /// Of an INIT: the options that it offers, of which there is none yet.
+    pub options: u8,
 }
 
 /// Fate of a chunk.

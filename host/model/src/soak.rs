@@ -169,7 +169,7 @@ impl<'c> Soak<'c> {
         let mut cookie = Vec::new();
         let mut echoed = Echoed::default();
         if seen.kind == SAW_INIT {
-            lent = Lent { tag: 0xB0B, tsn, streams: 128 };
+            lent = Lent { tag: 0xB0B, tsn, streams: 128, options: 0 };
             for n in [seen.tag, seen.tsn, seen.window, u32::from(seen.outs), u32::from(seen.ins), tsn] {
                 cookie.extend_from_slice(&n.to_be_bytes());
             }
@@ -183,6 +183,7 @@ impl<'c> Soak<'c> {
                 streams_in: at(3).min(128) as u16,
                 streams_out: at(4).min(128) as u16,
                 my_tsn: at(5),
+                ..Made::default()
             };
             echoed = Echoed { word: GOOD, made };
         }

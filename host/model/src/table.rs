@@ -108,10 +108,11 @@ fn packet(tag: u32, chunk: &[u8]) -> Bytes {
 }
 
 fn arriving(tag: u32, chunk: &[u8]) -> Call {
-    let made = Made { my_tag: MY_TAG, peer_tag: PEER_TAG, streams_in: 4, streams_out: 4, my_tsn: FIRST, peer_tsn: 1, window: 65_536 };
+    let made =
+        Made { my_tag: MY_TAG, peer_tag: PEER_TAG, streams_in: 4, streams_out: 4, my_tsn: FIRST, peer_tsn: 1, window: 65_536, ..Made::default() };
     Call::Arrive {
         packet: packet(tag, chunk),
-        lent: Lent { tag: MY_TAG, tsn: FIRST, streams: 4 },
+        lent: Lent { tag: MY_TAG, tsn: FIRST, streams: 4, options: 0 },
         cookie: Bytes(b"cookie".to_vec()),
         echoed: Echoed { word: GOOD, made },
         area: AREA,

@@ -72,7 +72,7 @@ impl End {
     /// Established by a good echo: our tag 7, the peer's 9.
     fn new(my_tsn: u32, peer_tsn: u32) -> End {
         let mut e = End { a: Model.closed(10), area: vec![0; AREA], out: vec![0; OUTPUT] };
-        let made = Made { my_tag: 7, peer_tag: 9, streams_in: 4, streams_out: 4, my_tsn, peer_tsn, window: 65_536 };
+        let made = Made { my_tag: 7, peer_tag: 9, streams_in: 4, streams_out: 4, my_tsn, peer_tsn, window: 65_536, ..Made::default() };
         let echo = packet(20, 10, 7, &[write::chunk(read::COOKIE_ECHO, 0, b"cookie")]);
         let echoed = Echoed { word: GOOD, made };
         let r = Model.arrive(&mut e.a, &mut e.area, &echo, Lent::default(), &[], echoed, &mut e.out);
@@ -205,7 +205,7 @@ fn a_taken_chunk_is_not_delivered_again() {
 fn the_last_parameters_padding() {
     let mut v = write::init_fields(read::Init { tag: 9, window: 65_536, outs: 4, ins: 4, tsn: 1 });
     v.extend_from_slice(&write::item(0xC001, b"?"));
-    let lent = Lent { tag: 7, tsn: 1, streams: 4 };
+    let lent = Lent { tag: 7, tsn: 1, streams: 4, options: 0 };
     let answers = [0, 1, 2, 3].map(|counted| {
         let mut e = End { a: Model.closed(10), area: vec![0; AREA], out: vec![0; OUTPUT] };
         v.resize(16 + 5 + counted, 0);

@@ -30,8 +30,9 @@ impl End {
 
     /// With a cookie to lend, and a good word on every echo.
     fn arrive(&mut self, tag: u32, chunks: &[Vec<u8>]) -> Arrived {
-        let made = Made { my_tag: MY_TAG, peer_tag: PEER_TAG, streams_in: 4, streams_out: 4, my_tsn: 100, peer_tsn: 1, window: 65_536 };
-        let lent = Lent { tag: MY_TAG, tsn: 100, streams: 4 };
+        let made =
+            Made { my_tag: MY_TAG, peer_tag: PEER_TAG, streams_in: 4, streams_out: 4, my_tsn: 100, peer_tsn: 1, window: 65_536, ..Made::default() };
+        let lent = Lent { tag: MY_TAG, tsn: 100, streams: 4, options: 0 };
         let p = packet(tag, chunks);
         Model.arrive(&mut self.a, &mut self.area, &p, lent, b"cookie", Echoed { word: GOOD, made }, &mut self.out)
     }
@@ -126,7 +127,7 @@ fn the_bounds_of_streams_and_ports() {
         let mut a = Model.closed(10);
         a.state = state;
         a.cookie.len = 1;
-        a.ends = Ends { local_port: 10, peer_port: 20, my_tag: MY_TAG, peer_tag: PEER_TAG, streams_in: 1, streams_out: 128 };
+        a.ends = Ends { local_port: 10, peer_port: 20, my_tag: MY_TAG, peer_tag: PEER_TAG, streams_in: 1, streams_out: 128, options: 0 };
         assert!(is_sound(&a));
         for spoil in
             [|e: &mut Ends| e.local_port = 0, |e: &mut Ends| e.peer_port = 0, |e: &mut Ends| e.streams_in = 0, |e: &mut Ends| e.streams_out = 129]

@@ -28,13 +28,13 @@ macro_rules! same_fields {
 
 same_fields! {
     library::Answer, record::Answer { number length over }
-    library::Lent, record::Lent { tag tsn streams }
-    calls::Made, record::Made { my_tag peer_tag streams_in streams_out my_tsn peer_tsn window }
+    library::Lent, record::Lent { tag tsn streams options }
+    calls::Made, record::Made { my_tag peer_tag streams_in streams_out my_tsn peer_tsn window my_tie peer_tie options }
     library::Verdict, record::Verdict { at value fate number cause event }
     library::HandedIn, record::HandedIn { number chunks }
     library::Transmitted, record::Transmitted { number length resent first last }
     calls::Taken, record::Message { length stream unordered ssn ppid }
-    ffi::Ends, record::Ends { local_port peer_port my_tag peer_tag streams_in streams_out }
+    ffi::Ends, record::Ends { local_port peer_port my_tag peer_tag streams_in streams_out options }
     ffi::Keeping, record::Keeping { point come dups listed }
     ffi::Control, record::Control { cwnd ssthresh partial }
     ffi::Clock, record::Clock { sampled srtt rttvar rto }
@@ -43,15 +43,15 @@ same_fields! {
 
 impl Alike<library::Peeked> for record::Peeked {
     fn alike(self) -> library::Peeked {
-        let record::Peeked { number, kind, source, tag, window, outs, ins, tsn, at, len } = self;
-        library::Peeked { number, kind, init: calls::Init { source, tag, window, outs, ins, tsn }, at, len }
+        let record::Peeked { number, kind, source, tag, window, outs, ins, tsn, at, len, options } = self;
+        library::Peeked { number, kind, init: calls::Init { source, tag, window, outs, ins, tsn, options }, at, len }
     }
 }
 
 impl Alike<record::Peeked> for library::Peeked {
     fn alike(self) -> record::Peeked {
-        let library::Peeked { number, kind, init: calls::Init { source, tag, window, outs, ins, tsn }, at, len } = self;
-        record::Peeked { number, kind, source, tag, window, outs, ins, tsn, at, len }
+        let library::Peeked { number, kind, init: calls::Init { source, tag, window, outs, ins, tsn, options }, at, len } = self;
+        record::Peeked { number, kind, source, tag, window, outs, ins, tsn, at, len, options }
     }
 }
 

@@ -11,8 +11,11 @@ tsn-requires c κs = search needs
 streams-requires : tie.Need-streams-requires
 streams-requires c κs = search needs
 
+options-requires : tie.Need-options-requires
+options-requires c κs = search needs
+
 returns : tie.Need-returns
-returns c = rw (c .before .before .value .ensures, c .before .tsn .ensures, c .streams .ensures)
+returns c = rw (c .before .before .before .value .ensures, c .before .before .tsn .ensures, c .before .streams .ensures, c .options .ensures)
 
 pub lent-of-spec : {M : Type 1} → statement M
-lent-of-spec = tie.close (tie.spec value-requires tsn-requires streams-requires returns)
+lent-of-spec = tie.close (tie.spec value-requires tsn-requires streams-requires options-requires returns)

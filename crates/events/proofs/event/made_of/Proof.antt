@@ -23,8 +23,17 @@ tsn-requires-2 c κs = search needs
 value-requires-3 : tie.Need-value-requires-3
 value-requires-3 c κs = search needs
 
+value-requires-4 : tie.Need-value-requires-4
+value-requires-4 c κs = search needs
+
+value-requires-5 : tie.Need-value-requires-5
+value-requires-5 c κs = search needs
+
+options-requires : tie.Need-options-requires
+options-requires c κs = search needs
+
 returns : tie.Need-returns
-returns c = rw (c .before .before .before .before .before .before .value .ensures, c .before .before .before .before .before .value2 .ensures, c .before .before .before .before .streams .ensures, c .before .before .before .streams2 .ensures, c .before .before .tsn .ensures, c .before .tsn2 .ensures, c .value3 .ensures)
+returns c = rw (c .before .before .before .before .before .before .before .before .before .value .ensures, c .before .before .before .before .before .before .before .before .value2 .ensures, c .before .before .before .before .before .before .before .streams .ensures, c .before .before .before .before .before .before .streams2 .ensures, c .before .before .before .before .before .tsn .ensures, c .before .before .before .before .tsn2 .ensures, c .before .before .before .value3 .ensures, c .before .before .value4 .ensures, c .before .value5 .ensures, c .options .ensures)
 
 pub made-of-spec : {M : Type 1} → statement M
 made-of-spec =
@@ -37,4 +46,7 @@ made-of-spec =
     tsn-requires
     tsn-requires-2
     value-requires-3
+    value-requires-4
+    value-requires-5
+    options-requires
     returns)
