@@ -35,7 +35,7 @@ use Rattle.steps.specs.Opening.{kept, echoing, echoedBack}
 use Rattle.steps.specs.Unknown.{passUnknown, tellUnknown}
 use Rattle.association.specs.Fresh.{withReceiving, withSending}
 use Rattle.steps.specs.Carrying.{isKept, dataRead, shutdownOwed, sackRead, isLast}
-use Rattle.steps.specs.Steps.{rowMet}
+use Rattle.steps.specs.Steps.{metBy, rowMet}
 use Rattle.flat.specs.declared.head.Head.{Head}
 use Rattle.association.specs.declared.ends.Association.{Association}
 use Rattle.flat.specs.Shown.{cookieOf, bare, headOf}
@@ -129,14 +129,14 @@ module _ (h : Head) (held next places nextOut kept area space s : List ℕ) wher
   echo-rowed e d t = λ i. rowedOf (t .0 i) (t .1 i) (t .2 i) (t .3 i) (t .4 i) (t .5 i) area (t .6 i)
 
   -- the row that the chunk meets
-  module _ (b : Beside) (cookie : List ℕ) {k : Kind} (kind : k ≡ kindOf (u8 s 0)) {x : Row} (row : x ≡ rowOf k (b .first) (h .state)) where
+  module _ (b : Beside) (cookie : List ℕ) {k : Kind} (kind : k ≡ kindOf (u8 s 0)) {x : Row} (row : x ≡ rowOf k (metBy (bare h) b) (h .state)) where
     pub rowed-by : {y : Row} → x ≡ y → {t : Rowed} → t ≡ rowedBy space (rowLeft h held next places nextOut kept area s (length space) b cookie y)
         → t ≡ rowed b cookie s h held next places nextOut kept area space
     unfolding rowed
     rowed-by e p =
         p
         ∙ ap (λ (y : Row). rowedBy space (rowLeft h held next places nextOut kept area s (length space) b cookie y))
-        (sym e ∙ row ∙ ap (λ (j : Kind). rowOf j (b .first) (h .state)) kind)
+        (sym e ∙ row ∙ ap (λ (j : Kind). rowOf j (metBy (bare h) b) (h .state)) kind)
 
     pub pass-rowed : {j : Handling} → x ≡ PassUnknown j → {r : Stepped} → r ≡ steppedWith 0 (passUnknown (bare h) j)
         → rowedOf r held next places nextOut kept area space ≡ rowed b cookie s h held next places nextOut kept area space

@@ -5,6 +5,7 @@ use crate::opening;
 use crate::stepped::Stepped;
 use crate::unknown;
 use flat::Head;
+use states::Met;
 use states::Row;
 use states::State;
 use steps::Beside;
@@ -31,9 +32,14 @@ pub fn step(
         ≡ rowed b (now (cookie .entry)) (now (s .entry)) head (now (held .entry)) (now («next_in» .entry)) (now (places .entry)) (now («next_out» .entry)) (now (kept .entry)) (now (area .entry)) (now (space .entry)) ⌝ }
 {
     let state = head.state;
+    let ends = head.ends;
+    let met = Met {
+        first: b.first,
+        options: ends.options,
+    };
     let lent = b.lent;
     let echoed = b.echoed;
-    match states::row_for(chunks::kind::kind_of(s), b.first, state) {
+    match states::row_for(chunks::kind::kind_of(s), met, state) {
         Row::Refused => Stepped::refused(head, 7, Named::NoCall),
         Row::AnswerInit => opening::answer_init(head, lent, cookie, s, space),
         Row::TakeInitAck => opening::take_init_ack(head, held, next_in, kept, s, space),
