@@ -1,14 +1,12 @@
 // Ports and verification tag (number 4). The first chunk settles which tag rule holds.
 use association::Ends;
-use chunks::kind::Kind;
 use octets::size;
 use packets::Header;
 use states::State;
 use steps::Echoed;
 ghost use mathlib.Core.Path.{_≡_};
 ghost use Rattle.octets.specs.Walk.{firstItem};
-ghost use Rattle.chunks.specs.Kind.{isInit};
-ghost use Rattle.arriving.specs.Tags.{arePorts, isReflecting, ruleClosed, ruleOpen, isAbort, hasAbort, ruleFor, isTag};
+ghost use Rattle.arriving.specs.Tags.{arePorts, isReflecting, echoRule, ruleOf, isAbort, hasAbort, isStray, ruleFor, isTag};
 
 // Which tag a packet must carry.
 pub enum Rule {
@@ -33,86 +31,46 @@ pub fn are_ports(state: State, ends: Ends, h: Header) -> bool
 }
 
 // ABORT and SHUTDOWN COMPLETE with the T bit.
-fn is_reflecting(kind: Kind, t: bool) -> bool
+fn is_reflecting(kind: u8, t: bool) -> bool
     ensures { λ r. ⌜ r ≡ isReflecting kind t ⌝ }
 {
-    match kind {
-        Kind::Abort => t,
-        Kind::ShutdownComplete => t,
-        Kind::Data => false,
-        Kind::Init => false,
-        Kind::InitAck => false,
-        Kind::Sack => false,
-        Kind::Heartbeat => false,
-        Kind::HeartbeatAck => false,
-        Kind::Shutdown => false,
-        Kind::ShutdownAck => false,
-        Kind::Error => false,
-        Kind::CookieEcho => false,
-        Kind::CookieAck => false,
-        Kind::Unknown(_) => false,
+    if kind == 6 {
+        return t;
+    }
+    if kind == 14 {
+        return t;
+    }
+    false
+}
+
+fn echo_rule(echoed: Echoed) -> Rule
+    ensures { λ r. ⌜ r ≡ echoRule echoed ⌝ }
+{
+    match echoed {
+        Echoed::Good(m) => Rule::Tag(m.my_tag),
+        Echoed::Stale(_) => Rule::Any,
+        Echoed::Bad => Rule::Any,
     }
 }
 
-// In CLOSED.
-fn rule_closed(kind: Kind, echoed: Echoed) -> Rule
-    ensures { λ r. ⌜ r ≡ ruleClosed kind echoed ⌝ }
+// By the type of the first chunk, its T bit, the state and the word on an echoed cookie.
+fn rule_of(kind: u8, t: bool, state: State, ends: Ends, echoed: Echoed) -> Rule
+    ensures { λ r. ⌜ r ≡ ruleOf kind t state ends echoed ⌝ }
 {
-    match kind {
-        Kind::Init => Rule::Tag(0),
-        Kind::CookieEcho => match echoed {
-            Echoed::Good(m) => Rule::Tag(m.my_tag),
-            Echoed::Stale(_) => Rule::Any,
-            Echoed::Bad => Rule::Any,
-        },
-        Kind::Data => Rule::Never,
-        Kind::InitAck => Rule::Never,
-        Kind::Sack => Rule::Never,
-        Kind::Heartbeat => Rule::Never,
-        Kind::HeartbeatAck => Rule::Never,
-        Kind::Abort => Rule::Never,
-        Kind::Shutdown => Rule::Never,
-        Kind::ShutdownAck => Rule::Never,
-        Kind::Error => Rule::Never,
-        Kind::CookieAck => Rule::Never,
-        Kind::ShutdownComplete => Rule::Never,
-        Kind::Unknown(_) => Rule::Never,
+    if kind == 1 {
+        return Rule::Tag(0);
     }
-}
-
-fn is_init(kind: Kind) -> bool
-    ensures { λ r. ⌜ r ≡ isInit kind ⌝ }
-{
-    match kind {
-        Kind::Init => true,
-        Kind::Data => false,
-        Kind::InitAck => false,
-        Kind::Sack => false,
-        Kind::Heartbeat => false,
-        Kind::HeartbeatAck => false,
-        Kind::Abort => false,
-        Kind::Shutdown => false,
-        Kind::ShutdownAck => false,
-        Kind::Error => false,
-        Kind::CookieEcho => false,
-        Kind::CookieAck => false,
-        Kind::ShutdownComplete => false,
-        Kind::Unknown(_) => false,
-    }
-}
-
-// In any other state; `known` is whether the peer's tag is known.
-fn rule_open(kind: Kind, t: bool, known: bool, ends: Ends) -> Rule
-    ensures { λ r. ⌜ r ≡ ruleOpen kind t known ends ⌝ }
-{
-    if is_reflecting(kind, t) {
-        if known {
-            return Rule::Tag(ends.peer_tag);
+    if state.is_closed() {
+        if kind == 10 {
+            return echo_rule(echoed);
         }
         return Rule::Never;
     }
-    if is_init(kind) {
-        return Rule::Tag(0);
+    if is_reflecting(kind, t) {
+        if state.knows_peer() {
+            return Rule::Tag(ends.peer_tag);
+        }
+        return Rule::Never;
     }
     Rule::Tag(ends.my_tag)
 }
@@ -144,18 +102,24 @@ pub fn has_abort(s: &[u8]) -> bool
     first_abort(s) < s.len()
 }
 
+fn is_stray(state: State, s: &[u8]) -> bool
+    ensures { λ r. ⌜ r ≡ isStray state (now (s .entry)) ⌝ }
+{
+    if state.is_closed() {
+        return has_abort(s);
+    }
+    false
+}
+
 pub fn rule_for(state: State, ends: Ends, s: &[u8], echoed: Echoed) -> Rule
     ensures { λ r. ⌜ r ≡ ruleFor state ends (now (s .entry)) echoed ⌝ }
 {
-    let kind = chunks::kind::kind_of(s);
-    if state.is_closed() {
-        if has_abort(s) {
-            return Rule::Never;
-        }
-        return rule_closed(kind, echoed);
+    if is_stray(state, s) {
+        return Rule::Never;
     }
+    let kind = octets::get8(s, 0);
     let t = chunks::frame::reflected(s);
-    rule_open(kind, t, state.knows_peer(), ends)
+    rule_of(kind, t, state, ends, echoed)
 }
 
 pub fn is_tag(rule: Rule, tag: u32) -> bool
