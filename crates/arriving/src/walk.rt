@@ -13,7 +13,7 @@ pub const CHUNKS: usize = 365;
 pub const ROOM: usize = 1460;
 
 // The record so far, the verdicts of the chunks passed, how many bytes of replies are gathered, whether the rest is unread, whether a SHUTDOWN is
-// due, and whether a SHUTDOWN COMPLETE takes the place of all replies.
+// due, and what the whole reply owes beside it.
 pub struct Walked {
     pub association: Association,
     pub count: usize,
@@ -24,13 +24,14 @@ pub struct Walked {
     pub complete: Owed,
 }
 
-// The first SHUTDOWN COMPLETE that is owed stands.
-pub fn owe(before: Owed, now: Owed) -> Owed
-    ensures { λ r. ⌜ r ≡ owes before now ⌝ }
+// The first SHUTDOWN COMPLETE or tag that is owed stands.
+pub fn owe(earlier: Owed, now: Owed) -> Owed
+    ensures { λ r. ⌜ r ≡ owes earlier now ⌝ }
 {
-    match before {
+    match earlier {
         Owed::Complete => Owed::Complete,
         Owed::Reflected => Owed::Reflected,
+        Owed::To(tag) => Owed::To(tag),
         Owed::Shutdown => now,
         Owed::Nothing => now,
     }
@@ -44,6 +45,7 @@ fn is_due(o: Owed) -> bool
         Owed::Nothing => false,
         Owed::Complete => false,
         Owed::Reflected => false,
+        Owed::To(_) => false,
     }
 }
 

@@ -21,7 +21,7 @@ use Rattle.steps.specs.declared.chunk.Beside.{Beside}
 use Rattle.steps.specs.declared.lent.Lent.{Lent}
 use Rattle.steps.specs.declared.lent.Echoed.{Echoed}
 use Rattle.steps.specs.declared.verdict.Owed.{Owed}
-use Rattle.steps.specs.declared.verdict.Owed.the-variants.{Nothing, Shutdown, Complete, Reflected}
+use Rattle.steps.specs.declared.verdict.Owed.the-variants.{Nothing, Shutdown, Complete, Reflected, To}
 use Rattle.steps.specs.Lent.{heeded}
 use Rattle.arriving.specs.declared.arrival.Arrived.{Arrived}
 use Rattle.arriving.specs.declared.verdict.Verdict.{Verdict}
@@ -32,7 +32,7 @@ use Rattle.arriving.specs.Walked.{noted, takenIn, besideAt}
 use Rattle.arriving.specs.WalkedLaws as value-laws
 use Rattle.arriving.specs.WalkedLaws.{walkedAs}
 use Rattle.arriving.specs.KeptLaws.{all-drop}
-use Rattle.arriving.specs.Reply.{isSilenced, endedBy, closedBy, wholeReply, initiateTag, replyTag, sentLength, sentOut}
+use Rattle.arriving.specs.Reply.{isSilenced, endedBy, closedBy, wholeReply, replyTag, sentLength, sentOut}
 use Rattle.arriving.specs.Arrival as value-arrival
 use Rattle.arriving.specs.Arrival.{refusedWith, answeredLength, answeredOut, acceptedAs, numberOf, arrivedOf, areaOf, outOf}
 use Rattle.flat.specs.declared.head.Head.{Head}
@@ -204,17 +204,18 @@ module _ (t : Turn) (vs : List Verdict) (reply : List ℕ) where
   closed-bare Reflected = refl
   closed-bare Nothing = refl
   closed-bare Shutdown = refl
+  closed-bare (To tag) = refl
 
   reply-bare : wholeReply (bareWalked (t .walk)) reply ≡ wholeReply (walkedWith t vs) reply
   unfolding wholeReply
   reply-bare = closed-bare (t .walk .complete)
 
-  tag-bare : (o : Owed) (tag : ℕ) (s : List ℕ) → replyTag (bareWalked (t .walk) .association) o tag s ≡ replyTag (seen t) o tag s
-  unfolding initiateTag
-  tag-bare Complete tag s = refl
-  tag-bare Reflected tag s = refl
-  tag-bare Nothing tag s = refl
-  tag-bare Shutdown tag s = refl
+  tag-bare : (o : Owed) (tag : ℕ) → replyTag (bareWalked (t .walk) .association) o tag ≡ replyTag (seen t) o tag
+  tag-bare Complete tag = refl
+  tag-bare Reflected tag = refl
+  tag-bare Nothing tag = refl
+  tag-bare Shutdown tag = refl
+  tag-bare (To n) tag = refl
 
   module _ (packet out : List ℕ) where
     length-bare : answeredLength (bareWalked (t .walk)) packet reply out ≡ answeredLength (walkedWith t vs) packet reply out
@@ -225,7 +226,7 @@ module _ (t : Turn) (vs : List Verdict) (reply : List ℕ) where
     unfolding answeredOut
     out-bare = λ i.
         pick (isSilenced packet) out
-        (sentOut (headTo (t .walk .head .ends) (headerOf packet .source) (tag-bare (t .walk .complete) (headerOf packet .tag) (drop 12 packet) i)) (reply-bare i) out)
+        (sentOut (headTo (t .walk .head .ends) (headerOf packet .source) (tag-bare (t .walk .complete) (headerOf packet .tag) i)) (reply-bare i) out)
 
 -- ---- the whole
 

@@ -90,7 +90,7 @@ fn answer(w: Walk, packet: &[u8], scratch: &mut [u8], out: &mut [u8]) -> usize
     }
     let after = w.head;
     let complete = w.complete;
-    let h = reply::reply_head(after, complete, packets::read_header(packet), s);
+    let h = reply::reply_head(after, complete, packets::read_header(packet));
     let n = reply::close_reply(w, scratch);
     reply::send(h, &scratch[0..n], out)
 }

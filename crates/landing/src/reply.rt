@@ -9,7 +9,7 @@ ghost use Prim.Native.Nat.{_≤_};
 ghost use lib.ListN.{length, take};
 ghost use Rattle.chunks.specs.ShutdownChunk.{completeBytes};
 ghost use Rattle.flat.specs.Shown.{bare};
-ghost use Rattle.arriving.specs.Reply.{isShutdownDue, endedBy, wholeReply, initiateTag, replyTag, replyHead, sentLength, sentOut};
+ghost use Rattle.arriving.specs.Reply.{isShutdownDue, endedBy, wholeReply, replyTag, replyHead, sentLength, sentOut};
 ghost use Rattle.landing.specs.Walk.{bareWalked};
 
 fn is_shutdown_due(w: Walk) -> bool
@@ -57,44 +57,33 @@ pub(crate) fn close_reply(w: Walk, scratch: &mut [u8]) -> usize
         Owed::Reflected => write_complete(scratch, true),
         Owed::Nothing => end_reply(w, scratch),
         Owed::Shutdown => end_reply(w, scratch),
+        Owed::To(_) => end_reply(w, scratch),
     }
 }
 
-// The tag of an INIT or INIT ACK that is answered, else the peer's.
-fn initiate_tag(head: Head, s: &[u8]) -> u32
-    ensures { λ r. ⌜ r ≡ initiateTag (bare head) (now (s .entry)) ⌝ }
+// The tag that the step which replies has named, else the peer's; or the packet's own, reflected.
+fn reply_tag(head: Head, complete: Owed, tag: u32) -> u32
+    ensures { λ r. ⌜ r ≡ replyTag (bare head) complete tag ⌝ }
 {
-    let kind = octets::get8(s, 0);
-    if kind == 1 {
-        return octets::get32(s, 4);
-    }
-    if kind == 2 {
-        return octets::get32(s, 4);
-    }
     let ends = head.ends;
-    ends.peer_tag
-}
-
-fn reply_tag(head: Head, complete: Owed, tag: u32, s: &[u8]) -> u32
-    ensures { λ r. ⌜ r ≡ replyTag (bare head) complete tag (now (s .entry)) ⌝ }
-{
     match complete {
+        Owed::To(t) => t,
         Owed::Reflected => tag,
-        Owed::Complete => initiate_tag(head, s),
-        Owed::Nothing => initiate_tag(head, s),
-        Owed::Shutdown => initiate_tag(head, s),
+        Owed::Complete => ends.peer_tag,
+        Owed::Nothing => ends.peer_tag,
+        Owed::Shutdown => ends.peer_tag,
     }
 }
 
-// From our port back to where the packet came from; `s` is the packet from its first chunk on.
-pub(crate) fn reply_head(head: Head, complete: Owed, h: Header, s: &[u8]) -> Header
-    ensures { λ r. ⌜ r ≡ replyHead (bare head) complete h (now (s .entry)) ⌝ }
+// From our port back to where the packet came from.
+pub(crate) fn reply_head(head: Head, complete: Owed, h: Header) -> Header
+    ensures { λ r. ⌜ r ≡ replyHead (bare head) complete h ⌝ }
 {
     let ends = head.ends;
     Header {
         source: ends.local_port,
         destination: h.source,
-        tag: reply_tag(head, complete, h.tag, s),
+        tag: reply_tag(head, complete, h.tag),
     }
 }
 

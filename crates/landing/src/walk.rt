@@ -16,7 +16,7 @@ ghost use Rattle.landing.specs.Verdicts.{verdictAt};
 ghost use Rattle.landing.specs.Walk.{begun, taken, turnOf, turned, walkedOver};
 
 // The head so far, how many verdicts there are, how many bytes of replies are gathered, whether the rest is unread, whether a SHUTDOWN is due, and
-// whether a SHUTDOWN COMPLETE takes the place of all replies.
+// what the whole reply owes beside it.
 pub struct Walk {
     pub head: Head,
     pub count: usize,

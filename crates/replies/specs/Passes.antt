@@ -79,7 +79,7 @@ module _ (at : ℕ) (b : Beside) (cookie s : List ℕ) (t : Turn) where
       go : {u : Turn} → Fits s (stepAt at b cookie s t .owed) (replyAt at b cookie s t) → Turning at b cookie s t u → Shared (u .reply)
       go f (unread e d) = shared-as e w
       go (several v) (read e d) = shared-as e (shared-both w v)
-      go (single k o v) (read e d) = absurd (init-alone s h k)
+      go (single tag k o v) (read e d) = absurd (init-alone s h k)
 
   -- the only chunk of its packet
   turn-holds : t .reply ≡ [] → t .walked .due ≡ false → Holds (turned at b cookie s t)
@@ -88,7 +88,7 @@ module _ (at : ℕ) (b : Beside) (cookie s : List ℕ) (t : Turn) where
       go : {u : Turn} → Fits s (stepAt at b cookie s t .owed) (replyAt at b cookie s t) → Turning at b cookie s t u → Held (u .reply) (u .walked .due)
       go f (unread e d) = together (shared-as (e ∙ z) shared-none)
       go (several v) (read e d) = together (shared-as e (shared-both (shared-as z shared-none) v))
-      go (single k o v) (read e d) =
+      go (single tag k o v) (read e d) =
           apart (rw (e ∙ ap (λ (l : List ℕ). l ++ replyAt at b cookie s t) z) v) (d ∙ (λ i. either (q i) (isDue (o i))))
 
 -- a packet of one chunk, or of several of which none is an INIT

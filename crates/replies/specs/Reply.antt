@@ -9,7 +9,7 @@ use Rattle.octets.specs.Walk.{joined}
 use Rattle.packets.specs.Shape.{alone}
 use Rattle.packets.specs.Body.{Sound, Together}
 use Rattle.steps.specs.declared.verdict.Owed.{Owed}
-use Rattle.steps.specs.declared.verdict.Owed.the-variants.{Nothing}
+use Rattle.steps.specs.declared.verdict.Owed.the-variants.{To}
 
 -- a sound chunk that need not stand alone
 pub record Shareable (c : List ℕ) : Type 0 where
@@ -22,10 +22,10 @@ pub record Shared (bs : List ℕ) : Type 0 where
   pub each : All Shareable chunks
   pub is : bs ≡ joined chunks
 
--- the reply to the chunk s: only an INIT has one that stands alone, and it owes nothing beside it
+-- the reply to the chunk s: only an INIT has one that stands alone, and it owes nothing beside it but its tag
 pub data Fits (s : List ℕ) (o : Owed) (bs : List ℕ) : Type 0 where
   several : Shared bs → Fits s o bs
-  single : u8 s 0 ≡ 1 → o ≡ Nothing → Sound bs → Fits s o bs
+  single : (tag : ℕ) → u8 s 0 ≡ 1 → o ≡ To tag → Sound bs → Fits s o bs
 
 -- the replies to a packet: a chunk that stands alone is the only one, and no SHUTDOWN is due behind it
 pub data Held (bs : List ℕ) (due : Bool) : Type 0 where

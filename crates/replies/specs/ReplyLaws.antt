@@ -31,7 +31,7 @@ use Rattle.parameters.specs.Report.{ROOM, gatherAll, errorParametersBytes, init
 use Rattle.parameters.specs.ReportLaws.{init-ack-carried, error-carried}
 use Rattle.passing.specs.Passing.{shutdown-passes, init-ack-passes}
 use Rattle.steps.specs.declared.verdict.Owed.{Owed}
-use Rattle.steps.specs.declared.verdict.Owed.the-variants.{Nothing}
+use Rattle.steps.specs.declared.verdict.Owed.the-variants.{To}
 use Rattle.steps.specs.Replying.{Replying}
 use Rattle.steps.specs.Replying.Replying.{silent, heartbeat-ack, abort, shutdown-ack, error, cookie-ack, cookie-echo, init-ack}
 use Rattle.replies.specs.Reply.{Shareable, Shared, Fits, Packed}
@@ -98,9 +98,9 @@ both-share room {a} v w = shared-both (shared-fitting room v) (shared-fitting (r
 -- ---- every chunk's reply
 
 -- an INIT ACK, where its cookie has a length that it may have
-ack-fits : (v : Init) (c s : List ℕ) {o : Owed} {y : List ℕ} → kindOf (u8 s 0) ≡ kinds.Init → o ≡ Nothing → Carried longestCookie c y (initAckBytes v c s) → Fits s o (initAckBytes v c s)
-ack-fits v c s k o (none e) = several (shared-as e shared-none)
-ack-fits v c s k o (whole l n e) = single (init-only (u8 s 0) k) o (init-ack-passes v c s l n)
+ack-fits : (v : Init) (tag : ℕ) (c s : List ℕ) {o : Owed} {y : List ℕ} → kindOf (u8 s 0) ≡ kinds.Init → o ≡ To tag → Carried longestCookie c y (initAckBytes v c s) → Fits s o (initAckBytes v c s)
+ack-fits v tag c s k o (none e) = several (shared-as e shared-none)
+ack-fits v tag c s k o (whole l n e) = single tag (init-only (u8 s 0) k) o (init-ack-passes v c s l n)
 
 pub reply-fits : {room : ℕ} {cookie s : List ℕ} {o : Owed} {bs : List ℕ} → Replying room cookie s o bs → Fits s o bs
 reply-fits (silent e) = several (shared-as e shared-none)
@@ -110,7 +110,7 @@ reply-fits (shutdown-ack e) = several (shared-as e (shared-one (plain-shares 8 0
 reply-fits {s = s} (error e) = several (shared-as e (shared-one (plain-shares 9 0 (caused 6 (take (ended s) s)) refl (λ z. omega (arith, z)))))
 reply-fits (cookie-ack e) = several (shared-as e (shared-one (plain-shares 11 0 [] refl (λ z. omega (arith, z)))))
 reply-fits {room} {s = s} (cookie-echo c e) = several (shared-as e (both-share room (echo-shares c) (report-shares s)))
-reply-fits {cookie = cookie} {s = s} (init-ack v k o e) = rw e (ack-fits v cookie s k o (init-ack-carried v cookie s))
+reply-fits {cookie = cookie} {s = s} (init-ack v tag k o e) = rw e (ack-fits v tag cookie s k o (init-ack-carried v cookie s))
 
 pub fits-fitting : (room : ℕ) {s : List ℕ} {o : Owed} {bs : List ℕ} → Fits s o bs → Fits s o (fitting room bs)
 fits-fitting room {s} {o} {bs} w = pick-keeps (Fits s o) (ltb room (length bs)) [] bs (several shared-none) w

@@ -3,6 +3,7 @@ use mathlib.Core.Path.{_≡_, sym, ap, _∙_}
 use denote.Ref.{now}
 use Rattle.rows.specs.Rows.{Rowed}
 use Rattle.rows.proofs.stepped.Stepped.accepted.Reads as accepted-reads
+use Rattle.rows.proofs.stepped.Stepped.answering.Reads as answering-reads
 use Rattle.rows.proofs.stepped.Stepped.owing.Reads as owing-reads
 use Rattle.rows.proofs.stepped.Stepped.refused.Reads as refused-reads
 use Rattle.rows.proofs.stepped.Stepped.quiet.Reads as quiet-reads
@@ -33,6 +34,9 @@ use Rattle.rows.proofs.chunk.step.Reads as step-reads
 
 pub accepted-unique : (κs : _) (a : _) (r q : _) (s t : _) → accepted-reads.Post κs a r s → accepted-reads.Post κs a q t → r ≡ q
 accepted-unique κs a r q s t x y = x ∙ sym y
+
+pub answering-unique : (κs : _) (a : _) (r q : _) (s t : _) → answering-reads.Post κs a r s → answering-reads.Post κs a q t → r ≡ q
+answering-unique κs a r q s t x y = x ∙ sym y
 
 pub owing-unique : (κs : _) (a : _) (r q : _) (s t : _) → owing-reads.Post κs a r s → owing-reads.Post κs a q t → r ≡ q
 owing-unique κs a r q s t x y = x ∙ sym y

@@ -29,7 +29,7 @@ use Rattle.steps.specs.declared.chunk.Beside.{Beside}
 use Rattle.steps.specs.declared.lent.Echoed.{Echoed}
 use Rattle.steps.specs.declared.verdict.Event.{Event}
 use Rattle.steps.specs.declared.verdict.Event.the-variants.{NoEvent}
-use Rattle.steps.specs.Verdict.{Step, accepted}
+use Rattle.steps.specs.Verdict.{Step, accepted, answering}
 use Rattle.steps.specs.VerdictLaws.{pass-quiet}
 use Rattle.steps.specs.Opening.{kept, echoing, echoedBack}
 use Rattle.steps.specs.Unknown.{passUnknown, tellUnknown}
@@ -58,6 +58,11 @@ quiet-told space d q e = written-told d (rw q (wrote-none space)) e
 pub accepted-told : (a : Association) {e : Event} {space bs exit : List ℕ} {n : ℕ} {k : Head} {r : Stepped}
     → Wrote space bs n exit → k ≡ headOf a → r ≡ steppedWith n (accepted (bare k) e []) → Told space (accepted a e bs) r exit
 accepted-told a {e} {space} {bs} {exit} {n} w f g = written-told (accepted a e bs) w (g ∙ ap (λ (q : Head). steppedWith n (accepted (bare q) e [])) f)
+
+-- the same, to the tag that is answered
+pub answered-told : (a : Association) {e : Event} {tag : ℕ} {space bs exit : List ℕ} {n : ℕ} {k : Head} {r : Stepped}
+    → Wrote space bs n exit → k ≡ headOf a → r ≡ steppedWith n (answering (bare k) e tag []) → Told space (answering a e tag bs) r exit
+answered-told a {e} {tag} {space} {bs} {exit} {n} w f g = written-told (answering a e tag bs) w (g ∙ ap (λ (q : Head). steppedWith n (answering (bare q) e tag [])) f)
 
 -- an INIT ACK that is taken in: of the cookie the head has the length
 pub echoed-told : (h : Head) (v : Init) (cookie s : List ℕ) {space exit : List ℕ} {n l : ℕ} {k : Head} {r : Stepped}

@@ -58,7 +58,7 @@ use Rattle.steps.specs.declared.verdict.Event.the-variants.{NoEvent, Up, Down}
 use Rattle.steps.specs.declared.verdict.Reason.the-variants.{HostName, StaleCookie}
 use Rattle.steps.specs.declared.verdict.Named.the-variants.{NoCall}
 use Rattle.steps.specs.declared.verdict.Done.{Done}
-use Rattle.steps.specs.Verdict.{Step, doneIn, accepted, refused, quiet, ending}
+use Rattle.steps.specs.Verdict.{Step, doneIn, accepted, answering, refused, quiet, ending}
 use Rattle.steps.specs.Opening as opening
 use Rattle.steps.specs.Opening.{isPoor, isOdd, isPoorLent, ackOf, nameRefused, answerInit, echoing, echoedBack, takeInitAck, established, readEchoed, readEcho}
 use Rattle.steps.specs.Carrying.{chunkOf, payloadOf, isKept, arrivalIn, arrivalOf, toldData, dataRead, lateDataRead, readData, readLateData, shutdownOwed, shutdownAcked, heardBy, sackCall, sackRead, isLast, sackReadThen, readSack, readSackPending, readSackReceived, echoHeartbeat, clearTries}
@@ -129,8 +129,8 @@ module _ (h : Head) (held next places nextOut kept s : List ℕ) where
   answer-shows l cookie = go (isPoorLent l (length cookie)) (isPoor (initOf s)) (isThere NAME s)
     where
       go : (p q n : Bool)
-          → lift (pick p (refused (bare h) 8 NoCall) (pick q (refused (bare h) 8 NoCall) (pick n (accepted (bare h) NoEvent (nameRefused s)) (accepted (bare h) NoEvent (initAckBytes (ackOf l (initOf s)) cookie s)))))
-          ≡ pick p (refused now 8 NoCall) (pick q (refused now 8 NoCall) (pick n (accepted now NoEvent (nameRefused s)) (accepted now NoEvent (initAckBytes (ackOf l (initOf s)) cookie s))))
+          → lift (pick p (refused (bare h) 8 NoCall) (pick q (refused (bare h) 8 NoCall) (pick n (answering (bare h) NoEvent (initOf s .tag) (nameRefused s)) (answering (bare h) NoEvent (initOf s .tag) (initAckBytes (ackOf l (initOf s)) cookie s)))))
+          ≡ pick p (refused now 8 NoCall) (pick q (refused now 8 NoCall) (pick n (answering now NoEvent (initOf s .tag) (nameRefused s)) (answering now NoEvent (initOf s .tag) (initAckBytes (ackOf l (initOf s)) cookie s))))
       go true q n = refl
       go false true n = refl
       go false false true = refl
@@ -157,8 +157,8 @@ module _ (h : Head) (held next places nextOut kept s : List ℕ) where
       go : (p q n : Bool)
           → (let t : Bool = pick p false (pick q false (pick n false true)) in
           tabled (clearedIf t 512 held) (clearedIf t 128 next) places nextOut (keptIf t s kept)
-          (pick p (refused (bare h) 8 NoCall) (pick q (refused (bare h) 8 NoCall) (pick n (accepted (withState (bare h) Closed) (Down HostName) (nameRefused s)) (echoedBack room (bare h) (initOf s) (bytesIn s (valueOf COOKIE 4 s)) s)))))
-          ≡ pick p (refused now 8 NoCall) (pick q (refused now 8 NoCall) (pick n (accepted (withState now Closed) (Down HostName) (nameRefused s)) (echoedBack room now (initOf s) (bytesIn s (valueOf COOKIE 4 s)) s)))
+          (pick p (refused (bare h) 8 NoCall) (pick q (refused (bare h) 8 NoCall) (pick n (answering (withState (bare h) Closed) (Down HostName) (initOf s .tag) (nameRefused s)) (echoedBack room (bare h) (initOf s) (bytesIn s (valueOf COOKIE 4 s)) s)))))
+          ≡ pick p (refused now 8 NoCall) (pick q (refused now 8 NoCall) (pick n (answering (withState now Closed) (Down HostName) (initOf s .tag) (nameRefused s)) (echoedBack room now (initOf s) (bytesIn s (valueOf COOKIE 4 s)) s)))
       go true q n = refl
       go false true n = refl
       go false false true = refl

@@ -39,11 +39,11 @@ pub fn answer_init(head: Head, lent: Lent, cookie: &[u8], s: &[u8], space: &mut 
         let from = p.at;
         let to = from + p.len;
         let n = chunks::cause::write_abort_address(space, false, &s[from..to]);
-        return Stepped::accepted(head, Event::NoEvent, n);
+        return Stepped::answering(head, Event::NoEvent, v.tag, n);
     }
     let k = opening::ack_of(lent, v);
     let n = parameters::report::write_init_ack(space, k, cookie, s);
-    Stepped::accepted(head, Event::NoEvent, n)
+    Stepped::answering(head, Event::NoEvent, v.tag, n)
 }
 
 // The cookie, for T1's resends, with zeros behind it; the answer is its length.
@@ -131,7 +131,12 @@ pub fn take_init_ack(
         let from = h.at;
         let to = from + h.len;
         let n = chunks::cause::write_abort_address(space, false, &s[from..to]);
-        return Stepped::accepted(head.moved(State::Closed), Event::Down(Reason::HostName), n);
+        return Stepped::answering(
+            head.moved(State::Closed),
+            Event::Down(Reason::HostName),
+            v.tag,
+            n,
+        );
     }
     let from = p.at;
     let to = from + p.len;

@@ -7,7 +7,7 @@ use steps::Owed;
 use steps::Told;
 ghost use mathlib.Core.Path.{_≡_};
 ghost use mathlib.Core.List.{[]};
-ghost use Rattle.steps.specs.Verdict.{accepted, owing, refused, quiet};
+ghost use Rattle.steps.specs.Verdict.{accepted, answering, owing, refused, quiet};
 ghost use Rattle.flat.specs.Shown.{bare};
 ghost use Rattle.rows.specs.Stepped.{steppedWith, unreadOf};
 
@@ -34,6 +34,21 @@ impl Stepped {
             event,
             unread: false,
             owed: Owed::Nothing,
+            written,
+        }
+    }
+
+    // The same, and the reply goes to this tag.
+    pub fn answering(head: Head, event: Event, tag: u32, written: usize) -> Stepped
+        ensures { λ r. ⌜ r ≡ steppedWith written (answering (bare head) event tag []) ⌝ }
+    {
+        Stepped {
+            head,
+            fate: Fate::Accepted,
+            named: Named::NoCall,
+            event,
+            unread: false,
+            owed: Owed::To(tag),
             written,
         }
     }

@@ -63,7 +63,7 @@ same-length-2 c = search needs
 
 -- src/arrival.rt:82:1
 returns-2 : tie.Need-returns-2
-returns-2 c = answer-sent (bareWalked (c .before .before .before .before .before .before .before .before .before .before .before .before .before .before .before .before .before .before .before .args .w)) _ _ _ (rw (← chunks-are (c .before .before .before .before .before .before .before .before .before .before .before .before .before .before .before .before .before .before .before .args .packet .now) 12, ← c .before .before .before .before .before .before .before .before .before .before .before .before .before .before .before .part .ensures) (sym (c .before .before .before .before .before .before .before .before .before .before .before .before .before .before .has-abort .ensures) ∙ c .before .before .before .before .before .before .before .before .before .before .before .before .before .if1 .left)) (c .before .before .before .before .before .before .before .before .close-reply .result) _ (c .before .before .before .before .before .before .before .before .close-reply .ensures .0) (rw (← chunks-are (c .before .before .before .before .before .before .before .before .before .before .before .before .before .before .before .before .before .before .before .args .packet .now) 12, ← c .before .before .before .before .before .before .before .before .before .before .before .before .before .before .before .part .ensures, ← c .before .before .before .before .before .before .before .before .before .before .before .read-header .ensures) (c .before .before .before .before .before .before .before .before .before .before .reply-head .ensures)) (c .before .before .send .ensures)
+returns-2 c = answer-sent (bareWalked (c .before .before .before .before .before .before .before .before .before .before .before .before .before .before .before .before .before .before .before .args .w)) _ _ _ (rw (← chunks-are (c .before .before .before .before .before .before .before .before .before .before .before .before .before .before .before .before .before .before .before .args .packet .now) 12, ← c .before .before .before .before .before .before .before .before .before .before .before .before .before .before .before .part .ensures) (sym (c .before .before .before .before .before .before .before .before .before .before .before .before .before .before .has-abort .ensures) ∙ c .before .before .before .before .before .before .before .before .before .before .before .before .before .if1 .left)) (c .before .before .before .before .before .before .before .before .close-reply .result) _ (c .before .before .before .before .before .before .before .before .close-reply .ensures .0) (rw (← c .before .before .before .before .before .before .before .before .before .before .before .read-header .ensures) (c .before .before .before .before .before .before .before .before .before .before .reply-head .ensures)) (c .before .before .send .ensures)
 
 pub answer-spec : {M : Type 1} → statement M
 answer-spec =

@@ -242,7 +242,7 @@ tell-unknown-requires c κs = search needs
 
 -- src/chunk.rt:29:1
 returns : tie.Need-returns
-returns c = rowed-by (c .before .before .before .before .before .before .before .before .before .before .args .head) (c .before .before .before .before .before .before .before .before .before .before .args .held .now) (c .before .before .before .before .before .before .before .before .before .before .args .next-in .now) (c .before .before .before .before .before .before .before .before .before .before .args .places .now) (c .before .before .before .before .before .before .before .before .before .before .args .next-out .now) (c .before .before .before .before .before .before .before .before .before .before .args .kept .now) (c .before .before .before .before .before .before .before .before .before .before .args .area .now) (c .before .before .before .before .before .before .before .before .before .before .args .space .now) (c .before .before .before .before .before .before .before .before .before .before .args .s .now) (c .before .before .before .before .before .before .before .before .before .before .args .b) (c .before .before .before .before .before .before .before .before .before .before .args .cookie .now) (c .before .before .before .before .kind-of .ensures) (c .before .before .before .row-for .ensures) (c .before .enum-told .given .1) (quiet-rowed (c .before .before .before .before .before .before .before .before .before .before .args .head) (c .before .before .before .before .before .before .before .before .before .before .args .held .now) (c .before .before .before .before .before .before .before .before .before .before .args .next-in .now) (c .before .before .before .before .before .before .before .before .before .before .args .places .now) (c .before .before .before .before .before .before .before .before .before .before .args .next-out .now) (c .before .before .before .before .before .before .before .before .before .before .args .kept .now) (c .before .before .before .before .before .before .before .before .before .before .args .area .now) (c .before .before .before .before .before .before .before .before .before .before .args .space .now) (c .before .before .before .before .before .before .before .before .before .before .args .s .now) (refused (bare (c .before .before .before .before .before .before .before .before .before .before .args .head)) 7 NoCall) refl (c .refused .ensures))
+returns c = rowed-by (c .before .before .before .before .before .before .before .before .before .before .before .args .head) (c .before .before .before .before .before .before .before .before .before .before .before .args .held .now) (c .before .before .before .before .before .before .before .before .before .before .before .args .next-in .now) (c .before .before .before .before .before .before .before .before .before .before .before .args .places .now) (c .before .before .before .before .before .before .before .before .before .before .before .args .next-out .now) (c .before .before .before .before .before .before .before .before .before .before .before .args .kept .now) (c .before .before .before .before .before .before .before .before .before .before .before .args .area .now) (c .before .before .before .before .before .before .before .before .before .before .before .args .space .now) (c .before .before .before .before .before .before .before .before .before .before .before .args .s .now) (c .before .before .before .before .before .before .before .before .before .before .before .args .b) (c .before .before .before .before .before .before .before .before .before .before .before .args .cookie .now) (c .before .before .before .before .kind-of .ensures) (c .before .before .before .row-for .ensures) (c .before .enum-told .given .1) (quiet-rowed (c .before .before .before .before .before .before .before .before .before .before .before .args .head) (c .before .before .before .before .before .before .before .before .before .before .before .args .held .now) (c .before .before .before .before .before .before .before .before .before .before .before .args .next-in .now) (c .before .before .before .before .before .before .before .before .before .before .before .args .places .now) (c .before .before .before .before .before .before .before .before .before .before .before .args .next-out .now) (c .before .before .before .before .before .before .before .before .before .before .before .args .kept .now) (c .before .before .before .before .before .before .before .before .before .before .before .args .area .now) (c .before .before .before .before .before .before .before .before .before .before .before .args .space .now) (c .before .before .before .before .before .before .before .before .before .before .before .args .s .now) (refused (bare (c .before .before .before .before .before .before .before .before .before .before .before .args .head)) 7 NoCall) refl (c .refused .ensures))
 
 -- src/chunk.rt:29:1
 same-length : tie.Need-same-length
@@ -250,7 +250,7 @@ same-length c = search needs
 
 -- src/chunk.rt:29:1
 returns-2 : tie.Need-returns-2
-returns-2 c = rowed-by (c .before .before .before .before .before .before .before .before .before .before .before .before .before .args .head) (c .before .before .before .before .before .before .before .before .before .before .before .before .before .args .held .now) (c .before .before .before .before .before .before .before .before .before .before .before .before .before .args .next-in .now) (c .before .before .before .before .before .before .before .before .before .before .before .before .before .args .places .now) (c .before .before .before .before .before .before .before .before .before .before .before .before .before .args .next-out .now) (c .before .before .before .before .before .before .before .before .before .before .before .before .before .args .kept .now) (c .before .before .before .before .before .before .before .before .before .before .before .before .before .args .area .now) (c .before .before .before .before .before .before .before .before .before .before .before .before .before .args .space .now) (c .before .before .before .before .before .before .before .before .before .before .before .before .before .args .s .now) (c .before .before .before .before .before .before .before .before .before .before .before .before .before .args .b) (c .before .before .before .before .before .before .before .before .before .before .before .before .before .args .cookie .now) (c .before .before .before .before .before .before .before .kind-of .ensures) (c .before .before .before .before .before .before .row-for .ensures) (c .before .before .before .before .enum-told2 .given .1) (head-rowed (c .before .before .before .before .before .before .before .before .before .before .before .before .before .args .head) (c .before .before .before .before .before .before .before .before .before .before .before .before .before .args .held .now) (c .before .before .before .before .before .before .before .before .before .before .before .before .before .args .next-in .now) (c .before .before .before .before .before .before .before .before .before .before .before .before .before .args .places .now) (c .before .before .before .before .before .before .before .before .before .before .before .before .before .args .next-out .now) (c .before .before .before .before .before .before .before .before .before .before .before .before .before .args .kept .now) (c .before .before .before .before .before .before .before .before .before .before .before .before .before .args .area .now) (c .before .before .before .before .before .before .before .before .before .before .before .before .before .args .space .now) (c .before .before .before .before .before .before .before .before .before .before .before .before .before .args .s .now) (answerInit (bare (c .before .before .before .before .before .before .before .before .before .before .before .before .before .args .head)) ((c .before .before .before .before .before .before .before .before .before .before .before .before .before .args .b) .lent) (c .before .before .before .before .before .before .before .before .before .before .before .before .before .args .cookie .now) (c .before .before .before .before .before .before .before .before .before .before .before .before .before .args .s .now)) (c .before .before .answer-init .ensures))
+returns-2 c = rowed-by (c .before .before .before .before .before .before .before .before .before .before .before .before .before .before .args .head) (c .before .before .before .before .before .before .before .before .before .before .before .before .before .before .args .held .now) (c .before .before .before .before .before .before .before .before .before .before .before .before .before .before .args .next-in .now) (c .before .before .before .before .before .before .before .before .before .before .before .before .before .before .args .places .now) (c .before .before .before .before .before .before .before .before .before .before .before .before .before .before .args .next-out .now) (c .before .before .before .before .before .before .before .before .before .before .before .before .before .before .args .kept .now) (c .before .before .before .before .before .before .before .before .before .before .before .before .before .before .args .area .now) (c .before .before .before .before .before .before .before .before .before .before .before .before .before .before .args .space .now) (c .before .before .before .before .before .before .before .before .before .before .before .before .before .before .args .s .now) (c .before .before .before .before .before .before .before .before .before .before .before .before .before .before .args .b) (c .before .before .before .before .before .before .before .before .before .before .before .before .before .before .args .cookie .now) (c .before .before .before .before .before .before .before .kind-of .ensures) (c .before .before .before .before .before .before .row-for .ensures) (c .before .before .before .before .enum-told2 .given .1) (head-rowed (c .before .before .before .before .before .before .before .before .before .before .before .before .before .before .args .head) (c .before .before .before .before .before .before .before .before .before .before .before .before .before .before .args .held .now) (c .before .before .before .before .before .before .before .before .before .before .before .before .before .before .args .next-in .now) (c .before .before .before .before .before .before .before .before .before .before .before .before .before .before .args .places .now) (c .before .before .before .before .before .before .before .before .before .before .before .before .before .before .args .next-out .now) (c .before .before .before .before .before .before .before .before .before .before .before .before .before .before .args .kept .now) (c .before .before .before .before .before .before .before .before .before .before .before .before .before .before .args .area .now) (c .before .before .before .before .before .before .before .before .before .before .before .before .before .before .args .space .now) (c .before .before .before .before .before .before .before .before .before .before .before .before .before .before .args .s .now) (answerInit (bare (c .before .before .before .before .before .before .before .before .before .before .before .before .before .before .args .head)) ((c .before .before .before .before .before .before .before .before .before .before .before .before .before .before .args .b) .lent) (c .before .before .before .before .before .before .before .before .before .before .before .before .before .before .args .cookie .now) (c .before .before .before .before .before .before .before .before .before .before .before .before .before .before .args .s .now)) (c .before .before .answer-init .ensures))
 
 -- src/chunk.rt:29:1
 same-length-2 : tie.Need-same-length-2
@@ -258,7 +258,7 @@ same-length-2 c = search needs
 
 -- src/chunk.rt:29:1
 returns-3 : tie.Need-returns-3
-returns-3 c = rowed-by (c .before .before .before .before .before .before .before .before .before .before .before .before .before .before .before .before .args .head) (c .before .before .before .before .before .before .before .before .before .before .before .before .before .before .before .before .args .held .now) (c .before .before .before .before .before .before .before .before .before .before .before .before .before .before .before .before .args .next-in .now) (c .before .before .before .before .before .before .before .before .before .before .before .before .before .before .before .before .args .places .now) (c .before .before .before .before .before .before .before .before .before .before .before .before .before .before .before .before .args .next-out .now) (c .before .before .before .before .before .before .before .before .before .before .before .before .before .before .before .before .args .kept .now) (c .before .before .before .before .before .before .before .before .before .before .before .before .before .before .before .before .args .area .now) (c .before .before .before .before .before .before .before .before .before .before .before .before .before .before .before .before .args .space .now) (c .before .before .before .before .before .before .before .before .before .before .before .before .before .before .before .before .args .s .now) (c .before .before .before .before .before .before .before .before .before .before .before .before .before .before .before .before .args .b) (c .before .before .before .before .before .before .before .before .before .before .before .before .before .before .before .before .args .cookie .now) (c .before .before .before .before .before .before .before .before .before .before .kind-of .ensures) (c .before .before .before .before .before .before .before .before .before .row-for .ensures) (c .before .before .before .before .before .before .before .enum-told3 .given .1) (ack-rowed (c .before .before .before .before .before .before .before .before .before .before .before .before .before .before .before .before .args .head) (c .before .before .before .before .before .before .before .before .before .before .before .before .before .before .before .before .args .held .now) (c .before .before .before .before .before .before .before .before .before .before .before .before .before .before .before .before .args .next-in .now) (c .before .before .before .before .before .before .before .before .before .before .before .before .before .before .before .before .args .places .now) (c .before .before .before .before .before .before .before .before .before .before .before .before .before .before .before .before .args .next-out .now) (c .before .before .before .before .before .before .before .before .before .before .before .before .before .before .before .before .args .kept .now) (c .before .before .before .before .before .before .before .before .before .before .before .before .before .before .before .before .args .area .now) (c .before .before .before .before .before .before .before .before .before .before .before .before .before .before .before .before .args .space .now) (c .before .before .before .before .before .before .before .before .before .before .before .before .before .before .before .before .args .s .now) (takeInitAck (length (c .before .before .before .before .before .before .before .before .before .before .before .before .before .before .before .before .args .space .now)) (bare (c .before .before .before .before .before .before .before .before .before .before .before .before .before .before .before .before .args .head)) (c .before .before .before .before .before .before .before .before .before .before .before .before .before .before .before .before .args .s .now)) (c .before .before .take-init-ack .ensures))
+returns-3 c = rowed-by (c .before .before .before .before .before .before .before .before .before .before .before .before .before .before .before .before .before .args .head) (c .before .before .before .before .before .before .before .before .before .before .before .before .before .before .before .before .before .args .held .now) (c .before .before .before .before .before .before .before .before .before .before .before .before .before .before .before .before .before .args .next-in .now) (c .before .before .before .before .before .before .before .before .before .before .before .before .before .before .before .before .before .args .places .now) (c .before .before .before .before .before .before .before .before .before .before .before .before .before .before .before .before .before .args .next-out .now) (c .before .before .before .before .before .before .before .before .before .before .before .before .before .before .before .before .before .args .kept .now) (c .before .before .before .before .before .before .before .before .before .before .before .before .before .before .before .before .before .args .area .now) (c .before .before .before .before .before .before .before .before .before .before .before .before .before .before .before .before .before .args .space .now) (c .before .before .before .before .before .before .before .before .before .before .before .before .before .before .before .before .before .args .s .now) (c .before .before .before .before .before .before .before .before .before .before .before .before .before .before .before .before .before .args .b) (c .before .before .before .before .before .before .before .before .before .before .before .before .before .before .before .before .before .args .cookie .now) (c .before .before .before .before .before .before .before .before .before .before .kind-of .ensures) (c .before .before .before .before .before .before .before .before .before .row-for .ensures) (c .before .before .before .before .before .before .before .enum-told3 .given .1) (ack-rowed (c .before .before .before .before .before .before .before .before .before .before .before .before .before .before .before .before .before .args .head) (c .before .before .before .before .before .before .before .before .before .before .before .before .before .before .before .before .before .args .held .now) (c .before .before .before .before .before .before .before .before .before .before .before .before .before .before .before .before .before .args .next-in .now) (c .before .before .before .before .before .before .before .before .before .before .before .before .before .before .before .before .before .args .places .now) (c .before .before .before .before .before .before .before .before .before .before .before .before .before .before .before .before .before .args .next-out .now) (c .before .before .before .before .before .before .before .before .before .before .before .before .before .before .before .before .before .args .kept .now) (c .before .before .before .before .before .before .before .before .before .before .before .before .before .before .before .before .before .args .area .now) (c .before .before .before .before .before .before .before .before .before .before .before .before .before .before .before .before .before .args .space .now) (c .before .before .before .before .before .before .before .before .before .before .before .before .before .before .before .before .before .args .s .now) (takeInitAck (length (c .before .before .before .before .before .before .before .before .before .before .before .before .before .before .before .before .before .args .space .now)) (bare (c .before .before .before .before .before .before .before .before .before .before .before .before .before .before .before .before .before .args .head)) (c .before .before .before .before .before .before .before .before .before .before .before .before .before .before .before .before .before .args .s .now)) (c .before .before .take-init-ack .ensures))
 
 -- src/chunk.rt:29:1
 same-length-3 : tie.Need-same-length-3
@@ -266,11 +266,11 @@ same-length-3 c = search needs
 
 -- src/chunk.rt:29:1
 returns-4 : tie.Need-returns-4
-returns-4 c = rowed-by (c .before .before .before .before .before .before .before .before .before .before .before .before .before .before .before .before .before .before .args .head) (c .before .before .before .before .before .before .before .before .before .before .before .before .before .before .before .before .before .before .args .held .now) (c .before .before .before .before .before .before .before .before .before .before .before .before .before .before .before .before .before .before .args .next-in .now) (c .before .before .before .before .before .before .before .before .before .before .before .before .before .before .before .before .before .before .args .places .now) (c .before .before .before .before .before .before .before .before .before .before .before .before .before .before .before .before .before .before .args .next-out .now) (c .before .before .before .before .before .before .before .before .before .before .before .before .before .before .before .before .before .before .args .kept .now) (c .before .before .before .before .before .before .before .before .before .before .before .before .before .before .before .before .before .before .args .area .now) (c .before .before .before .before .before .before .before .before .before .before .before .before .before .before .before .before .before .before .args .space .now) (c .before .before .before .before .before .before .before .before .before .before .before .before .before .before .before .before .before .before .args .s .now) (c .before .before .before .before .before .before .before .before .before .before .before .before .before .before .before .before .before .before .args .b) (c .before .before .before .before .before .before .before .before .before .before .before .before .before .before .before .before .before .before .args .cookie .now) (c .before .before .before .before .before .before .before .before .before .before .before .before .kind-of .ensures) (c .before .before .before .before .before .before .before .before .before .before .before .row-for .ensures) (c .before .before .before .before .before .before .before .before .before .enum-told4 .given .1) (echo-rowed (c .before .before .before .before .before .before .before .before .before .before .before .before .before .before .before .before .before .before .args .head) (c .before .before .before .before .before .before .before .before .before .before .before .before .before .before .before .before .before .before .args .held .now) (c .before .before .before .before .before .before .before .before .before .before .before .before .before .before .before .before .before .before .args .next-in .now) (c .before .before .before .before .before .before .before .before .before .before .before .before .before .before .before .before .before .before .args .places .now) (c .before .before .before .before .before .before .before .before .before .before .before .before .before .before .before .before .before .before .args .next-out .now) (c .before .before .before .before .before .before .before .before .before .before .before .before .before .before .before .before .before .before .args .kept .now) (c .before .before .before .before .before .before .before .before .before .before .before .before .before .before .before .before .before .before .args .area .now) (c .before .before .before .before .before .before .before .before .before .before .before .before .before .before .before .before .before .before .args .space .now) (c .before .before .before .before .before .before .before .before .before .before .before .before .before .before .before .before .before .before .args .s .now) ((c .before .before .before .before .before .before .before .before .before .before .before .before .before .before .before .before .before .before .args .b) .echoed) (readEcho (bare (c .before .before .before .before .before .before .before .before .before .before .before .before .before .before .before .before .before .before .args .head)) ((c .before .before .before .before .before .before .before .before .before .before .before .before .before .before .before .before .before .before .args .b) .echoed) ((c .before .before .before .before .before .before .before .before .before .before .before .before .before .before .before .before .before .before .args .b) .source) (c .before .before .before .before .before .before .before .before .before .before .before .before .before .before .before .before .before .before .args .s .now)) (c .before .before .read-echo .ensures))
+returns-4 c = rowed-by (c .before .before .before .before .before .before .before .before .before .before .before .before .before .before .before .before .before .before .before .args .head) (c .before .before .before .before .before .before .before .before .before .before .before .before .before .before .before .before .before .before .before .args .held .now) (c .before .before .before .before .before .before .before .before .before .before .before .before .before .before .before .before .before .before .before .args .next-in .now) (c .before .before .before .before .before .before .before .before .before .before .before .before .before .before .before .before .before .before .before .args .places .now) (c .before .before .before .before .before .before .before .before .before .before .before .before .before .before .before .before .before .before .before .args .next-out .now) (c .before .before .before .before .before .before .before .before .before .before .before .before .before .before .before .before .before .before .before .args .kept .now) (c .before .before .before .before .before .before .before .before .before .before .before .before .before .before .before .before .before .before .before .args .area .now) (c .before .before .before .before .before .before .before .before .before .before .before .before .before .before .before .before .before .before .before .args .space .now) (c .before .before .before .before .before .before .before .before .before .before .before .before .before .before .before .before .before .before .before .args .s .now) (c .before .before .before .before .before .before .before .before .before .before .before .before .before .before .before .before .before .before .before .args .b) (c .before .before .before .before .before .before .before .before .before .before .before .before .before .before .before .before .before .before .before .args .cookie .now) (c .before .before .before .before .before .before .before .before .before .before .before .before .kind-of .ensures) (c .before .before .before .before .before .before .before .before .before .before .before .row-for .ensures) (c .before .before .before .before .before .before .before .before .before .enum-told4 .given .1) (echo-rowed (c .before .before .before .before .before .before .before .before .before .before .before .before .before .before .before .before .before .before .before .args .head) (c .before .before .before .before .before .before .before .before .before .before .before .before .before .before .before .before .before .before .before .args .held .now) (c .before .before .before .before .before .before .before .before .before .before .before .before .before .before .before .before .before .before .before .args .next-in .now) (c .before .before .before .before .before .before .before .before .before .before .before .before .before .before .before .before .before .before .before .args .places .now) (c .before .before .before .before .before .before .before .before .before .before .before .before .before .before .before .before .before .before .before .args .next-out .now) (c .before .before .before .before .before .before .before .before .before .before .before .before .before .before .before .before .before .before .before .args .kept .now) (c .before .before .before .before .before .before .before .before .before .before .before .before .before .before .before .before .before .before .before .args .area .now) (c .before .before .before .before .before .before .before .before .before .before .before .before .before .before .before .before .before .before .before .args .space .now) (c .before .before .before .before .before .before .before .before .before .before .before .before .before .before .before .before .before .before .before .args .s .now) ((c .before .before .before .before .before .before .before .before .before .before .before .before .before .before .before .before .before .before .before .args .b) .echoed) (readEcho (bare (c .before .before .before .before .before .before .before .before .before .before .before .before .before .before .before .before .before .before .before .args .head)) ((c .before .before .before .before .before .before .before .before .before .before .before .before .before .before .before .before .before .before .before .args .b) .echoed) ((c .before .before .before .before .before .before .before .before .before .before .before .before .before .before .before .before .before .before .before .args .b) .source) (c .before .before .before .before .before .before .before .before .before .before .before .before .before .before .before .before .before .before .before .args .s .now)) (c .before .before .read-echo .ensures))
 
 -- src/chunk.rt:29:1
 returns-5 : tie.Need-returns-5
-returns-5 c = rowed-by (c .before .before .before .before .before .before .before .before .before .before .before .args .head) (c .before .before .before .before .before .before .before .before .before .before .before .args .held .now) (c .before .before .before .before .before .before .before .before .before .before .before .args .next-in .now) (c .before .before .before .before .before .before .before .before .before .before .before .args .places .now) (c .before .before .before .before .before .before .before .before .before .before .before .args .next-out .now) (c .before .before .before .before .before .before .before .before .before .before .before .args .kept .now) (c .before .before .before .before .before .before .before .before .before .before .before .args .area .now) (c .before .before .before .before .before .before .before .before .before .before .before .args .space .now) (c .before .before .before .before .before .before .before .before .before .before .before .args .s .now) (c .before .before .before .before .before .before .before .before .before .before .before .args .b) (c .before .before .before .before .before .before .before .before .before .before .before .args .cookie .now) (c .before .before .before .before .before .kind-of .ensures) (c .before .before .before .before .row-for .ensures) (c .before .before .enum-told5 .given .1) (quiet-rowed (c .before .before .before .before .before .before .before .before .before .before .before .args .head) (c .before .before .before .before .before .before .before .before .before .before .before .args .held .now) (c .before .before .before .before .before .before .before .before .before .before .before .args .next-in .now) (c .before .before .before .before .before .before .before .before .before .before .before .args .places .now) (c .before .before .before .before .before .before .before .before .before .before .before .args .next-out .now) (c .before .before .before .before .before .before .before .before .before .before .before .args .kept .now) (c .before .before .before .before .before .before .before .before .before .before .before .args .area .now) (c .before .before .before .before .before .before .before .before .before .before .before .args .space .now) (c .before .before .before .before .before .before .before .before .before .before .before .args .s .now) (accepted (withState (bare (c .before .before .before .before .before .before .before .before .before .before .before .args .head)) Established) Up []) refl (rw (c .before .moved .ensures) at (c .accepted .ensures)))
+returns-5 c = rowed-by (c .before .before .before .before .before .before .before .before .before .before .before .before .args .head) (c .before .before .before .before .before .before .before .before .before .before .before .before .args .held .now) (c .before .before .before .before .before .before .before .before .before .before .before .before .args .next-in .now) (c .before .before .before .before .before .before .before .before .before .before .before .before .args .places .now) (c .before .before .before .before .before .before .before .before .before .before .before .before .args .next-out .now) (c .before .before .before .before .before .before .before .before .before .before .before .before .args .kept .now) (c .before .before .before .before .before .before .before .before .before .before .before .before .args .area .now) (c .before .before .before .before .before .before .before .before .before .before .before .before .args .space .now) (c .before .before .before .before .before .before .before .before .before .before .before .before .args .s .now) (c .before .before .before .before .before .before .before .before .before .before .before .before .args .b) (c .before .before .before .before .before .before .before .before .before .before .before .before .args .cookie .now) (c .before .before .before .before .before .kind-of .ensures) (c .before .before .before .before .row-for .ensures) (c .before .before .enum-told5 .given .1) (quiet-rowed (c .before .before .before .before .before .before .before .before .before .before .before .before .args .head) (c .before .before .before .before .before .before .before .before .before .before .before .before .args .held .now) (c .before .before .before .before .before .before .before .before .before .before .before .before .args .next-in .now) (c .before .before .before .before .before .before .before .before .before .before .before .before .args .places .now) (c .before .before .before .before .before .before .before .before .before .before .before .before .args .next-out .now) (c .before .before .before .before .before .before .before .before .before .before .before .before .args .kept .now) (c .before .before .before .before .before .before .before .before .before .before .before .before .args .area .now) (c .before .before .before .before .before .before .before .before .before .before .before .before .args .space .now) (c .before .before .before .before .before .before .before .before .before .before .before .before .args .s .now) (accepted (withState (bare (c .before .before .before .before .before .before .before .before .before .before .before .before .args .head)) Established) Up []) refl (rw (c .before .moved .ensures) at (c .accepted .ensures)))
 
 -- src/chunk.rt:29:1
 same-length-4 : tie.Need-same-length-4
@@ -278,7 +278,7 @@ same-length-4 c = search needs
 
 -- src/chunk.rt:29:1
 returns-6 : tie.Need-returns-6
-returns-6 c = rowed-by (c .before .before .before .before .before .before .before .before .before .before .before .before .before .before .before .args .head) (c .before .before .before .before .before .before .before .before .before .before .before .before .before .before .before .args .held .now) (c .before .before .before .before .before .before .before .before .before .before .before .before .before .before .before .args .next-in .now) (c .before .before .before .before .before .before .before .before .before .before .before .before .before .before .before .args .places .now) (c .before .before .before .before .before .before .before .before .before .before .before .before .before .before .before .args .next-out .now) (c .before .before .before .before .before .before .before .before .before .before .before .before .before .before .before .args .kept .now) (c .before .before .before .before .before .before .before .before .before .before .before .before .before .before .before .args .area .now) (c .before .before .before .before .before .before .before .before .before .before .before .before .before .before .before .args .space .now) (c .before .before .before .before .before .before .before .before .before .before .before .before .before .before .before .args .s .now) (c .before .before .before .before .before .before .before .before .before .before .before .before .before .before .before .args .b) (c .before .before .before .before .before .before .before .before .before .before .before .before .before .before .before .args .cookie .now) (c .before .before .before .before .before .before .before .before .before .kind-of .ensures) (c .before .before .before .before .before .before .before .before .row-for .ensures) (c .before .before .before .before .before .before .enum-told6 .given .1) (data-rowed (c .before .before .before .before .before .before .before .before .before .before .before .before .before .before .before .args .head) (c .before .before .before .before .before .before .before .before .before .before .before .before .before .before .before .args .held .now) (c .before .before .before .before .before .before .before .before .before .before .before .before .before .before .before .args .next-in .now) (c .before .before .before .before .before .before .before .before .before .before .before .before .before .before .before .args .places .now) (c .before .before .before .before .before .before .before .before .before .before .before .before .before .before .before .args .next-out .now) (c .before .before .before .before .before .before .before .before .before .before .before .before .before .before .before .args .kept .now) (c .before .before .before .before .before .before .before .before .before .before .before .before .before .before .before .args .area .now) (c .before .before .before .before .before .before .before .before .before .before .before .before .before .before .before .args .space .now) (c .before .before .before .before .before .before .before .before .before .before .before .before .before .before .before .args .s .now) (readDataBy (c .before .before .before .before .before .before .before .before .before .before .before .before .before .before .before .args .head) (c .before .before .before .before .before .before .before .before .before .before .before .before .before .before .before .args .held .now) (c .before .before .before .before .before .before .before .before .before .before .before .before .before .before .before .args .next-in .now) (c .before .before .before .before .before .before .before .before .before .before .before .before .before .before .before .args .s .now)) (data-quiet (c .before .before .before .before .before .before .before .before .before .before .before .before .before .before .before .args .head) (c .before .before .before .before .before .before .before .before .before .before .before .before .before .before .before .args .held .now) (c .before .before .before .before .before .before .before .before .before .before .before .before .before .before .before .args .next-in .now) (c .before .before .before .before .before .before .before .before .before .before .before .before .before .before .before .args .s .now)) (c .before .before .read-data .ensures))
+returns-6 c = rowed-by (c .before .before .before .before .before .before .before .before .before .before .before .before .before .before .before .before .args .head) (c .before .before .before .before .before .before .before .before .before .before .before .before .before .before .before .before .args .held .now) (c .before .before .before .before .before .before .before .before .before .before .before .before .before .before .before .before .args .next-in .now) (c .before .before .before .before .before .before .before .before .before .before .before .before .before .before .before .before .args .places .now) (c .before .before .before .before .before .before .before .before .before .before .before .before .before .before .before .before .args .next-out .now) (c .before .before .before .before .before .before .before .before .before .before .before .before .before .before .before .before .args .kept .now) (c .before .before .before .before .before .before .before .before .before .before .before .before .before .before .before .before .args .area .now) (c .before .before .before .before .before .before .before .before .before .before .before .before .before .before .before .before .args .space .now) (c .before .before .before .before .before .before .before .before .before .before .before .before .before .before .before .before .args .s .now) (c .before .before .before .before .before .before .before .before .before .before .before .before .before .before .before .before .args .b) (c .before .before .before .before .before .before .before .before .before .before .before .before .before .before .before .before .args .cookie .now) (c .before .before .before .before .before .before .before .before .before .kind-of .ensures) (c .before .before .before .before .before .before .before .before .row-for .ensures) (c .before .before .before .before .before .before .enum-told6 .given .1) (data-rowed (c .before .before .before .before .before .before .before .before .before .before .before .before .before .before .before .before .args .head) (c .before .before .before .before .before .before .before .before .before .before .before .before .before .before .before .before .args .held .now) (c .before .before .before .before .before .before .before .before .before .before .before .before .before .before .before .before .args .next-in .now) (c .before .before .before .before .before .before .before .before .before .before .before .before .before .before .before .before .args .places .now) (c .before .before .before .before .before .before .before .before .before .before .before .before .before .before .before .before .args .next-out .now) (c .before .before .before .before .before .before .before .before .before .before .before .before .before .before .before .before .args .kept .now) (c .before .before .before .before .before .before .before .before .before .before .before .before .before .before .before .before .args .area .now) (c .before .before .before .before .before .before .before .before .before .before .before .before .before .before .before .before .args .space .now) (c .before .before .before .before .before .before .before .before .before .before .before .before .before .before .before .before .args .s .now) (readDataBy (c .before .before .before .before .before .before .before .before .before .before .before .before .before .before .before .before .args .head) (c .before .before .before .before .before .before .before .before .before .before .before .before .before .before .before .before .args .held .now) (c .before .before .before .before .before .before .before .before .before .before .before .before .before .before .before .before .args .next-in .now) (c .before .before .before .before .before .before .before .before .before .before .before .before .before .before .before .before .args .s .now)) (data-quiet (c .before .before .before .before .before .before .before .before .before .before .before .before .before .before .before .before .args .head) (c .before .before .before .before .before .before .before .before .before .before .before .before .before .before .before .before .args .held .now) (c .before .before .before .before .before .before .before .before .before .before .before .before .before .before .before .before .args .next-in .now) (c .before .before .before .before .before .before .before .before .before .before .before .before .before .before .before .before .args .s .now)) (c .before .before .read-data .ensures))
 
 -- src/chunk.rt:29:1
 same-length-5 : tie.Need-same-length-5
@@ -286,15 +286,15 @@ same-length-5 c = search needs
 
 -- src/chunk.rt:29:1
 returns-7 : tie.Need-returns-7
-returns-7 c = rowed-by (c .before .before .before .before .before .before .before .before .before .before .before .before .before .before .before .args .head) (c .before .before .before .before .before .before .before .before .before .before .before .before .before .before .before .args .held .now) (c .before .before .before .before .before .before .before .before .before .before .before .before .before .before .before .args .next-in .now) (c .before .before .before .before .before .before .before .before .before .before .before .before .before .before .before .args .places .now) (c .before .before .before .before .before .before .before .before .before .before .before .before .before .before .before .args .next-out .now) (c .before .before .before .before .before .before .before .before .before .before .before .before .before .before .before .args .kept .now) (c .before .before .before .before .before .before .before .before .before .before .before .before .before .before .before .args .area .now) (c .before .before .before .before .before .before .before .before .before .before .before .before .before .before .before .args .space .now) (c .before .before .before .before .before .before .before .before .before .before .before .before .before .before .before .args .s .now) (c .before .before .before .before .before .before .before .before .before .before .before .before .before .before .before .args .b) (c .before .before .before .before .before .before .before .before .before .before .before .before .before .before .before .args .cookie .now) (c .before .before .before .before .before .before .before .before .before .kind-of .ensures) (c .before .before .before .before .before .before .before .before .row-for .ensures) (c .before .before .before .before .before .before .enum-told7 .given .1) (data-rowed (c .before .before .before .before .before .before .before .before .before .before .before .before .before .before .before .args .head) (c .before .before .before .before .before .before .before .before .before .before .before .before .before .before .before .args .held .now) (c .before .before .before .before .before .before .before .before .before .before .before .before .before .before .before .args .next-in .now) (c .before .before .before .before .before .before .before .before .before .before .before .before .before .before .before .args .places .now) (c .before .before .before .before .before .before .before .before .before .before .before .before .before .before .before .args .next-out .now) (c .before .before .before .before .before .before .before .before .before .before .before .before .before .before .before .args .kept .now) (c .before .before .before .before .before .before .before .before .before .before .before .before .before .before .before .args .area .now) (c .before .before .before .before .before .before .before .before .before .before .before .before .before .before .before .args .space .now) (c .before .before .before .before .before .before .before .before .before .before .before .before .before .before .before .args .s .now) (readLateDataBy (c .before .before .before .before .before .before .before .before .before .before .before .before .before .before .before .args .head) (c .before .before .before .before .before .before .before .before .before .before .before .before .before .before .before .args .held .now) (c .before .before .before .before .before .before .before .before .before .before .before .before .before .before .before .args .next-in .now) (c .before .before .before .before .before .before .before .before .before .before .before .before .before .before .before .args .s .now)) (late-data-quiet (c .before .before .before .before .before .before .before .before .before .before .before .before .before .before .before .args .head) (c .before .before .before .before .before .before .before .before .before .before .before .before .before .before .before .args .held .now) (c .before .before .before .before .before .before .before .before .before .before .before .before .before .before .before .args .next-in .now) (c .before .before .before .before .before .before .before .before .before .before .before .before .before .before .before .args .s .now)) (c .before .before .read-late-data .ensures))
+returns-7 c = rowed-by (c .before .before .before .before .before .before .before .before .before .before .before .before .before .before .before .before .args .head) (c .before .before .before .before .before .before .before .before .before .before .before .before .before .before .before .before .args .held .now) (c .before .before .before .before .before .before .before .before .before .before .before .before .before .before .before .before .args .next-in .now) (c .before .before .before .before .before .before .before .before .before .before .before .before .before .before .before .before .args .places .now) (c .before .before .before .before .before .before .before .before .before .before .before .before .before .before .before .before .args .next-out .now) (c .before .before .before .before .before .before .before .before .before .before .before .before .before .before .before .before .args .kept .now) (c .before .before .before .before .before .before .before .before .before .before .before .before .before .before .before .before .args .area .now) (c .before .before .before .before .before .before .before .before .before .before .before .before .before .before .before .before .args .space .now) (c .before .before .before .before .before .before .before .before .before .before .before .before .before .before .before .before .args .s .now) (c .before .before .before .before .before .before .before .before .before .before .before .before .before .before .before .before .args .b) (c .before .before .before .before .before .before .before .before .before .before .before .before .before .before .before .before .args .cookie .now) (c .before .before .before .before .before .before .before .before .before .kind-of .ensures) (c .before .before .before .before .before .before .before .before .row-for .ensures) (c .before .before .before .before .before .before .enum-told7 .given .1) (data-rowed (c .before .before .before .before .before .before .before .before .before .before .before .before .before .before .before .before .args .head) (c .before .before .before .before .before .before .before .before .before .before .before .before .before .before .before .before .args .held .now) (c .before .before .before .before .before .before .before .before .before .before .before .before .before .before .before .before .args .next-in .now) (c .before .before .before .before .before .before .before .before .before .before .before .before .before .before .before .before .args .places .now) (c .before .before .before .before .before .before .before .before .before .before .before .before .before .before .before .before .args .next-out .now) (c .before .before .before .before .before .before .before .before .before .before .before .before .before .before .before .before .args .kept .now) (c .before .before .before .before .before .before .before .before .before .before .before .before .before .before .before .before .args .area .now) (c .before .before .before .before .before .before .before .before .before .before .before .before .before .before .before .before .args .space .now) (c .before .before .before .before .before .before .before .before .before .before .before .before .before .before .before .before .args .s .now) (readLateDataBy (c .before .before .before .before .before .before .before .before .before .before .before .before .before .before .before .before .args .head) (c .before .before .before .before .before .before .before .before .before .before .before .before .before .before .before .before .args .held .now) (c .before .before .before .before .before .before .before .before .before .before .before .before .before .before .before .before .args .next-in .now) (c .before .before .before .before .before .before .before .before .before .before .before .before .before .before .before .before .args .s .now)) (late-data-quiet (c .before .before .before .before .before .before .before .before .before .before .before .before .before .before .before .before .args .head) (c .before .before .before .before .before .before .before .before .before .before .before .before .before .before .before .before .args .held .now) (c .before .before .before .before .before .before .before .before .before .before .before .before .before .before .before .before .args .next-in .now) (c .before .before .before .before .before .before .before .before .before .before .before .before .before .before .before .before .args .s .now)) (c .before .before .read-late-data .ensures))
 
 -- src/chunk.rt:29:1
 returns-8 : tie.Need-returns-8
-returns-8 c = rowed-by (c .before .before .before .before .before .before .before .before .before .before .before .args .head) (c .before .before .before .before .before .before .before .before .before .before .before .args .held .now) (c .before .before .before .before .before .before .before .before .before .before .before .args .next-in .now) (c .before .before .before .before .before .before .before .before .before .before .before .args .places .now) (c .before .before .before .before .before .before .before .before .before .before .before .args .next-out .now) (c .before .before .before .before .before .before .before .before .before .before .before .args .kept .now) (c .before .before .before .before .before .before .before .before .before .before .before .args .area .now) (c .before .before .before .before .before .before .before .before .before .before .before .args .space .now) (c .before .before .before .before .before .before .before .before .before .before .before .args .s .now) (c .before .before .before .before .before .before .before .before .before .before .before .args .b) (c .before .before .before .before .before .before .before .before .before .before .before .args .cookie .now) (c .before .before .before .before .before .kind-of .ensures) (c .before .before .before .before .row-for .ensures) (c .before .before .enum-told8 .given .1) (quiet-places (c .before .before .before .before .before .before .before .before .before .before .before .args .head) (c .before .before .before .before .before .before .before .before .before .before .before .args .held .now) (c .before .before .before .before .before .before .before .before .before .before .before .args .next-in .now) (c .before .before .before .before .before .before .before .before .before .before .before .args .places .now) (c .before .before .before .before .before .before .before .before .before .before .before .args .next-out .now) (c .before .before .before .before .before .before .before .before .before .before .before .args .kept .now) (c .before .before .before .before .before .before .before .before .before .before .before .args .area .now) (c .before .before .before .before .before .before .before .before .before .before .before .args .space .now) (c .before .before .before .before .before .before .before .before .before .before .before .args .s .now) (readSackBy (c .before .before .before .before .before .before .before .before .before .before .before .args .head) (c .before .before .before .before .before .before .before .before .before .before .before .args .places .now) (c .before .before .before .before .before .before .before .before .before .before .before .args .s .now)) (sack-quiet (c .before .before .before .before .before .before .before .before .before .before .before .args .head) (c .before .before .before .before .before .before .before .before .before .before .before .args .places .now) (c .before .before .before .before .before .before .before .before .before .before .before .args .s .now)) (c .read-sack .ensures))
+returns-8 c = rowed-by (c .before .before .before .before .before .before .before .before .before .before .before .before .args .head) (c .before .before .before .before .before .before .before .before .before .before .before .before .args .held .now) (c .before .before .before .before .before .before .before .before .before .before .before .before .args .next-in .now) (c .before .before .before .before .before .before .before .before .before .before .before .before .args .places .now) (c .before .before .before .before .before .before .before .before .before .before .before .before .args .next-out .now) (c .before .before .before .before .before .before .before .before .before .before .before .before .args .kept .now) (c .before .before .before .before .before .before .before .before .before .before .before .before .args .area .now) (c .before .before .before .before .before .before .before .before .before .before .before .before .args .space .now) (c .before .before .before .before .before .before .before .before .before .before .before .before .args .s .now) (c .before .before .before .before .before .before .before .before .before .before .before .before .args .b) (c .before .before .before .before .before .before .before .before .before .before .before .before .args .cookie .now) (c .before .before .before .before .before .kind-of .ensures) (c .before .before .before .before .row-for .ensures) (c .before .before .enum-told8 .given .1) (quiet-places (c .before .before .before .before .before .before .before .before .before .before .before .before .args .head) (c .before .before .before .before .before .before .before .before .before .before .before .before .args .held .now) (c .before .before .before .before .before .before .before .before .before .before .before .before .args .next-in .now) (c .before .before .before .before .before .before .before .before .before .before .before .before .args .places .now) (c .before .before .before .before .before .before .before .before .before .before .before .before .args .next-out .now) (c .before .before .before .before .before .before .before .before .before .before .before .before .args .kept .now) (c .before .before .before .before .before .before .before .before .before .before .before .before .args .area .now) (c .before .before .before .before .before .before .before .before .before .before .before .before .args .space .now) (c .before .before .before .before .before .before .before .before .before .before .before .before .args .s .now) (readSackBy (c .before .before .before .before .before .before .before .before .before .before .before .before .args .head) (c .before .before .before .before .before .before .before .before .before .before .before .before .args .places .now) (c .before .before .before .before .before .before .before .before .before .before .before .before .args .s .now)) (sack-quiet (c .before .before .before .before .before .before .before .before .before .before .before .before .args .head) (c .before .before .before .before .before .before .before .before .before .before .before .before .args .places .now) (c .before .before .before .before .before .before .before .before .before .before .before .before .args .s .now)) (c .read-sack .ensures))
 
 -- src/chunk.rt:29:1
 returns-9 : tie.Need-returns-9
-returns-9 c = rowed-by (c .before .before .before .before .before .before .before .before .before .before .before .args .head) (c .before .before .before .before .before .before .before .before .before .before .before .args .held .now) (c .before .before .before .before .before .before .before .before .before .before .before .args .next-in .now) (c .before .before .before .before .before .before .before .before .before .before .before .args .places .now) (c .before .before .before .before .before .before .before .before .before .before .before .args .next-out .now) (c .before .before .before .before .before .before .before .before .before .before .before .args .kept .now) (c .before .before .before .before .before .before .before .before .before .before .before .args .area .now) (c .before .before .before .before .before .before .before .before .before .before .before .args .space .now) (c .before .before .before .before .before .before .before .before .before .before .before .args .s .now) (c .before .before .before .before .before .before .before .before .before .before .before .args .b) (c .before .before .before .before .before .before .before .before .before .before .before .args .cookie .now) (c .before .before .before .before .before .kind-of .ensures) (c .before .before .before .before .row-for .ensures) (c .before .before .enum-told9 .given .1) (quiet-places (c .before .before .before .before .before .before .before .before .before .before .before .args .head) (c .before .before .before .before .before .before .before .before .before .before .before .args .held .now) (c .before .before .before .before .before .before .before .before .before .before .before .args .next-in .now) (c .before .before .before .before .before .before .before .before .before .before .before .args .places .now) (c .before .before .before .before .before .before .before .before .before .before .before .args .next-out .now) (c .before .before .before .before .before .before .before .before .before .before .before .args .kept .now) (c .before .before .before .before .before .before .before .before .before .before .before .args .area .now) (c .before .before .before .before .before .before .before .before .before .before .before .args .space .now) (c .before .before .before .before .before .before .before .before .before .before .before .args .s .now) (readSackPendingBy (c .before .before .before .before .before .before .before .before .before .before .before .args .head) (c .before .before .before .before .before .before .before .before .before .before .before .args .places .now) (c .before .before .before .before .before .before .before .before .before .before .before .args .s .now)) (pending-quiet (c .before .before .before .before .before .before .before .before .before .before .before .args .head) (c .before .before .before .before .before .before .before .before .before .before .before .args .places .now) (c .before .before .before .before .before .before .before .before .before .before .before .args .s .now)) (c .read-sack-pending .ensures))
+returns-9 c = rowed-by (c .before .before .before .before .before .before .before .before .before .before .before .before .args .head) (c .before .before .before .before .before .before .before .before .before .before .before .before .args .held .now) (c .before .before .before .before .before .before .before .before .before .before .before .before .args .next-in .now) (c .before .before .before .before .before .before .before .before .before .before .before .before .args .places .now) (c .before .before .before .before .before .before .before .before .before .before .before .before .args .next-out .now) (c .before .before .before .before .before .before .before .before .before .before .before .before .args .kept .now) (c .before .before .before .before .before .before .before .before .before .before .before .before .args .area .now) (c .before .before .before .before .before .before .before .before .before .before .before .before .args .space .now) (c .before .before .before .before .before .before .before .before .before .before .before .before .args .s .now) (c .before .before .before .before .before .before .before .before .before .before .before .before .args .b) (c .before .before .before .before .before .before .before .before .before .before .before .before .args .cookie .now) (c .before .before .before .before .before .kind-of .ensures) (c .before .before .before .before .row-for .ensures) (c .before .before .enum-told9 .given .1) (quiet-places (c .before .before .before .before .before .before .before .before .before .before .before .before .args .head) (c .before .before .before .before .before .before .before .before .before .before .before .before .args .held .now) (c .before .before .before .before .before .before .before .before .before .before .before .before .args .next-in .now) (c .before .before .before .before .before .before .before .before .before .before .before .before .args .places .now) (c .before .before .before .before .before .before .before .before .before .before .before .before .args .next-out .now) (c .before .before .before .before .before .before .before .before .before .before .before .before .args .kept .now) (c .before .before .before .before .before .before .before .before .before .before .before .before .args .area .now) (c .before .before .before .before .before .before .before .before .before .before .before .before .args .space .now) (c .before .before .before .before .before .before .before .before .before .before .before .before .args .s .now) (readSackPendingBy (c .before .before .before .before .before .before .before .before .before .before .before .before .args .head) (c .before .before .before .before .before .before .before .before .before .before .before .before .args .places .now) (c .before .before .before .before .before .before .before .before .before .before .before .before .args .s .now)) (pending-quiet (c .before .before .before .before .before .before .before .before .before .before .before .before .args .head) (c .before .before .before .before .before .before .before .before .before .before .before .before .args .places .now) (c .before .before .before .before .before .before .before .before .before .before .before .before .args .s .now)) (c .read-sack-pending .ensures))
 
 -- src/chunk.rt:29:1
 same-length-6 : tie.Need-same-length-6
@@ -302,7 +302,7 @@ same-length-6 c = search needs
 
 -- src/chunk.rt:29:1
 returns-10 : tie.Need-returns-10
-returns-10 c = rowed-by (c .before .before .before .before .before .before .before .before .before .before .before .before .before .before .args .head) (c .before .before .before .before .before .before .before .before .before .before .before .before .before .before .args .held .now) (c .before .before .before .before .before .before .before .before .before .before .before .before .before .before .args .next-in .now) (c .before .before .before .before .before .before .before .before .before .before .before .before .before .before .args .places .now) (c .before .before .before .before .before .before .before .before .before .before .before .before .before .before .args .next-out .now) (c .before .before .before .before .before .before .before .before .before .before .before .before .before .before .args .kept .now) (c .before .before .before .before .before .before .before .before .before .before .before .before .before .before .args .area .now) (c .before .before .before .before .before .before .before .before .before .before .before .before .before .before .args .space .now) (c .before .before .before .before .before .before .before .before .before .before .before .before .before .before .args .s .now) (c .before .before .before .before .before .before .before .before .before .before .before .before .before .before .args .b) (c .before .before .before .before .before .before .before .before .before .before .before .before .before .before .args .cookie .now) (c .before .before .before .before .before .before .before .before .kind-of .ensures) (c .before .before .before .before .before .before .before .row-for .ensures) (c .before .before .before .before .before .enum-told10 .given .1) (places-rowed (c .before .before .before .before .before .before .before .before .before .before .before .before .before .before .args .head) (c .before .before .before .before .before .before .before .before .before .before .before .before .before .before .args .held .now) (c .before .before .before .before .before .before .before .before .before .before .before .before .before .before .args .next-in .now) (c .before .before .before .before .before .before .before .before .before .before .before .before .before .before .args .places .now) (c .before .before .before .before .before .before .before .before .before .before .before .before .before .before .args .next-out .now) (c .before .before .before .before .before .before .before .before .before .before .before .before .before .before .args .kept .now) (c .before .before .before .before .before .before .before .before .before .before .before .before .before .before .args .area .now) (c .before .before .before .before .before .before .before .before .before .before .before .before .before .before .args .space .now) (c .before .before .before .before .before .before .before .before .before .before .before .before .before .before .args .s .now) (readSackReceivedBy (c .before .before .before .before .before .before .before .before .before .before .before .before .before .before .args .head) (c .before .before .before .before .before .before .before .before .before .before .before .before .before .before .args .places .now) (c .before .before .before .before .before .before .before .before .before .before .before .before .before .before .args .s .now)) (c .before .before .read-sack-received .ensures))
+returns-10 c = rowed-by (c .before .before .before .before .before .before .before .before .before .before .before .before .before .before .before .args .head) (c .before .before .before .before .before .before .before .before .before .before .before .before .before .before .before .args .held .now) (c .before .before .before .before .before .before .before .before .before .before .before .before .before .before .before .args .next-in .now) (c .before .before .before .before .before .before .before .before .before .before .before .before .before .before .before .args .places .now) (c .before .before .before .before .before .before .before .before .before .before .before .before .before .before .before .args .next-out .now) (c .before .before .before .before .before .before .before .before .before .before .before .before .before .before .before .args .kept .now) (c .before .before .before .before .before .before .before .before .before .before .before .before .before .before .before .args .area .now) (c .before .before .before .before .before .before .before .before .before .before .before .before .before .before .before .args .space .now) (c .before .before .before .before .before .before .before .before .before .before .before .before .before .before .before .args .s .now) (c .before .before .before .before .before .before .before .before .before .before .before .before .before .before .before .args .b) (c .before .before .before .before .before .before .before .before .before .before .before .before .before .before .before .args .cookie .now) (c .before .before .before .before .before .before .before .before .kind-of .ensures) (c .before .before .before .before .before .before .before .row-for .ensures) (c .before .before .before .before .before .enum-told10 .given .1) (places-rowed (c .before .before .before .before .before .before .before .before .before .before .before .before .before .before .before .args .head) (c .before .before .before .before .before .before .before .before .before .before .before .before .before .before .before .args .held .now) (c .before .before .before .before .before .before .before .before .before .before .before .before .before .before .before .args .next-in .now) (c .before .before .before .before .before .before .before .before .before .before .before .before .before .before .before .args .places .now) (c .before .before .before .before .before .before .before .before .before .before .before .before .before .before .before .args .next-out .now) (c .before .before .before .before .before .before .before .before .before .before .before .before .before .before .before .args .kept .now) (c .before .before .before .before .before .before .before .before .before .before .before .before .before .before .before .args .area .now) (c .before .before .before .before .before .before .before .before .before .before .before .before .before .before .before .args .space .now) (c .before .before .before .before .before .before .before .before .before .before .before .before .before .before .before .args .s .now) (readSackReceivedBy (c .before .before .before .before .before .before .before .before .before .before .before .before .before .before .before .args .head) (c .before .before .before .before .before .before .before .before .before .before .before .before .before .before .before .args .places .now) (c .before .before .before .before .before .before .before .before .before .before .before .before .before .before .before .args .s .now)) (c .before .before .read-sack-received .ensures))
 
 -- src/chunk.rt:29:1
 same-length-7 : tie.Need-same-length-7
@@ -310,23 +310,23 @@ same-length-7 c = search needs
 
 -- src/chunk.rt:29:1
 returns-11 : tie.Need-returns-11
-returns-11 c = rowed-by (c .before .before .before .before .before .before .before .before .before .before .before .before .before .args .head) (c .before .before .before .before .before .before .before .before .before .before .before .before .before .args .held .now) (c .before .before .before .before .before .before .before .before .before .before .before .before .before .args .next-in .now) (c .before .before .before .before .before .before .before .before .before .before .before .before .before .args .places .now) (c .before .before .before .before .before .before .before .before .before .before .before .before .before .args .next-out .now) (c .before .before .before .before .before .before .before .before .before .before .before .before .before .args .kept .now) (c .before .before .before .before .before .before .before .before .before .before .before .before .before .args .area .now) (c .before .before .before .before .before .before .before .before .before .before .before .before .before .args .space .now) (c .before .before .before .before .before .before .before .before .before .before .before .before .before .args .s .now) (c .before .before .before .before .before .before .before .before .before .before .before .before .before .args .b) (c .before .before .before .before .before .before .before .before .before .before .before .before .before .args .cookie .now) (c .before .before .before .before .before .before .before .kind-of .ensures) (c .before .before .before .before .before .before .row-for .ensures) (c .before .before .before .before .enum-told11 .given .1) (head-rowed (c .before .before .before .before .before .before .before .before .before .before .before .before .before .args .head) (c .before .before .before .before .before .before .before .before .before .before .before .before .before .args .held .now) (c .before .before .before .before .before .before .before .before .before .before .before .before .before .args .next-in .now) (c .before .before .before .before .before .before .before .before .before .before .before .before .before .args .places .now) (c .before .before .before .before .before .before .before .before .before .before .before .before .before .args .next-out .now) (c .before .before .before .before .before .before .before .before .before .before .before .before .before .args .kept .now) (c .before .before .before .before .before .before .before .before .before .before .before .before .before .args .area .now) (c .before .before .before .before .before .before .before .before .before .before .before .before .before .args .space .now) (c .before .before .before .before .before .before .before .before .before .before .before .before .before .args .s .now) (echoHeartbeat (bare (c .before .before .before .before .before .before .before .before .before .before .before .before .before .args .head)) (c .before .before .before .before .before .before .before .before .before .before .before .before .before .args .s .now)) (c .before .before .echo-heartbeat .ensures))
+returns-11 c = rowed-by (c .before .before .before .before .before .before .before .before .before .before .before .before .before .before .args .head) (c .before .before .before .before .before .before .before .before .before .before .before .before .before .before .args .held .now) (c .before .before .before .before .before .before .before .before .before .before .before .before .before .before .args .next-in .now) (c .before .before .before .before .before .before .before .before .before .before .before .before .before .before .args .places .now) (c .before .before .before .before .before .before .before .before .before .before .before .before .before .before .args .next-out .now) (c .before .before .before .before .before .before .before .before .before .before .before .before .before .before .args .kept .now) (c .before .before .before .before .before .before .before .before .before .before .before .before .before .before .args .area .now) (c .before .before .before .before .before .before .before .before .before .before .before .before .before .before .args .space .now) (c .before .before .before .before .before .before .before .before .before .before .before .before .before .before .args .s .now) (c .before .before .before .before .before .before .before .before .before .before .before .before .before .before .args .b) (c .before .before .before .before .before .before .before .before .before .before .before .before .before .before .args .cookie .now) (c .before .before .before .before .before .before .before .kind-of .ensures) (c .before .before .before .before .before .before .row-for .ensures) (c .before .before .before .before .enum-told11 .given .1) (head-rowed (c .before .before .before .before .before .before .before .before .before .before .before .before .before .before .args .head) (c .before .before .before .before .before .before .before .before .before .before .before .before .before .before .args .held .now) (c .before .before .before .before .before .before .before .before .before .before .before .before .before .before .args .next-in .now) (c .before .before .before .before .before .before .before .before .before .before .before .before .before .before .args .places .now) (c .before .before .before .before .before .before .before .before .before .before .before .before .before .before .args .next-out .now) (c .before .before .before .before .before .before .before .before .before .before .before .before .before .before .args .kept .now) (c .before .before .before .before .before .before .before .before .before .before .before .before .before .before .args .area .now) (c .before .before .before .before .before .before .before .before .before .before .before .before .before .before .args .space .now) (c .before .before .before .before .before .before .before .before .before .before .before .before .before .before .args .s .now) (echoHeartbeat (bare (c .before .before .before .before .before .before .before .before .before .before .before .before .before .before .args .head)) (c .before .before .before .before .before .before .before .before .before .before .before .before .before .before .args .s .now)) (c .before .before .echo-heartbeat .ensures))
 
 -- src/chunk.rt:29:1
 returns-12 : tie.Need-returns-12
-returns-12 c = rowed-by (c .before .before .before .before .before .before .before .before .before .before .args .head) (c .before .before .before .before .before .before .before .before .before .before .args .held .now) (c .before .before .before .before .before .before .before .before .before .before .args .next-in .now) (c .before .before .before .before .before .before .before .before .before .before .args .places .now) (c .before .before .before .before .before .before .before .before .before .before .args .next-out .now) (c .before .before .before .before .before .before .before .before .before .before .args .kept .now) (c .before .before .before .before .before .before .before .before .before .before .args .area .now) (c .before .before .before .before .before .before .before .before .before .before .args .space .now) (c .before .before .before .before .before .before .before .before .before .before .args .s .now) (c .before .before .before .before .before .before .before .before .before .before .args .b) (c .before .before .before .before .before .before .before .before .before .before .args .cookie .now) (c .before .before .before .before .kind-of .ensures) (c .before .before .before .row-for .ensures) (c .before .enum-told12 .given .1) (quiet-rowed (c .before .before .before .before .before .before .before .before .before .before .args .head) (c .before .before .before .before .before .before .before .before .before .before .args .held .now) (c .before .before .before .before .before .before .before .before .before .before .args .next-in .now) (c .before .before .before .before .before .before .before .before .before .before .args .places .now) (c .before .before .before .before .before .before .before .before .before .before .args .next-out .now) (c .before .before .before .before .before .before .before .before .before .before .args .kept .now) (c .before .before .before .before .before .before .before .before .before .before .args .area .now) (c .before .before .before .before .before .before .before .before .before .before .args .space .now) (c .before .before .before .before .before .before .before .before .before .before .args .s .now) (clearTries (bare (c .before .before .before .before .before .before .before .before .before .before .args .head))) (clear-quiet (bare (c .before .before .before .before .before .before .before .before .before .before .args .head)) (c .before .before .before .before .before .before .before .before .before .before .args .s .now)) (c .clear-tries .ensures))
+returns-12 c = rowed-by (c .before .before .before .before .before .before .before .before .before .before .before .args .head) (c .before .before .before .before .before .before .before .before .before .before .before .args .held .now) (c .before .before .before .before .before .before .before .before .before .before .before .args .next-in .now) (c .before .before .before .before .before .before .before .before .before .before .before .args .places .now) (c .before .before .before .before .before .before .before .before .before .before .before .args .next-out .now) (c .before .before .before .before .before .before .before .before .before .before .before .args .kept .now) (c .before .before .before .before .before .before .before .before .before .before .before .args .area .now) (c .before .before .before .before .before .before .before .before .before .before .before .args .space .now) (c .before .before .before .before .before .before .before .before .before .before .before .args .s .now) (c .before .before .before .before .before .before .before .before .before .before .before .args .b) (c .before .before .before .before .before .before .before .before .before .before .before .args .cookie .now) (c .before .before .before .before .kind-of .ensures) (c .before .before .before .row-for .ensures) (c .before .enum-told12 .given .1) (quiet-rowed (c .before .before .before .before .before .before .before .before .before .before .before .args .head) (c .before .before .before .before .before .before .before .before .before .before .before .args .held .now) (c .before .before .before .before .before .before .before .before .before .before .before .args .next-in .now) (c .before .before .before .before .before .before .before .before .before .before .before .args .places .now) (c .before .before .before .before .before .before .before .before .before .before .before .args .next-out .now) (c .before .before .before .before .before .before .before .before .before .before .before .args .kept .now) (c .before .before .before .before .before .before .before .before .before .before .before .args .area .now) (c .before .before .before .before .before .before .before .before .before .before .before .args .space .now) (c .before .before .before .before .before .before .before .before .before .before .before .args .s .now) (clearTries (bare (c .before .before .before .before .before .before .before .before .before .before .before .args .head))) (clear-quiet (bare (c .before .before .before .before .before .before .before .before .before .before .before .args .head)) (c .before .before .before .before .before .before .before .before .before .before .before .args .s .now)) (c .clear-tries .ensures))
 
 -- src/chunk.rt:29:1
 returns-13 : tie.Need-returns-13
-returns-13 c = rowed-by (c .before .before .before .before .before .before .before .before .before .before .args .head) (c .before .before .before .before .before .before .before .before .before .before .args .held .now) (c .before .before .before .before .before .before .before .before .before .before .args .next-in .now) (c .before .before .before .before .before .before .before .before .before .before .args .places .now) (c .before .before .before .before .before .before .before .before .before .before .args .next-out .now) (c .before .before .before .before .before .before .before .before .before .before .args .kept .now) (c .before .before .before .before .before .before .before .before .before .before .args .area .now) (c .before .before .before .before .before .before .before .before .before .before .args .space .now) (c .before .before .before .before .before .before .before .before .before .before .args .s .now) (c .before .before .before .before .before .before .before .before .before .before .args .b) (c .before .before .before .before .before .before .before .before .before .before .args .cookie .now) (c .before .before .before .before .kind-of .ensures) (c .before .before .before .row-for .ensures) (c .before .enum-told13 .given .1) (quiet-rowed (c .before .before .before .before .before .before .before .before .before .before .args .head) (c .before .before .before .before .before .before .before .before .before .before .args .held .now) (c .before .before .before .before .before .before .before .before .before .before .args .next-in .now) (c .before .before .before .before .before .before .before .before .before .before .args .places .now) (c .before .before .before .before .before .before .before .before .before .before .args .next-out .now) (c .before .before .before .before .before .before .before .before .before .before .args .kept .now) (c .before .before .before .before .before .before .before .before .before .before .args .area .now) (c .before .before .before .before .before .before .before .before .before .before .args .space .now) (c .before .before .before .before .before .before .before .before .before .before .args .s .now) (becomeClosed (bare (c .before .before .before .before .before .before .before .before .before .before .args .head))) refl (c .become-closed .ensures))
+returns-13 c = rowed-by (c .before .before .before .before .before .before .before .before .before .before .before .args .head) (c .before .before .before .before .before .before .before .before .before .before .before .args .held .now) (c .before .before .before .before .before .before .before .before .before .before .before .args .next-in .now) (c .before .before .before .before .before .before .before .before .before .before .before .args .places .now) (c .before .before .before .before .before .before .before .before .before .before .before .args .next-out .now) (c .before .before .before .before .before .before .before .before .before .before .before .args .kept .now) (c .before .before .before .before .before .before .before .before .before .before .before .args .area .now) (c .before .before .before .before .before .before .before .before .before .before .before .args .space .now) (c .before .before .before .before .before .before .before .before .before .before .before .args .s .now) (c .before .before .before .before .before .before .before .before .before .before .before .args .b) (c .before .before .before .before .before .before .before .before .before .before .before .args .cookie .now) (c .before .before .before .before .kind-of .ensures) (c .before .before .before .row-for .ensures) (c .before .enum-told13 .given .1) (quiet-rowed (c .before .before .before .before .before .before .before .before .before .before .before .args .head) (c .before .before .before .before .before .before .before .before .before .before .before .args .held .now) (c .before .before .before .before .before .before .before .before .before .before .before .args .next-in .now) (c .before .before .before .before .before .before .before .before .before .before .before .args .places .now) (c .before .before .before .before .before .before .before .before .before .before .before .args .next-out .now) (c .before .before .before .before .before .before .before .before .before .before .before .args .kept .now) (c .before .before .before .before .before .before .before .before .before .before .before .args .area .now) (c .before .before .before .before .before .before .before .before .before .before .before .args .space .now) (c .before .before .before .before .before .before .before .before .before .before .before .args .s .now) (becomeClosed (bare (c .before .before .before .before .before .before .before .before .before .before .before .args .head))) refl (c .become-closed .ensures))
 
 -- src/chunk.rt:29:1
 returns-14 : tie.Need-returns-14
-returns-14 c = rowed-by (c .before .before .before .before .before .before .before .before .before .before .args .head) (c .before .before .before .before .before .before .before .before .before .before .args .held .now) (c .before .before .before .before .before .before .before .before .before .before .args .next-in .now) (c .before .before .before .before .before .before .before .before .before .before .args .places .now) (c .before .before .before .before .before .before .before .before .before .before .args .next-out .now) (c .before .before .before .before .before .before .before .before .before .before .args .kept .now) (c .before .before .before .before .before .before .before .before .before .before .args .area .now) (c .before .before .before .before .before .before .before .before .before .before .args .space .now) (c .before .before .before .before .before .before .before .before .before .before .args .s .now) (c .before .before .before .before .before .before .before .before .before .before .args .b) (c .before .before .before .before .before .before .before .before .before .before .args .cookie .now) (c .before .before .before .before .kind-of .ensures) (c .before .before .before .row-for .ensures) (c .before .enum-told14 .given .1) (quiet-rowed (c .before .before .before .before .before .before .before .before .before .before .args .head) (c .before .before .before .before .before .before .before .before .before .before .args .held .now) (c .before .before .before .before .before .before .before .before .before .before .args .next-in .now) (c .before .before .before .before .before .before .before .before .before .before .args .places .now) (c .before .before .before .before .before .before .before .before .before .before .args .next-out .now) (c .before .before .before .before .before .before .before .before .before .before .args .kept .now) (c .before .before .before .before .before .before .before .before .before .before .args .area .now) (c .before .before .before .before .before .before .before .before .before .before .args .space .now) (c .before .before .before .before .before .before .before .before .before .before .args .s .now) (accepted (bare (c .before .before .before .before .before .before .before .before .before .before .args .head)) NoEvent []) refl (c .accepted2 .ensures))
+returns-14 c = rowed-by (c .before .before .before .before .before .before .before .before .before .before .before .args .head) (c .before .before .before .before .before .before .before .before .before .before .before .args .held .now) (c .before .before .before .before .before .before .before .before .before .before .before .args .next-in .now) (c .before .before .before .before .before .before .before .before .before .before .before .args .places .now) (c .before .before .before .before .before .before .before .before .before .before .before .args .next-out .now) (c .before .before .before .before .before .before .before .before .before .before .before .args .kept .now) (c .before .before .before .before .before .before .before .before .before .before .before .args .area .now) (c .before .before .before .before .before .before .before .before .before .before .before .args .space .now) (c .before .before .before .before .before .before .before .before .before .before .before .args .s .now) (c .before .before .before .before .before .before .before .before .before .before .before .args .b) (c .before .before .before .before .before .before .before .before .before .before .before .args .cookie .now) (c .before .before .before .before .kind-of .ensures) (c .before .before .before .row-for .ensures) (c .before .enum-told14 .given .1) (quiet-rowed (c .before .before .before .before .before .before .before .before .before .before .before .args .head) (c .before .before .before .before .before .before .before .before .before .before .before .args .held .now) (c .before .before .before .before .before .before .before .before .before .before .before .args .next-in .now) (c .before .before .before .before .before .before .before .before .before .before .before .args .places .now) (c .before .before .before .before .before .before .before .before .before .before .before .args .next-out .now) (c .before .before .before .before .before .before .before .before .before .before .before .args .kept .now) (c .before .before .before .before .before .before .before .before .before .before .before .args .area .now) (c .before .before .before .before .before .before .before .before .before .before .before .args .space .now) (c .before .before .before .before .before .before .before .before .before .before .before .args .s .now) (accepted (bare (c .before .before .before .before .before .before .before .before .before .before .before .args .head)) NoEvent []) refl (c .accepted2 .ensures))
 
 -- src/chunk.rt:29:1
 returns-15 : tie.Need-returns-15
-returns-15 c = rowed-by (c .before .before .before .before .before .before .before .before .before .before .args .head) (c .before .before .before .before .before .before .before .before .before .before .args .held .now) (c .before .before .before .before .before .before .before .before .before .before .args .next-in .now) (c .before .before .before .before .before .before .before .before .before .before .args .places .now) (c .before .before .before .before .before .before .before .before .before .before .args .next-out .now) (c .before .before .before .before .before .before .before .before .before .before .args .kept .now) (c .before .before .before .before .before .before .before .before .before .before .args .area .now) (c .before .before .before .before .before .before .before .before .before .before .args .space .now) (c .before .before .before .before .before .before .before .before .before .before .args .s .now) (c .before .before .before .before .before .before .before .before .before .before .args .b) (c .before .before .before .before .before .before .before .before .before .before .args .cookie .now) (c .before .before .before .before .kind-of .ensures) (c .before .before .before .row-for .ensures) (c .before .enum-told15 .given .1) (quiet-rowed (c .before .before .before .before .before .before .before .before .before .before .args .head) (c .before .before .before .before .before .before .before .before .before .before .args .held .now) (c .before .before .before .before .before .before .before .before .before .before .args .next-in .now) (c .before .before .before .before .before .before .before .before .before .before .args .places .now) (c .before .before .before .before .before .before .before .before .before .before .args .next-out .now) (c .before .before .before .before .before .before .before .before .before .before .args .kept .now) (c .before .before .before .before .before .before .before .before .before .before .args .area .now) (c .before .before .before .before .before .before .before .before .before .before .args .space .now) (c .before .before .before .before .before .before .before .before .before .before .args .s .now) (readError (bare (c .before .before .before .before .before .before .before .before .before .before .args .head)) (c .before .before .before .before .before .before .before .before .before .before .args .s .now)) (error-quiet (bare (c .before .before .before .before .before .before .before .before .before .before .args .head)) (c .before .before .before .before .before .before .before .before .before .before .args .s .now)) (c .read-error .ensures))
+returns-15 c = rowed-by (c .before .before .before .before .before .before .before .before .before .before .before .args .head) (c .before .before .before .before .before .before .before .before .before .before .before .args .held .now) (c .before .before .before .before .before .before .before .before .before .before .before .args .next-in .now) (c .before .before .before .before .before .before .before .before .before .before .before .args .places .now) (c .before .before .before .before .before .before .before .before .before .before .before .args .next-out .now) (c .before .before .before .before .before .before .before .before .before .before .before .args .kept .now) (c .before .before .before .before .before .before .before .before .before .before .before .args .area .now) (c .before .before .before .before .before .before .before .before .before .before .before .args .space .now) (c .before .before .before .before .before .before .before .before .before .before .before .args .s .now) (c .before .before .before .before .before .before .before .before .before .before .before .args .b) (c .before .before .before .before .before .before .before .before .before .before .before .args .cookie .now) (c .before .before .before .before .kind-of .ensures) (c .before .before .before .row-for .ensures) (c .before .enum-told15 .given .1) (quiet-rowed (c .before .before .before .before .before .before .before .before .before .before .before .args .head) (c .before .before .before .before .before .before .before .before .before .before .before .args .held .now) (c .before .before .before .before .before .before .before .before .before .before .before .args .next-in .now) (c .before .before .before .before .before .before .before .before .before .before .before .args .places .now) (c .before .before .before .before .before .before .before .before .before .before .before .args .next-out .now) (c .before .before .before .before .before .before .before .before .before .before .before .args .kept .now) (c .before .before .before .before .before .before .before .before .before .before .before .args .area .now) (c .before .before .before .before .before .before .before .before .before .before .before .args .space .now) (c .before .before .before .before .before .before .before .before .before .before .before .args .s .now) (readError (bare (c .before .before .before .before .before .before .before .before .before .before .before .args .head)) (c .before .before .before .before .before .before .before .before .before .before .before .args .s .now)) (error-quiet (bare (c .before .before .before .before .before .before .before .before .before .before .before .args .head)) (c .before .before .before .before .before .before .before .before .before .before .before .args .s .now)) (c .read-error .ensures))
 
 -- src/chunk.rt:29:1
 same-length-8 : tie.Need-same-length-8
@@ -334,7 +334,7 @@ same-length-8 c = search needs
 
 -- src/chunk.rt:29:1
 returns-16 : tie.Need-returns-16
-returns-16 c = rowed-by (c .before .before .before .before .before .before .before .before .before .before .before .before .before .before .args .head) (c .before .before .before .before .before .before .before .before .before .before .before .before .before .before .args .held .now) (c .before .before .before .before .before .before .before .before .before .before .before .before .before .before .args .next-in .now) (c .before .before .before .before .before .before .before .before .before .before .before .before .before .before .args .places .now) (c .before .before .before .before .before .before .before .before .before .before .before .before .before .before .args .next-out .now) (c .before .before .before .before .before .before .before .before .before .before .before .before .before .before .args .kept .now) (c .before .before .before .before .before .before .before .before .before .before .before .before .before .before .args .area .now) (c .before .before .before .before .before .before .before .before .before .before .before .before .before .before .args .space .now) (c .before .before .before .before .before .before .before .before .before .before .before .before .before .before .args .s .now) (c .before .before .before .before .before .before .before .before .before .before .before .before .before .before .args .b) (c .before .before .before .before .before .before .before .before .before .before .before .before .before .before .args .cookie .now) (c .before .before .before .before .before .before .before .before .kind-of .ensures) (c .before .before .before .before .before .before .before .row-for .ensures) (c .before .before .before .before .before .enum-told16 .given .1) (places-rowed (c .before .before .before .before .before .before .before .before .before .before .before .before .before .before .args .head) (c .before .before .before .before .before .before .before .before .before .before .before .before .before .before .args .held .now) (c .before .before .before .before .before .before .before .before .before .before .before .before .before .before .args .next-in .now) (c .before .before .before .before .before .before .before .before .before .before .before .before .before .before .args .places .now) (c .before .before .before .before .before .before .before .before .before .before .before .before .before .before .args .next-out .now) (c .before .before .before .before .before .before .before .before .before .before .before .before .before .before .args .kept .now) (c .before .before .before .before .before .before .before .before .before .before .before .before .before .before .args .area .now) (c .before .before .before .before .before .before .before .before .before .before .before .before .before .before .args .space .now) (c .before .before .before .before .before .before .before .before .before .before .before .before .before .before .args .s .now) (readShutdownBy (c .before .before .before .before .before .before .before .before .before .before .before .before .before .before .args .head) (c .before .before .before .before .before .before .before .before .before .before .before .before .before .before .args .places .now) (c .before .before .before .before .before .before .before .before .before .before .before .before .before .before .args .s .now)) (c .before .before .read-shutdown .ensures))
+returns-16 c = rowed-by (c .before .before .before .before .before .before .before .before .before .before .before .before .before .before .before .args .head) (c .before .before .before .before .before .before .before .before .before .before .before .before .before .before .before .args .held .now) (c .before .before .before .before .before .before .before .before .before .before .before .before .before .before .before .args .next-in .now) (c .before .before .before .before .before .before .before .before .before .before .before .before .before .before .before .args .places .now) (c .before .before .before .before .before .before .before .before .before .before .before .before .before .before .before .args .next-out .now) (c .before .before .before .before .before .before .before .before .before .before .before .before .before .before .before .args .kept .now) (c .before .before .before .before .before .before .before .before .before .before .before .before .before .before .before .args .area .now) (c .before .before .before .before .before .before .before .before .before .before .before .before .before .before .before .args .space .now) (c .before .before .before .before .before .before .before .before .before .before .before .before .before .before .before .args .s .now) (c .before .before .before .before .before .before .before .before .before .before .before .before .before .before .before .args .b) (c .before .before .before .before .before .before .before .before .before .before .before .before .before .before .before .args .cookie .now) (c .before .before .before .before .before .before .before .before .kind-of .ensures) (c .before .before .before .before .before .before .before .row-for .ensures) (c .before .before .before .before .before .enum-told16 .given .1) (places-rowed (c .before .before .before .before .before .before .before .before .before .before .before .before .before .before .before .args .head) (c .before .before .before .before .before .before .before .before .before .before .before .before .before .before .before .args .held .now) (c .before .before .before .before .before .before .before .before .before .before .before .before .before .before .before .args .next-in .now) (c .before .before .before .before .before .before .before .before .before .before .before .before .before .before .before .args .places .now) (c .before .before .before .before .before .before .before .before .before .before .before .before .before .before .before .args .next-out .now) (c .before .before .before .before .before .before .before .before .before .before .before .before .before .before .before .args .kept .now) (c .before .before .before .before .before .before .before .before .before .before .before .before .before .before .before .args .area .now) (c .before .before .before .before .before .before .before .before .before .before .before .before .before .before .before .args .space .now) (c .before .before .before .before .before .before .before .before .before .before .before .before .before .before .before .args .s .now) (readShutdownBy (c .before .before .before .before .before .before .before .before .before .before .before .before .before .before .before .args .head) (c .before .before .before .before .before .before .before .before .before .before .before .before .before .before .before .args .places .now) (c .before .before .before .before .before .before .before .before .before .before .before .before .before .before .before .args .s .now)) (c .before .before .read-shutdown .ensures))
 
 -- src/chunk.rt:29:1
 same-length-9 : tie.Need-same-length-9
@@ -342,7 +342,7 @@ same-length-9 c = search needs
 
 -- src/chunk.rt:29:1
 returns-17 : tie.Need-returns-17
-returns-17 c = rowed-by (c .before .before .before .before .before .before .before .before .before .before .before .before .before .before .args .head) (c .before .before .before .before .before .before .before .before .before .before .before .before .before .before .args .held .now) (c .before .before .before .before .before .before .before .before .before .before .before .before .before .before .args .next-in .now) (c .before .before .before .before .before .before .before .before .before .before .before .before .before .before .args .places .now) (c .before .before .before .before .before .before .before .before .before .before .before .before .before .before .args .next-out .now) (c .before .before .before .before .before .before .before .before .before .before .before .before .before .before .args .kept .now) (c .before .before .before .before .before .before .before .before .before .before .before .before .before .before .args .area .now) (c .before .before .before .before .before .before .before .before .before .before .before .before .before .before .args .space .now) (c .before .before .before .before .before .before .before .before .before .before .before .before .before .before .args .s .now) (c .before .before .before .before .before .before .before .before .before .before .before .before .before .before .args .b) (c .before .before .before .before .before .before .before .before .before .before .before .before .before .before .args .cookie .now) (c .before .before .before .before .before .before .before .before .kind-of .ensures) (c .before .before .before .before .before .before .before .row-for .ensures) (c .before .before .before .before .before .enum-told17 .given .1) (places-rowed (c .before .before .before .before .before .before .before .before .before .before .before .before .before .before .args .head) (c .before .before .before .before .before .before .before .before .before .before .before .before .before .before .args .held .now) (c .before .before .before .before .before .before .before .before .before .before .before .before .before .before .args .next-in .now) (c .before .before .before .before .before .before .before .before .before .before .before .before .before .before .args .places .now) (c .before .before .before .before .before .before .before .before .before .before .before .before .before .before .args .next-out .now) (c .before .before .before .before .before .before .before .before .before .before .before .before .before .before .args .kept .now) (c .before .before .before .before .before .before .before .before .before .before .before .before .before .before .args .area .now) (c .before .before .before .before .before .before .before .before .before .before .before .before .before .before .args .space .now) (c .before .before .before .before .before .before .before .before .before .before .before .before .before .before .args .s .now) (answerShutdownBy (c .before .before .before .before .before .before .before .before .before .before .before .before .before .before .args .head) (c .before .before .before .before .before .before .before .before .before .before .before .before .before .before .args .places .now) (ShutdownAckSent 0) (c .before .before .before .before .before .before .before .before .before .before .before .before .before .before .args .s .now)) (c .before .before .cross-shutdown .ensures))
+returns-17 c = rowed-by (c .before .before .before .before .before .before .before .before .before .before .before .before .before .before .before .args .head) (c .before .before .before .before .before .before .before .before .before .before .before .before .before .before .before .args .held .now) (c .before .before .before .before .before .before .before .before .before .before .before .before .before .before .before .args .next-in .now) (c .before .before .before .before .before .before .before .before .before .before .before .before .before .before .before .args .places .now) (c .before .before .before .before .before .before .before .before .before .before .before .before .before .before .before .args .next-out .now) (c .before .before .before .before .before .before .before .before .before .before .before .before .before .before .before .args .kept .now) (c .before .before .before .before .before .before .before .before .before .before .before .before .before .before .before .args .area .now) (c .before .before .before .before .before .before .before .before .before .before .before .before .before .before .before .args .space .now) (c .before .before .before .before .before .before .before .before .before .before .before .before .before .before .before .args .s .now) (c .before .before .before .before .before .before .before .before .before .before .before .before .before .before .before .args .b) (c .before .before .before .before .before .before .before .before .before .before .before .before .before .before .before .args .cookie .now) (c .before .before .before .before .before .before .before .before .kind-of .ensures) (c .before .before .before .before .before .before .before .row-for .ensures) (c .before .before .before .before .before .enum-told17 .given .1) (places-rowed (c .before .before .before .before .before .before .before .before .before .before .before .before .before .before .before .args .head) (c .before .before .before .before .before .before .before .before .before .before .before .before .before .before .before .args .held .now) (c .before .before .before .before .before .before .before .before .before .before .before .before .before .before .before .args .next-in .now) (c .before .before .before .before .before .before .before .before .before .before .before .before .before .before .before .args .places .now) (c .before .before .before .before .before .before .before .before .before .before .before .before .before .before .before .args .next-out .now) (c .before .before .before .before .before .before .before .before .before .before .before .before .before .before .before .args .kept .now) (c .before .before .before .before .before .before .before .before .before .before .before .before .before .before .before .args .area .now) (c .before .before .before .before .before .before .before .before .before .before .before .before .before .before .before .args .space .now) (c .before .before .before .before .before .before .before .before .before .before .before .before .before .before .before .args .s .now) (answerShutdownBy (c .before .before .before .before .before .before .before .before .before .before .before .before .before .before .before .args .head) (c .before .before .before .before .before .before .before .before .before .before .before .before .before .before .before .args .places .now) (ShutdownAckSent 0) (c .before .before .before .before .before .before .before .before .before .before .before .before .before .before .before .args .s .now)) (c .before .before .cross-shutdown .ensures))
 
 -- src/chunk.rt:29:1
 same-length-10 : tie.Need-same-length-10
@@ -350,23 +350,23 @@ same-length-10 c = search needs
 
 -- src/chunk.rt:29:1
 returns-18 : tie.Need-returns-18
-returns-18 c = rowed-by (c .before .before .before .before .before .before .before .before .before .before .before .before .before .before .args .head) (c .before .before .before .before .before .before .before .before .before .before .before .before .before .before .args .held .now) (c .before .before .before .before .before .before .before .before .before .before .before .before .before .before .args .next-in .now) (c .before .before .before .before .before .before .before .before .before .before .before .before .before .before .args .places .now) (c .before .before .before .before .before .before .before .before .before .before .before .before .before .before .args .next-out .now) (c .before .before .before .before .before .before .before .before .before .before .before .before .before .before .args .kept .now) (c .before .before .before .before .before .before .before .before .before .before .before .before .before .before .args .area .now) (c .before .before .before .before .before .before .before .before .before .before .before .before .before .before .args .space .now) (c .before .before .before .before .before .before .before .before .before .before .before .before .before .before .args .s .now) (c .before .before .before .before .before .before .before .before .before .before .before .before .before .before .args .b) (c .before .before .before .before .before .before .before .before .before .before .before .before .before .before .args .cookie .now) (c .before .before .before .before .before .before .before .before .kind-of .ensures) (c .before .before .before .before .before .before .before .row-for .ensures) (c .before .before .before .before .before .enum-told18 .given .1) (places-rowed (c .before .before .before .before .before .before .before .before .before .before .before .before .before .before .args .head) (c .before .before .before .before .before .before .before .before .before .before .before .before .before .before .args .held .now) (c .before .before .before .before .before .before .before .before .before .before .before .before .before .before .args .next-in .now) (c .before .before .before .before .before .before .before .before .before .before .before .before .before .before .args .places .now) (c .before .before .before .before .before .before .before .before .before .before .before .before .before .before .args .next-out .now) (c .before .before .before .before .before .before .before .before .before .before .before .before .before .before .args .kept .now) (c .before .before .before .before .before .before .before .before .before .before .before .before .before .before .args .area .now) (c .before .before .before .before .before .before .before .before .before .before .before .before .before .before .args .space .now) (c .before .before .before .before .before .before .before .before .before .before .before .before .before .before .args .s .now) (answerShutdownBy (c .before .before .before .before .before .before .before .before .before .before .before .before .before .before .args .head) (c .before .before .before .before .before .before .before .before .before .before .before .before .before .before .args .places .now) ((c .before .before .before .before .before .before .before .before .before .before .before .before .before .before .args .head) .state) (c .before .before .before .before .before .before .before .before .before .before .before .before .before .before .args .s .now)) (c .before .before .repeat-shutdown-ack .ensures))
+returns-18 c = rowed-by (c .before .before .before .before .before .before .before .before .before .before .before .before .before .before .before .args .head) (c .before .before .before .before .before .before .before .before .before .before .before .before .before .before .before .args .held .now) (c .before .before .before .before .before .before .before .before .before .before .before .before .before .before .before .args .next-in .now) (c .before .before .before .before .before .before .before .before .before .before .before .before .before .before .before .args .places .now) (c .before .before .before .before .before .before .before .before .before .before .before .before .before .before .before .args .next-out .now) (c .before .before .before .before .before .before .before .before .before .before .before .before .before .before .before .args .kept .now) (c .before .before .before .before .before .before .before .before .before .before .before .before .before .before .before .args .area .now) (c .before .before .before .before .before .before .before .before .before .before .before .before .before .before .before .args .space .now) (c .before .before .before .before .before .before .before .before .before .before .before .before .before .before .before .args .s .now) (c .before .before .before .before .before .before .before .before .before .before .before .before .before .before .before .args .b) (c .before .before .before .before .before .before .before .before .before .before .before .before .before .before .before .args .cookie .now) (c .before .before .before .before .before .before .before .before .kind-of .ensures) (c .before .before .before .before .before .before .before .row-for .ensures) (c .before .before .before .before .before .enum-told18 .given .1) (places-rowed (c .before .before .before .before .before .before .before .before .before .before .before .before .before .before .before .args .head) (c .before .before .before .before .before .before .before .before .before .before .before .before .before .before .before .args .held .now) (c .before .before .before .before .before .before .before .before .before .before .before .before .before .before .before .args .next-in .now) (c .before .before .before .before .before .before .before .before .before .before .before .before .before .before .before .args .places .now) (c .before .before .before .before .before .before .before .before .before .before .before .before .before .before .before .args .next-out .now) (c .before .before .before .before .before .before .before .before .before .before .before .before .before .before .before .args .kept .now) (c .before .before .before .before .before .before .before .before .before .before .before .before .before .before .before .args .area .now) (c .before .before .before .before .before .before .before .before .before .before .before .before .before .before .before .args .space .now) (c .before .before .before .before .before .before .before .before .before .before .before .before .before .before .before .args .s .now) (answerShutdownBy (c .before .before .before .before .before .before .before .before .before .before .before .before .before .before .before .args .head) (c .before .before .before .before .before .before .before .before .before .before .before .before .before .before .before .args .places .now) ((c .before .before .before .before .before .before .before .before .before .before .before .before .before .before .before .args .head) .state) (c .before .before .before .before .before .before .before .before .before .before .before .before .before .before .before .args .s .now)) (c .before .before .repeat-shutdown-ack .ensures))
 
 -- src/chunk.rt:29:1
 returns-19 : tie.Need-returns-19
-returns-19 c = rowed-by (c .before .before .before .before .before .before .before .before .before .before .args .head) (c .before .before .before .before .before .before .before .before .before .before .args .held .now) (c .before .before .before .before .before .before .before .before .before .before .args .next-in .now) (c .before .before .before .before .before .before .before .before .before .before .args .places .now) (c .before .before .before .before .before .before .before .before .before .before .args .next-out .now) (c .before .before .before .before .before .before .before .before .before .before .args .kept .now) (c .before .before .before .before .before .before .before .before .before .before .args .area .now) (c .before .before .before .before .before .before .before .before .before .before .args .space .now) (c .before .before .before .before .before .before .before .before .before .before .args .s .now) (c .before .before .before .before .before .before .before .before .before .before .args .b) (c .before .before .before .before .before .before .before .before .before .before .args .cookie .now) (c .before .before .before .before .kind-of .ensures) (c .before .before .before .row-for .ensures) (c .before .enum-told19 .given .1) (quiet-rowed (c .before .before .before .before .before .before .before .before .before .before .args .head) (c .before .before .before .before .before .before .before .before .before .before .args .held .now) (c .before .before .before .before .before .before .before .before .before .before .args .next-in .now) (c .before .before .before .before .before .before .before .before .before .before .args .places .now) (c .before .before .before .before .before .before .before .before .before .before .args .next-out .now) (c .before .before .before .before .before .before .before .before .before .before .args .kept .now) (c .before .before .before .before .before .before .before .before .before .before .args .area .now) (c .before .before .before .before .before .before .before .before .before .before .args .space .now) (c .before .before .before .before .before .before .before .before .before .before .args .s .now) (reflectComplete (bare (c .before .before .before .before .before .before .before .before .before .before .args .head))) refl (c .reflect-complete .ensures))
+returns-19 c = rowed-by (c .before .before .before .before .before .before .before .before .before .before .before .args .head) (c .before .before .before .before .before .before .before .before .before .before .before .args .held .now) (c .before .before .before .before .before .before .before .before .before .before .before .args .next-in .now) (c .before .before .before .before .before .before .before .before .before .before .before .args .places .now) (c .before .before .before .before .before .before .before .before .before .before .before .args .next-out .now) (c .before .before .before .before .before .before .before .before .before .before .before .args .kept .now) (c .before .before .before .before .before .before .before .before .before .before .before .args .area .now) (c .before .before .before .before .before .before .before .before .before .before .before .args .space .now) (c .before .before .before .before .before .before .before .before .before .before .before .args .s .now) (c .before .before .before .before .before .before .before .before .before .before .before .args .b) (c .before .before .before .before .before .before .before .before .before .before .before .args .cookie .now) (c .before .before .before .before .kind-of .ensures) (c .before .before .before .row-for .ensures) (c .before .enum-told19 .given .1) (quiet-rowed (c .before .before .before .before .before .before .before .before .before .before .before .args .head) (c .before .before .before .before .before .before .before .before .before .before .before .args .held .now) (c .before .before .before .before .before .before .before .before .before .before .before .args .next-in .now) (c .before .before .before .before .before .before .before .before .before .before .before .args .places .now) (c .before .before .before .before .before .before .before .before .before .before .before .args .next-out .now) (c .before .before .before .before .before .before .before .before .before .before .before .args .kept .now) (c .before .before .before .before .before .before .before .before .before .before .before .args .area .now) (c .before .before .before .before .before .before .before .before .before .before .before .args .space .now) (c .before .before .before .before .before .before .before .before .before .before .before .args .s .now) (reflectComplete (bare (c .before .before .before .before .before .before .before .before .before .before .before .args .head))) refl (c .reflect-complete .ensures))
 
 -- src/chunk.rt:29:1
 returns-20 : tie.Need-returns-20
-returns-20 c = rowed-by (c .before .before .before .before .before .before .before .before .before .before .args .head) (c .before .before .before .before .before .before .before .before .before .before .args .held .now) (c .before .before .before .before .before .before .before .before .before .before .args .next-in .now) (c .before .before .before .before .before .before .before .before .before .before .args .places .now) (c .before .before .before .before .before .before .before .before .before .before .args .next-out .now) (c .before .before .before .before .before .before .before .before .before .before .args .kept .now) (c .before .before .before .before .before .before .before .before .before .before .args .area .now) (c .before .before .before .before .before .before .before .before .before .before .args .space .now) (c .before .before .before .before .before .before .before .before .before .before .args .s .now) (c .before .before .before .before .before .before .before .before .before .before .args .b) (c .before .before .before .before .before .before .before .before .before .before .args .cookie .now) (c .before .before .before .before .kind-of .ensures) (c .before .before .before .row-for .ensures) (c .before .enum-told20 .given .1) (quiet-rowed (c .before .before .before .before .before .before .before .before .before .before .args .head) (c .before .before .before .before .before .before .before .before .before .before .args .held .now) (c .before .before .before .before .before .before .before .before .before .before .args .next-in .now) (c .before .before .before .before .before .before .before .before .before .before .args .places .now) (c .before .before .before .before .before .before .before .before .before .before .args .next-out .now) (c .before .before .before .before .before .before .before .before .before .before .args .kept .now) (c .before .before .before .before .before .before .before .before .before .before .args .area .now) (c .before .before .before .before .before .before .before .before .before .before .args .space .now) (c .before .before .before .before .before .before .before .before .before .before .args .s .now) (sendComplete (bare (c .before .before .before .before .before .before .before .before .before .before .args .head))) refl (c .send-complete .ensures))
+returns-20 c = rowed-by (c .before .before .before .before .before .before .before .before .before .before .before .args .head) (c .before .before .before .before .before .before .before .before .before .before .before .args .held .now) (c .before .before .before .before .before .before .before .before .before .before .before .args .next-in .now) (c .before .before .before .before .before .before .before .before .before .before .before .args .places .now) (c .before .before .before .before .before .before .before .before .before .before .before .args .next-out .now) (c .before .before .before .before .before .before .before .before .before .before .before .args .kept .now) (c .before .before .before .before .before .before .before .before .before .before .before .args .area .now) (c .before .before .before .before .before .before .before .before .before .before .before .args .space .now) (c .before .before .before .before .before .before .before .before .before .before .before .args .s .now) (c .before .before .before .before .before .before .before .before .before .before .before .args .b) (c .before .before .before .before .before .before .before .before .before .before .before .args .cookie .now) (c .before .before .before .before .kind-of .ensures) (c .before .before .before .row-for .ensures) (c .before .enum-told20 .given .1) (quiet-rowed (c .before .before .before .before .before .before .before .before .before .before .before .args .head) (c .before .before .before .before .before .before .before .before .before .before .before .args .held .now) (c .before .before .before .before .before .before .before .before .before .before .before .args .next-in .now) (c .before .before .before .before .before .before .before .before .before .before .before .args .places .now) (c .before .before .before .before .before .before .before .before .before .before .before .args .next-out .now) (c .before .before .before .before .before .before .before .before .before .before .before .args .kept .now) (c .before .before .before .before .before .before .before .before .before .before .before .args .area .now) (c .before .before .before .before .before .before .before .before .before .before .before .args .space .now) (c .before .before .before .before .before .before .before .before .before .before .before .args .s .now) (sendComplete (bare (c .before .before .before .before .before .before .before .before .before .before .before .args .head))) refl (c .send-complete .ensures))
 
 -- src/chunk.rt:29:1
 returns-21 : tie.Need-returns-21
-returns-21 c = rowed-by (c .before .before .before .before .before .before .before .before .before .before .args .head) (c .before .before .before .before .before .before .before .before .before .before .args .held .now) (c .before .before .before .before .before .before .before .before .before .before .args .next-in .now) (c .before .before .before .before .before .before .before .before .before .before .args .places .now) (c .before .before .before .before .before .before .before .before .before .before .args .next-out .now) (c .before .before .before .before .before .before .before .before .before .before .args .kept .now) (c .before .before .before .before .before .before .before .before .before .before .args .area .now) (c .before .before .before .before .before .before .before .before .before .before .args .space .now) (c .before .before .before .before .before .before .before .before .before .before .args .s .now) (c .before .before .before .before .before .before .before .before .before .before .args .b) (c .before .before .before .before .before .before .before .before .before .before .args .cookie .now) (c .before .before .before .before .kind-of .ensures) (c .before .before .before .row-for .ensures) (c .before .enum-told21 .given .1) (quiet-rowed (c .before .before .before .before .before .before .before .before .before .before .args .head) (c .before .before .before .before .before .before .before .before .before .before .args .held .now) (c .before .before .before .before .before .before .before .before .before .before .args .next-in .now) (c .before .before .before .before .before .before .before .before .before .before .args .places .now) (c .before .before .before .before .before .before .before .before .before .before .args .next-out .now) (c .before .before .before .before .before .before .before .before .before .before .args .kept .now) (c .before .before .before .before .before .before .before .before .before .before .args .area .now) (c .before .before .before .before .before .before .before .before .before .before .args .space .now) (c .before .before .before .before .before .before .before .before .before .before .args .s .now) (becomeComplete (bare (c .before .before .before .before .before .before .before .before .before .before .args .head))) refl (c .become-complete .ensures))
+returns-21 c = rowed-by (c .before .before .before .before .before .before .before .before .before .before .before .args .head) (c .before .before .before .before .before .before .before .before .before .before .before .args .held .now) (c .before .before .before .before .before .before .before .before .before .before .before .args .next-in .now) (c .before .before .before .before .before .before .before .before .before .before .before .args .places .now) (c .before .before .before .before .before .before .before .before .before .before .before .args .next-out .now) (c .before .before .before .before .before .before .before .before .before .before .before .args .kept .now) (c .before .before .before .before .before .before .before .before .before .before .before .args .area .now) (c .before .before .before .before .before .before .before .before .before .before .before .args .space .now) (c .before .before .before .before .before .before .before .before .before .before .before .args .s .now) (c .before .before .before .before .before .before .before .before .before .before .before .args .b) (c .before .before .before .before .before .before .before .before .before .before .before .args .cookie .now) (c .before .before .before .before .kind-of .ensures) (c .before .before .before .row-for .ensures) (c .before .enum-told21 .given .1) (quiet-rowed (c .before .before .before .before .before .before .before .before .before .before .before .args .head) (c .before .before .before .before .before .before .before .before .before .before .before .args .held .now) (c .before .before .before .before .before .before .before .before .before .before .before .args .next-in .now) (c .before .before .before .before .before .before .before .before .before .before .before .args .places .now) (c .before .before .before .before .before .before .before .before .before .before .before .args .next-out .now) (c .before .before .before .before .before .before .before .before .before .before .before .args .kept .now) (c .before .before .before .before .before .before .before .before .before .before .before .args .area .now) (c .before .before .before .before .before .before .before .before .before .before .before .args .space .now) (c .before .before .before .before .before .before .before .before .before .before .before .args .s .now) (becomeComplete (bare (c .before .before .before .before .before .before .before .before .before .before .before .args .head))) refl (c .become-complete .ensures))
 
 -- src/chunk.rt:29:1
 returns-22 : tie.Need-returns-22
-returns-22 c = pass-rowed (c .before .before .before .before .before .before .before .before .before .before .before .args .head) (c .before .before .before .before .before .before .before .before .before .before .before .args .held .now) (c .before .before .before .before .before .before .before .before .before .before .before .args .next-in .now) (c .before .before .before .before .before .before .before .before .before .before .before .args .places .now) (c .before .before .before .before .before .before .before .before .before .before .before .args .next-out .now) (c .before .before .before .before .before .before .before .before .before .before .before .args .kept .now) (c .before .before .before .before .before .before .before .before .before .before .before .args .area .now) (c .before .before .before .before .before .before .before .before .before .before .before .args .space .now) (c .before .before .before .before .before .before .before .before .before .before .before .args .s .now) (c .before .before .before .before .before .before .before .before .before .before .before .args .b) (c .before .before .before .before .before .before .before .before .before .before .before .args .cookie .now) (c .before .before .before .before .before .kind-of .ensures) (c .before .before .before .before .row-for .ensures) (c .before .before .h .given .1) (c .pass-unknown .ensures)
+returns-22 c = pass-rowed (c .before .before .before .before .before .before .before .before .before .before .before .before .args .head) (c .before .before .before .before .before .before .before .before .before .before .before .before .args .held .now) (c .before .before .before .before .before .before .before .before .before .before .before .before .args .next-in .now) (c .before .before .before .before .before .before .before .before .before .before .before .before .args .places .now) (c .before .before .before .before .before .before .before .before .before .before .before .before .args .next-out .now) (c .before .before .before .before .before .before .before .before .before .before .before .before .args .kept .now) (c .before .before .before .before .before .before .before .before .before .before .before .before .args .area .now) (c .before .before .before .before .before .before .before .before .before .before .before .before .args .space .now) (c .before .before .before .before .before .before .before .before .before .before .before .before .args .s .now) (c .before .before .before .before .before .before .before .before .before .before .before .before .args .b) (c .before .before .before .before .before .before .before .before .before .before .before .before .args .cookie .now) (c .before .before .before .before .before .kind-of .ensures) (c .before .before .before .before .row-for .ensures) (c .before .before .h .given .1) (c .pass-unknown .ensures)
 
 -- src/chunk.rt:29:1
 same-length-11 : tie.Need-same-length-11
@@ -374,7 +374,7 @@ same-length-11 c = search needs
 
 -- src/chunk.rt:29:1
 returns-23 : tie.Need-returns-23
-returns-23 c = tell-rowed (c .before .before .before .before .before .before .before .before .before .before .before .before .before .before .args .head) (c .before .before .before .before .before .before .before .before .before .before .before .before .before .before .args .held .now) (c .before .before .before .before .before .before .before .before .before .before .before .before .before .before .args .next-in .now) (c .before .before .before .before .before .before .before .before .before .before .before .before .before .before .args .places .now) (c .before .before .before .before .before .before .before .before .before .before .before .before .before .before .args .next-out .now) (c .before .before .before .before .before .before .before .before .before .before .before .before .before .before .args .kept .now) (c .before .before .before .before .before .before .before .before .before .before .before .before .before .before .args .area .now) (c .before .before .before .before .before .before .before .before .before .before .before .before .before .before .args .space .now) (c .before .before .before .before .before .before .before .before .before .before .before .before .before .before .args .s .now) (c .before .before .before .before .before .before .before .before .before .before .before .before .before .before .args .b) (c .before .before .before .before .before .before .before .before .before .before .before .before .before .before .args .cookie .now) (c .before .before .before .before .before .before .before .before .kind-of .ensures) (c .before .before .before .before .before .before .before .row-for .ensures) (c .before .before .before .before .before .h2 .given .1) (c .before .before .tell-unknown .ensures)
+returns-23 c = tell-rowed (c .before .before .before .before .before .before .before .before .before .before .before .before .before .before .before .args .head) (c .before .before .before .before .before .before .before .before .before .before .before .before .before .before .before .args .held .now) (c .before .before .before .before .before .before .before .before .before .before .before .before .before .before .before .args .next-in .now) (c .before .before .before .before .before .before .before .before .before .before .before .before .before .before .before .args .places .now) (c .before .before .before .before .before .before .before .before .before .before .before .before .before .before .before .args .next-out .now) (c .before .before .before .before .before .before .before .before .before .before .before .before .before .before .before .args .kept .now) (c .before .before .before .before .before .before .before .before .before .before .before .before .before .before .before .args .area .now) (c .before .before .before .before .before .before .before .before .before .before .before .before .before .before .before .args .space .now) (c .before .before .before .before .before .before .before .before .before .before .before .before .before .before .before .args .s .now) (c .before .before .before .before .before .before .before .before .before .before .before .before .before .before .before .args .b) (c .before .before .before .before .before .before .before .before .before .before .before .before .before .before .before .args .cookie .now) (c .before .before .before .before .before .before .before .before .kind-of .ensures) (c .before .before .before .before .before .before .before .row-for .ensures) (c .before .before .before .before .before .h2 .given .1) (c .before .before .tell-unknown .ensures)
 
 pub step-spec : {M : Type 1} → statement M
 step-spec =

@@ -15,7 +15,7 @@ use Rattle.chunks.proofs.init.read_init.Reads as read-init-reads
 use Rattle.parameters.proofs.parameter.has_host_name.Reads as has-host-name-reads
 use Rattle.parameters.proofs.parameter.host_name.Reads as host-name-reads
 use Rattle.parameters.proofs.report.write_init_ack.Reads as write-init-ack-reads
-use Rattle.rows.proofs.stepped.Stepped.accepted.Reads as accepted-reads
+use Rattle.rows.proofs.stepped.Stepped.answering.Reads as answering-reads
 use Rattle.rows.proofs.stepped.Stepped.refused.Reads as refused-reads
 use Rattle.steps.proofs.opening.ack_of.Reads as ack-of-reads
 use Rattle.steps.proofs.opening.is_poor.Reads as is-poor-reads
@@ -80,8 +80,8 @@ write-abort-address-requires : tie.Need-write-abort-address-requires
 write-abort-address-requires c κs = search needs
 
 -- src/opening.rt:42:9
-accepted-requires : tie.Need-accepted-requires
-accepted-requires c κs = search needs
+answering-requires : tie.Need-answering-requires
+answering-requires c κs = search needs
 
 -- src/opening.rt:42:9
 same-length : tie.Need-same-length
@@ -90,7 +90,7 @@ same-length c = search needs
 -- src/opening.rt:42:9
 returns-3 : tie.Need-returns-3
 unfolding answerInit
-returns-3 c = (rw (← c .before .before .before .before .before .before .before .before .before .before .before .before .before .before .is-poor-lent .ensures, c .before .before .before .before .before .before .before .before .before .before .before .before .before .if1 .left, ← c .before .before .before .before .before .before .before .before .before .before .before .before .read-init .ensures, ← c .before .before .before .before .before .before .before .before .before .before .before .is-poor .ensures, c .before .before .before .before .before .before .before .before .before .before .if2 .left, ← c .before .before .before .before .before .before .before .before .before .has-host-name .ensures, c .before .before .before .before .before .before .before .before .if3 .taken, ← c .before .before .before .before .before .before .before .host-name .ensures .0, ← part-bytes (c .before .before .before .before .before .before .before .host-name .result) (c .before .before .before .before .before .before .before .before .before .before .before .before .before .before .before .before .before .before .args .s .now), ← c .before .before .before .write-abort-address .ensures .count) (c .accepted .ensures), rw (← c .before .before .before .before .before .before .before .before .before .before .before .before .before .before .is-poor-lent .ensures, c .before .before .before .before .before .before .before .before .before .before .before .before .before .if1 .left, ← c .before .before .before .before .before .before .before .before .before .before .before .before .read-init .ensures, ← c .before .before .before .before .before .before .before .before .before .before .before .is-poor .ensures, c .before .before .before .before .before .before .before .before .before .before .if2 .left, ← c .before .before .before .before .before .before .before .before .before .has-host-name .ensures, c .before .before .before .before .before .before .before .before .if3 .taken, ← c .before .before .before .before .before .before .before .host-name .ensures .0, ← part-bytes (c .before .before .before .before .before .before .before .host-name .result) (c .before .before .before .before .before .before .before .before .before .before .before .before .before .before .before .before .before .before .args .s .now)) (c .before .before .before .write-abort-address .ensures .bytes))
+returns-3 c = (rw (← c .before .before .before .before .before .before .before .before .before .before .before .before .before .before .is-poor-lent .ensures, c .before .before .before .before .before .before .before .before .before .before .before .before .before .if1 .left, ← c .before .before .before .before .before .before .before .before .before .before .before .before .read-init .ensures, ← c .before .before .before .before .before .before .before .before .before .before .before .is-poor .ensures, c .before .before .before .before .before .before .before .before .before .before .if2 .left, ← c .before .before .before .before .before .before .before .before .before .has-host-name .ensures, c .before .before .before .before .before .before .before .before .if3 .taken, ← c .before .before .before .before .before .before .before .host-name .ensures .0, ← part-bytes (c .before .before .before .before .before .before .before .host-name .result) (c .before .before .before .before .before .before .before .before .before .before .before .before .before .before .before .before .before .before .args .s .now), ← c .before .before .before .write-abort-address .ensures .count) (c .answering .ensures), rw (← c .before .before .before .before .before .before .before .before .before .before .before .before .before .before .is-poor-lent .ensures, c .before .before .before .before .before .before .before .before .before .before .before .before .before .if1 .left, ← c .before .before .before .before .before .before .before .before .before .before .before .before .read-init .ensures, ← c .before .before .before .before .before .before .before .before .before .before .before .is-poor .ensures, c .before .before .before .before .before .before .before .before .before .before .if2 .left, ← c .before .before .before .before .before .before .before .before .before .has-host-name .ensures, c .before .before .before .before .before .before .before .before .if3 .taken, ← c .before .before .before .before .before .before .before .host-name .ensures .0, ← part-bytes (c .before .before .before .before .before .before .before .host-name .result) (c .before .before .before .before .before .before .before .before .before .before .before .before .before .before .before .before .before .before .args .s .now)) (c .before .before .before .write-abort-address .ensures .bytes))
 
 -- src/opening.rt:44:9
 ack-of-requires : tie.Need-ack-of-requires
@@ -101,8 +101,8 @@ write-init-ack-requires : tie.Need-write-init-ack-requires
 write-init-ack-requires c κs = search needs
 
 -- src/opening.rt:46:5
-accepted-requires-2 : tie.Need-accepted-requires-2
-accepted-requires-2 c κs = search needs
+answering-requires-2 : tie.Need-answering-requires-2
+answering-requires-2 c κs = search needs
 
 -- src/opening.rt:27:1
 same-length-2 : tie.Need-same-length-2
@@ -111,7 +111,7 @@ same-length-2 c = search needs
 -- src/opening.rt:27:1
 returns-4 : tie.Need-returns-4
 unfolding answerInit
-returns-4 c = (rw (← c .before .before .before .before .before .before .before .before .before .before .before .before .is-poor-lent .ensures, c .before .before .before .before .before .before .before .before .before .before .before .if1 .left, ← c .before .before .before .before .before .before .before .before .before .before .read-init .ensures, ← c .before .before .before .before .before .before .before .before .before .is-poor .ensures, c .before .before .before .before .before .before .before .before .if2 .left, ← c .before .before .before .before .before .before .before .has-host-name .ensures, c .before .before .before .before .before .before .if3 .left, ← c .before .before .before .before .before .ack-of .ensures, ← c .before .before .before .write-init-ack .ensures .count) (c .accepted2 .ensures), rw (← c .before .before .before .before .before .before .before .before .before .before .before .before .is-poor-lent .ensures, c .before .before .before .before .before .before .before .before .before .before .before .if1 .left, ← c .before .before .before .before .before .before .before .before .before .before .read-init .ensures, ← c .before .before .before .before .before .before .before .before .before .is-poor .ensures, c .before .before .before .before .before .before .before .before .if2 .left, ← c .before .before .before .before .before .before .before .has-host-name .ensures, c .before .before .before .before .before .before .if3 .left, ← c .before .before .before .before .before .ack-of .ensures) (c .before .before .before .write-init-ack .ensures .bytes))
+returns-4 c = (rw (← c .before .before .before .before .before .before .before .before .before .before .before .before .is-poor-lent .ensures, c .before .before .before .before .before .before .before .before .before .before .before .if1 .left, ← c .before .before .before .before .before .before .before .before .before .before .read-init .ensures, ← c .before .before .before .before .before .before .before .before .before .is-poor .ensures, c .before .before .before .before .before .before .before .before .if2 .left, ← c .before .before .before .before .before .before .before .has-host-name .ensures, c .before .before .before .before .before .before .if3 .left, ← c .before .before .before .before .before .ack-of .ensures, ← c .before .before .before .write-init-ack .ensures .count) (c .answering2 .ensures), rw (← c .before .before .before .before .before .before .before .before .before .before .before .before .is-poor-lent .ensures, c .before .before .before .before .before .before .before .before .before .before .before .if1 .left, ← c .before .before .before .before .before .before .before .before .before .before .read-init .ensures, ← c .before .before .before .before .before .before .before .before .before .is-poor .ensures, c .before .before .before .before .before .before .before .before .if2 .left, ← c .before .before .before .before .before .before .before .has-host-name .ensures, c .before .before .before .before .before .before .if3 .left, ← c .before .before .before .before .before .ack-of .ensures) (c .before .before .before .write-init-ack .ensures .bytes))
 
 pub answer-init-spec : {M : Type 1} → statement M
 answer-init-spec =
@@ -131,11 +131,11 @@ answer-init-spec =
     part-write-abort-address-start
     part-write-abort-address-end
     write-abort-address-requires
-    accepted-requires
+    answering-requires
     same-length
     returns-3
     ack-of-requires
     write-init-ack-requires
-    accepted-requires-2
+    answering-requires-2
     same-length-2
     returns-4)

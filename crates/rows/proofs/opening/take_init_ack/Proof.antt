@@ -7,7 +7,7 @@ use Rattle.steps.specs.VerdictLaws.{part-bytes, cookie-short}
 use Rattle.steps.specs.Opening.{takeInitAck}
 use Rattle.flat.specs.Shown.{bare}
 use Rattle.rows.specs.Rows.{isTaken}
-use Rattle.rows.specs.RowsLaws.{accepted-told, quiet-told}
+use Rattle.rows.specs.RowsLaws.{answered-told, quiet-told}
 use borrow.Author.Needs.{needs}
 use Rattle.rows.proofs.opening.take_init_ack.Statement.{statement}
 use Rattle.rows.proofs.opening.take_init_ack.Tie as tie
@@ -20,7 +20,7 @@ use Rattle.parameters.proofs.parameter.cookie.Reads as cookie-reads
 use Rattle.parameters.proofs.parameter.has_host_name.Reads as has-host-name-reads
 use Rattle.parameters.proofs.parameter.host_name.Reads as host-name-reads
 use Rattle.rows.proofs.opening.echo_back.Reads as echo-back-reads
-use Rattle.rows.proofs.stepped.Stepped.accepted.Reads as accepted-reads
+use Rattle.rows.proofs.stepped.Stepped.answering.Reads as answering-reads
 use Rattle.rows.proofs.stepped.Stepped.refused.Reads as refused-reads
 use Rattle.steps.proofs.opening.is_odd.Reads as is-odd-reads
 use Rattle.steps.proofs.opening.is_poor.Reads as is-poor-reads
@@ -92,8 +92,8 @@ moved-requires : tie.Need-moved-requires
 moved-requires c κs = search needs
 
 -- src/opening.rt:134:9
-accepted-requires : tie.Need-accepted-requires
-accepted-requires c κs = search needs
+answering-requires : tie.Need-answering-requires
+answering-requires c κs = search needs
 
 -- src/opening.rt:134:9
 same-length : tie.Need-same-length
@@ -102,7 +102,7 @@ same-length c = search needs
 -- src/opening.rt:134:9
 returns-3 : tie.Need-returns-3
 unfolding takeInitAck isTaken
-returns-3 c = rw (← c .before .before .before .before .before .before .before .before .before .before .before .before .before .before .before .before .read-init .ensures, ← c .before .before .before .before .before .before .before .before .before .before .before .before .before .before .before .is-poor .ensures, c .before .before .before .before .before .before .before .before .before .before .before .before .before .before .if1 .left, ← c .before .before .before .before .before .before .before .before .before .before .before .before .before .cookie .ensures .0, ← c .before .before .before .before .before .before .before .before .before .before .before .before .is-odd .ensures, c .before .before .before .before .before .before .before .before .before .before .before .if2 .left, ← c .before .before .before .before .before .before .before .before .before .before .has-host-name .ensures, c .before .before .before .before .before .before .before .before .before .if3 .taken, ← c .before .before .before .before .before .before .before .before .host-name .ensures .0, ← part-bytes (c .before .before .before .before .before .before .before .before .host-name .result) (c .before .before .before .before .before .before .before .before .before .before .before .before .before .before .before .before .before .before .before .args .s .now)) (let t = accepted-told (withState (bare (c .before .before .before .before .before .before .before .before .before .before .before .before .before .before .before .before .before .before .before .args .head)) Closed) (c .before .before .before .before .write-abort-address .ensures) (c .before .moved .ensures) (c .accepted .ensures) in (t .0, refl, refl, refl, t .1))
+returns-3 c = rw (← c .before .before .before .before .before .before .before .before .before .before .before .before .before .before .before .before .read-init .ensures, ← c .before .before .before .before .before .before .before .before .before .before .before .before .before .before .before .is-poor .ensures, c .before .before .before .before .before .before .before .before .before .before .before .before .before .before .if1 .left, ← c .before .before .before .before .before .before .before .before .before .before .before .before .before .cookie .ensures .0, ← c .before .before .before .before .before .before .before .before .before .before .before .before .is-odd .ensures, c .before .before .before .before .before .before .before .before .before .before .before .if2 .left, ← c .before .before .before .before .before .before .before .before .before .before .has-host-name .ensures, c .before .before .before .before .before .before .before .before .before .if3 .taken, ← c .before .before .before .before .before .before .before .before .host-name .ensures .0, ← part-bytes (c .before .before .before .before .before .before .before .before .host-name .result) (c .before .before .before .before .before .before .before .before .before .before .before .before .before .before .before .before .before .before .before .args .s .now)) (let t = answered-told (withState (bare (c .before .before .before .before .before .before .before .before .before .before .before .before .before .before .before .before .before .before .before .args .head)) Closed) (c .before .before .before .before .write-abort-address .ensures) (c .before .moved .ensures) (c .answering .ensures) in (t .0, refl, refl, refl, t .1))
 
 -- src/opening.rt:137:14
 add-to-2 : tie.Need-add-to-2
@@ -154,7 +154,7 @@ take-init-ack-spec =
     part-write-abort-address-end
     write-abort-address-requires
     moved-requires
-    accepted-requires
+    answering-requires
     same-length
     returns-3
     add-to-2
