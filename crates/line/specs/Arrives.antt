@@ -26,7 +26,7 @@ use Rattle.numbers.specs.Numbering.{line, on}
 use Rattle.numbers.specs.Profile.{Profile}
 use Rattle.numbers.specs.Come.{run, shift}
 use Rattle.numbers.specs.ComeLaws.{run-at, shift-at, length-shift}
-use Rattle.numbers.specs.Keeping.{offsetOf, isCome, settled, marked, listed}
+use Rattle.numbers.specs.Keeping.{offsetOf, isCome, withCome, settled, marked, listed}
 use Rattle.numbers.specs.KeepingLaws.{OffsetSays, judged-offset, listed-point}
 use Rattle.holding.specs.declared.held.Chunk.{Chunk}
 use Rattle.holding.specs.declared.held.Held.{Held}
@@ -209,7 +209,7 @@ never-last false false false false false false true v l m q = omega (arith, ap n
 never-last false false false false false false false v l m q = omega (arith, ap numberOf q)
 
 marked-is : (P : Profile) (k : Keeping) (t : ℕ) → 1 ≤ offsetOf line k t → offsetOf line k t ≤ P .places
-    → marked line P k t ≡ settled line k (set (k .come) (offsetOf line k t - 1) true)
+    → marked line P k t ≡ settled line (withCome k (set (k .come) (offsetOf line k t - 1) true))
 unfolding marked
 marked-is P k t a b = rw (le-ltb (offsetOf line k t) 1 a, le-ltb (P .places) (offsetOf line k t) b)
 
@@ -251,7 +251,7 @@ module _ {P : Profile} {base streams : ℕ} {chunk : ℕ → Chunk} {size : ℕ 
       come : List Bool
       come = set (r .keeping .come) (offsetOf line (r .keeping) t - 1) true
 
-      go : marked line P (r .keeping) t ≡ settled line (r .keeping) come → pt < n → getD (r .keeping .come) (n - suc pt) false ≡ false → n - pt ≤ P .places - below (r .held) (suc pt)
+      go : marked line P (r .keeping) t ≡ settled line (withCome (r .keeping) come) → pt < n → getD (r .keeping .come) (n - suc pt) false ≡ false → n - pt ≤ P .places - below (r .held) (suc pt)
           → (f : Found) → findFrom isFree 0 (r .held) ≡ f
           → SoundOf P base chunk size (keptIn line P r c f) gone least × (copies (keptIn line P r c f .held) n ≡ 1)
       go m lp fl fits Nothing e = absurd (has-place send s n lb lp fl fits e)
