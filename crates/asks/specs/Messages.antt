@@ -1,12 +1,12 @@
 -- Messages over head and words: exact for any words.
-use Prim.Native.Nat.{ℕ, _^_}
+use Prim.Native.Nat.{ℕ}
 use mathlib.Core.Bool.{Bool}
 use mathlib.Core.List.{List}
 use lib.Dec.{eqb}
 use lib.ListN.{length}
 use Rattle.scans.specs.Scan.{pick}
 use Rattle.numbers.specs.declared.circle.StreamId.{StreamId}
-use Rattle.numbers.specs.Numbering.{ring}
+use Rattle.numbers.specs.Numbering.{circles}
 use Rattle.numbers.specs.Profile.{rail}
 use Rattle.holding.specs.Taking.{took, written}
 use Rattle.tables.specs.Held.{heldOf}
@@ -59,10 +59,10 @@ given d = record { number = d .number; message = d .message }
 -- 17, and 18 for the output
 abbrev pub deliveredBy : Head → List ℕ → List ℕ → List ℕ → List ℕ → Delivery
 deliveredBy h held next area out = record {
-  answer = given (deliveredAs (took (ring (2 ^ 32)) (ring (2 ^ 16)) rail (heldOf rail held) (ssnsOf rail next) (h .keeping .point .0) (length out) .answer) (bare h));
-  held = wordsTaken (ring (2 ^ 32)) rail held next (h .keeping .point .0) (length out);
-  next = ssnsTaken (ring (2 ^ 32)) (ring (2 ^ 16)) rail held next (h .keeping .point .0) (length out);
-  out = written (ring (2 ^ 32)) rail (heldOf rail held) (ssnsOf rail next) (h .keeping .point .0) area out;
+  answer = given (deliveredAs (took circles rail (heldOf rail held) (ssnsOf rail next) (h .keeping .point .0) (length out) .answer) (bare h));
+  held = wordsTaken circles rail held next (h .keeping .point .0) (length out);
+  next = ssnsTaken circles rail held next (h .keeping .point .0) (length out);
+  out = written circles rail (heldOf rail held) (ssnsOf rail next) (h .keeping .point .0) area out;
 }
 
 abbrev pub notDelivered : ℕ → Head → List ℕ → List ℕ → List ℕ → Delivery

@@ -1,5 +1,5 @@
 -- What handing in and taking over head and words have to show, and that they are what `calls` says of the record shown. Assumes nothing.
-use Prim.Native.Nat.{ℕ, _^_, _<_, _≤_}
+use Prim.Native.Nat.{ℕ, _<_, _≤_}
 use mathlib.Core.Path.{_≡_, refl, ap, _∙_}
 use mathlib.Core.Bool.{Bool, true, false}
 use mathlib.Core.List.{List}
@@ -10,7 +10,7 @@ use lib.ListN.{length}
 use Rattle.scans.specs.Scan.{pick}
 use Rattle.scans.specs.Upto.{pick-keeps}
 use Rattle.numbers.specs.declared.circle.StreamId.{StreamId}
-use Rattle.numbers.specs.Numbering.{ring}
+use Rattle.numbers.specs.Numbering.{circles}
 use Rattle.numbers.specs.Profile.{rail}
 use Rattle.holding.specs.declared.taking.Answer as took
 use Rattle.holding.specs.declared.taking.Answer.the-variants.{Taken, Nothing, Short}
@@ -110,10 +110,10 @@ module _ (a : Association) (area : List ℕ) {y : Bool} (e : y ≡ isSound a) wh
 
 module _ (h : Head) (held next area out : List ℕ) {b : ℕ} {r : Delivered} where
   pub delivery-by : {x : took.Answer} {hs ns os : List ℕ} → b ≡ 0
-      → x ≡ tookFrom (ring (2 ^ 32)) (ring (2 ^ 16)) rail (heldOf rail held) (ssnsOf rail next) (h .keeping .point .0) (length out) .answer
-      → hs ≡ wordsTaken (ring (2 ^ 32)) rail held next (h .keeping .point .0) (length out)
-      → ns ≡ ssnsTaken (ring (2 ^ 32)) (ring (2 ^ 16)) rail held next (h .keeping .point .0) (length out)
-      → os ≡ written (ring (2 ^ 32)) rail (heldOf rail held) (ssnsOf rail next) (h .keeping .point .0) area out
+      → x ≡ tookFrom circles rail (heldOf rail held) (ssnsOf rail next) (h .keeping .point .0) (length out) .answer
+      → hs ≡ wordsTaken circles rail held next (h .keeping .point .0) (length out)
+      → ns ≡ ssnsTaken circles rail held next (h .keeping .point .0) (length out)
+      → os ≡ written circles rail (heldOf rail held) (ssnsOf rail next) (h .keeping .point .0) area out
       → r ≡ given (deliveredAs x (bare h))
       → _≡_ {A = Delivery} (record { answer = r; held = hs; next = ns; out = os }) (deliveredFrom b h held next area out)
   unfolding deliveredFrom
@@ -150,10 +150,10 @@ module _ (h : Head) (held next places ms cs area out : List ℕ) where
           _≡_ {A = whole.Delivered} (record { number = x .answer .number; message = x .answer .message; association = shown h (x .held) (x .next) places ms cs })
           (pick t (deliveredAs (call.taking (shown h held next places ms cs) (length out) .answer) (withReceiving (shown h held next places ms cs) (call.taking (shown h held next places ms cs) (length out) .receiving))) (undelivered (shown h held next places ms cs) barring 0)))
       go true =
-          given-beside (tookFrom (ring (2 ^ 32)) (ring (2 ^ 16)) rail (heldOf rail held) (ssnsOf rail next) (h .keeping .point .0) (length out) .answer) (bare h)
+          given-beside (tookFrom circles rail (heldOf rail held) (ssnsOf rail next) (h .keeping .point .0) (length out) .answer) (bare h)
           (shown h (deliveredBy h held next area out .held) (deliveredBy h held next area out .next) places ms cs)
           ∙ ap (λ (x : receiver.Taken). deliveredAs (x .answer) (withReceiving (shown h held next places ms cs) (x .receiving)))
-          (words-taken (ring (2 ^ 32)) rail (h .keeping) held next (length out) (omega (arith, l)) (omega (arith, m)))
+          (words-taken rail (h .keeping) held next (length out) (omega (arith, l)) (omega (arith, m)))
       go false = refl
 
   pub out-delivered : delivery .out ≡ deliveredOut (shown h held next places ms cs) area out
@@ -161,7 +161,7 @@ module _ (h : Head) (held next places ms cs area out : List ℕ) where
   out-delivered = go (eqb barring 0)
     where
       go : (t : Bool) → pick t (deliveredBy h held next area out) (notDelivered barring h held next out) .out
-          ≡ pick t (written (ring (2 ^ 32)) rail (heldOf rail held) (ssnsOf rail next) (h .keeping .point .0) area out) out
+          ≡ pick t (written circles rail (heldOf rail held) (ssnsOf rail next) (h .keeping .point .0) area out) out
       go true = refl
       go false = refl
 
@@ -171,5 +171,5 @@ pub delivery-long : (n : ℕ) (h : Head) (held next area out : List ℕ)
 unfolding deliveredFrom
 delivery-long n h held next area out =
     pick-keeps (λ (x : Delivery). (length (x .held) ≡ length held) × (length (x .next) ≡ length next)) (eqb n 0) (deliveredBy h held next area out) (notDelivered n h held next out)
-    (words-long (ring (2 ^ 32)) rail held next (h .keeping .point .0) (length out), ssns-long (ring (2 ^ 32)) rail held next (h .keeping .point .0) (length out) (ring (2 ^ 16)))
+    (words-long circles rail held next (h .keeping .point .0) (length out), ssns-long circles rail held next (h .keeping .point .0) (length out))
     (refl, refl)

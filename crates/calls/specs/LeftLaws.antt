@@ -1,5 +1,5 @@
 -- Every refusal returns the record, areas and output as they came. Assumes nothing.
-use Prim.Native.Nat.{ℕ, _^_, _<_}
+use Prim.Native.Nat.{ℕ, _<_}
 use mathlib.Core.Path.{_≡_, refl, ap, _∙_}
 use mathlib.Core.Bool.{Bool, true, false}
 use mathlib.Core.List.{List}
@@ -10,7 +10,7 @@ use Rattle.scans.specs.Scan.{pick}
 use Rattle.scans.specs.Upto.{pick-keeps}
 use Rattle.numbers.specs.declared.circle.StreamId.{StreamId}
 use Rattle.numbers.specs.declared.circle.Tsn.{Tsn}
-use Rattle.numbers.specs.Numbering.{ring}
+use Rattle.numbers.specs.Numbering.{circles}
 use Rattle.numbers.specs.Profile.{rail}
 use Rattle.path.specs.Sizes.{railSizes}
 use Rattle.holding.specs.declared.taking.Answer as took
@@ -137,7 +137,7 @@ module _ (a : Association) where
   take-left area out =
       let g = given (taking a (length out) .answer) (withReceiving a (taking a (length out) .receiving)) in
       either-left (λ (x : Delivered). x .number) (λ x. x .association) (eqb (takeBar a area) 0) _ _ _ out
-      (λ h. let l = taken-refused (ring (2 ^ 32)) (ring (2 ^ 16)) rail (a .receiving) area out (omega (arith, h, g .1)) in (g .0 ∙ ap (λ (r : Receiving). withReceiving a r) (l .0), l .1))
+      (λ h. let l = taken-refused circles rail (a .receiving) area out (omega (arith, h, g .1)) in (g .0 ∙ ap (λ (r : Receiving). withReceiving a r) (l .0), l .1))
       refl
 
   pub sack-left : (out : List ℕ) → 0 < acknowledged a out .number → (acknowledged a out .association ≡ a) × (acknowledgedOut a out ≡ out)

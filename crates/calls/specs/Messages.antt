@@ -1,5 +1,5 @@
 -- Messages: "handed in in ESTABLISHED, … taken in any state".
-use Prim.Native.Nat.{ℕ, _^_}
+use Prim.Native.Nat.{ℕ}
 use mathlib.Core.Bool.{Bool, false}
 use mathlib.Core.List.{List}
 use lib.Dec.{eqb}
@@ -7,7 +7,7 @@ use lib.ListN.{length}
 use Rattle.scans.specs.Scan.{pick}
 use Rattle.numbers.specs.declared.circle.StreamId.{StreamId}
 use Rattle.numbers.specs.Circle.{ssn0}
-use Rattle.numbers.specs.Numbering.{ring}
+use Rattle.numbers.specs.Numbering.{circles}
 use Rattle.numbers.specs.Profile.{rail}
 use Rattle.holding.specs.declared.taking.Message.{Message}
 use Rattle.holding.specs.declared.taking.Answer as took
@@ -67,7 +67,7 @@ deliveredAs (Short n) a = undelivered a 18 n
 
 -- a take from the receiving side into `room` bytes
 abbrev pub taking : Association → ℕ → receiver.Taken
-taking a room = taken (ring (2 ^ 32)) (ring (2 ^ 16)) rail (a .receiving) room
+taking a room = taken circles rail (a .receiving) room
 
 -- 1, 18 for the area
 abbrev pub takeBar : Association → List ℕ → ℕ
@@ -84,5 +84,5 @@ delivered a area room =
 unfoldable pub deliveredOut : Association → List ℕ → List ℕ → List ℕ
 deliveredOut a area out =
     pick (eqb (takeBar a area) 0)
-    (written (ring (2 ^ 32)) rail (a .receiving .held) (a .receiving .next) (a .receiving .keeping .point .0) area out)
+    (written circles rail (a .receiving .held) (a .receiving .next) (a .receiving .keeping .point .0) area out)
     out

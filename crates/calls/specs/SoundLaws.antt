@@ -10,7 +10,7 @@ use Rattle.scans.specs.Scan.{pick}
 use Rattle.scans.specs.Upto.{smaller-right, pick-keeps}
 use Rattle.numbers.specs.declared.circle.StreamId.{StreamId}
 use Rattle.numbers.specs.declared.circle.Tsn.{Tsn}
-use Rattle.numbers.specs.Numbering.{ring}
+use Rattle.numbers.specs.Numbering.{ring, circles}
 use Rattle.numbers.specs.Profile.{rail}
 use Rattle.path.specs.Sizes.{railSizes}
 use Rattle.path.specs.Laws.{rail-fair}
@@ -158,7 +158,7 @@ module _ (a : Association) (k : Kept a) where
   unfolding delivered
   take-keeps area room =
       let r = kept-receiver a k in
-      let t = kept-with-receiving a k (taking a room .receiving) (record { shaped = taken-shaped (ring (2 ^ 32)) (ring (2 ^ 16)) rail (a .receiving) room (r .shaped); sound = taken-sound (ring (2 ^ 32)) (ring (2 ^ 16)) rail (a .receiving) room (r .sound) }) in
+      let t = kept-with-receiving a k (taking a room .receiving) (record { shaped = taken-shaped circles rail (a .receiving) room (r .shaped); sound = taken-sound circles rail (a .receiving) room (r .sound) }) in
       pick-keeps (λ (x : Delivered). Kept (x .association)) (eqb (takeBar a area) 0) _ _ (delivered-keeps (taking a room .answer) _ t) k
 
   pub sack-keeps : (out : List ℕ) → Kept (acknowledged a out .association)

@@ -5,7 +5,7 @@ use mathlib.Core.List.{List, [], _∷_}
 use Rattle.scans.specs.Scan.{count}
 use Rattle.numbers.specs.declared.circle.Distance.{Distance}
 use Rattle.numbers.specs.Circle.{ssn0}
-use Rattle.numbers.specs.Numbering.{Numbering, ring, on, far}
+use Rattle.numbers.specs.Numbering.{Numbering, ring, circles, on, far}
 use Rattle.numbers.specs.Profile.{rail}
 use Rattle.numbers.specs.Blocks.{Block}
 use Rattle.numbers.specs.BlocksLaws.{listedIn}
@@ -77,7 +77,7 @@ leftIn r number = record {
 -- each arrives at what the one before left
 abbrev arriveAll : Receiving → ℕ → List ℕ → Left
 arriveAll r number [] = leftIn r number
-arriveAll r number (t ∷ ts) = arriveAll (arrived tsns rail r (chunk t) 1 .receiving) (numberOf (arrived tsns rail r (chunk t) 1 .verdict)) ts
+arriveAll r number (t ∷ ts) = arriveAll (arrived circles rail r (chunk t) 1 .receiving) (numberOf (arrived circles rail r (chunk t) 1 .verdict)) ts
 
 -- the RTO after each sample
 abbrev waitsOf : Path → List ℕ → List ℕ

@@ -8,7 +8,7 @@ use lib.Dec.{eqb, ltb}
 use Rattle.numbers.specs.declared.circle.Tsn.{Tsn}
 use Rattle.numbers.specs.declared.circle.Ssn.{Ssn}
 use Rattle.numbers.specs.Circle.{ssn0}
-use Rattle.numbers.specs.Numbering.{Numbering}
+use Rattle.numbers.specs.Numbering.{Numbering, Numberings}
 use Rattle.numbers.specs.Profile.{Profile, isAgreed}
 use Rattle.numbers.specs.Judgement.{judged}
 use Rattle.numbers.specs.Keeping as keeping
@@ -37,24 +37,6 @@ module _ (T : Numbering) (P : Profile) where
   unfolding fresh
   fresh-is t = refl
 
-  pub wedged-is : (low : ℕ) (hs : List Held) (next : List Ssn) (point : ℕ) → isWedged T P low hs next point ≡ pick (eqb low (P .places)) (not (isOne (chosen T P hs next point))) false
-  unfolding isWedged
-  wedged-is low hs next point = refl
-
-  -- the checks, by what a pass over the held chunks found
-  pub verdict-by : (r : Receiving) (c : Chunk) (n streams : ℕ) {w : Look} → Looked T P (r .keeping) (r .held) c w
-      → verdictOf T P r (asHeld c n) streams
-      ≡ pick (ltb n 1) Empty
-      (pick (ltb (P .payload) n) Long
-      (pick (isOpposite (judged T (r .keeping .point .0) (P .places - w .low) (c .tsn .0))) Opposite
-      (pick (isOld (judged T (r .keeping .point .0) (P .places - w .low) (c .tsn .0))) Duplicate
-      (pick (either (keeping.isCome T (r .keeping) (c .tsn .0)) (w .held)) Duplicate
-      (pick (isWedged T P (w .low) (r .held) (r .next) (r .keeping .point .0)) Wedged
-      (pick (isBeyond (judged T (r .keeping .point .0) (P .places - w .low) (c .tsn .0))) Far
-      (pick (isAgreed P (c .stream .0) streams) (pick (w .clash) Clashing Kept) Stray)))))))
-  unfolding verdictOf judgementOf lowOf isRepeat
-  verdict-by r c n streams k = rw (k .low, k .held, k .clash n, pick-not (isAgreed P (c .stream .0) streams) Stray (pick (isContradicted T (r .held) (asHeld c n)) Clashing Kept))
-
   pub noted-is : (r : Receiving) (t : Tsn) → noted P r t ≡ record { keeping = keeping.listed P (r .keeping) t; held = r .held; next = r .next }
   unfolding noted
   noted-is r t = refl
@@ -67,18 +49,37 @@ module _ (T : Numbering) (P : Profile) where
   unfolding kept
   kept-is r i h = refl
 
+module _ (N : Numberings) (P : Profile) where
+  pub wedged-is : (low : ℕ) (hs : List Held) (next : List Ssn) (point : ℕ) → isWedged N P low hs next point ≡ pick (eqb low (P .places)) (not (isOne (chosen N P hs next point))) false
+  unfolding isWedged
+  wedged-is low hs next point = refl
+
+  -- the checks, by what a pass over the held chunks found
+  pub verdict-by : (r : Receiving) (c : Chunk) (n streams : ℕ) {w : Look} → Looked (N .tsn) P (r .keeping) (r .held) c w
+      → verdictOf N P r (asHeld c n) streams
+      ≡ pick (ltb n 1) Empty
+      (pick (ltb (P .payload) n) Long
+      (pick (isOpposite (judged (N .tsn) (r .keeping .point .0) (P .places - w .low) (c .tsn .0))) Opposite
+      (pick (isOld (judged (N .tsn) (r .keeping .point .0) (P .places - w .low) (c .tsn .0))) Duplicate
+      (pick (either (keeping.isCome (N .tsn) (r .keeping) (c .tsn .0)) (w .held)) Duplicate
+      (pick (isWedged N P (w .low) (r .held) (r .next) (r .keeping .point .0)) Wedged
+      (pick (isBeyond (judged (N .tsn) (r .keeping .point .0) (P .places - w .low) (c .tsn .0))) Far
+      (pick (isAgreed P (c .stream .0) streams) (pick (w .clash) Clashing Kept) Stray)))))))
+  unfolding verdictOf judgementOf lowOf isRepeat
+  verdict-by r c n streams k = rw (k .low, k .held, k .clash n, pick-not (isAgreed P (c .stream .0) streams) Stray (pick (isContradicted (N .tsn) (r .held) (asHeld c n)) Clashing Kept))
+
   module _ (r : Receiving) (h : Held) (streams : ℕ) where
-    pub arrived-is : arrived T P r h streams ≡ record { verdict = verdictOf T P r h streams; receiving = after T P r h (verdictOf T P r h streams) }
+    pub arrived-is : arrived N P r h streams ≡ record { verdict = verdictOf N P r h streams; receiving = after (N .tsn) P r h (verdictOf N P r h streams) }
     unfolding arrived
     arrived-is = refl
 
-    pub area-is : (area bytes : List ℕ) → areaAfter T P r h streams area bytes ≡ storedBy P (r .held) area bytes (verdictOf T P r h streams)
+    pub area-is : (area bytes : List ℕ) → areaAfter N P r h streams area bytes ≡ storedBy P (r .held) area bytes (verdictOf N P r h streams)
     unfolding areaAfter
     area-is area bytes = refl
 
-pub taken-is : (T S : Numbering) (P : Profile) (r : Receiving) (room : ℕ) → taken T S P r room ≡ takenBy r (took T S P (r .held) (r .next) (r .keeping .point .0) room)
+pub taken-is : (N : Numberings) (P : Profile) (r : Receiving) (room : ℕ) → taken N P r room ≡ takenBy r (took N P (r .held) (r .next) (r .keeping .point .0) room)
 unfolding taken
-taken-is T S P r room = refl
+taken-is N P r room = refl
 
 module _ (P : Profile) (r : Receiving) where
   pub sack-is : sackOf P r ≡ record { point = r .keeping .point; window = P .payload * count isFree (r .held); blocks = blocksOf P (r .keeping); dups = r .keeping .dups; listed = r .keeping .listed }

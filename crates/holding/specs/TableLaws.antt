@@ -4,16 +4,16 @@ use mathlib.Core.Path.{_≡_, refl}
 use mathlib.Core.Bool.{true, false}
 use mathlib.Core.List.{List}
 use lib.ListN.{set, getD}
-use lib.Dec.{eqb, ltb}
+use lib.Dec.{ltb}
 use Rattle.numbers.specs.declared.circle.Ssn.{Ssn}
 use Rattle.numbers.specs.Circle.{ssn0}
-use Rattle.numbers.specs.Numbering.{Numbering, on, key}
+use Rattle.numbers.specs.Numbering.{Numbering, Numberings, on, key}
 use Rattle.numbers.specs.Profile.{Profile}
 use Rattle.scans.specs.Scan.{pick}
 use Rattle.holding.specs.declared.held.Held.{Held}
 use Rattle.holding.specs.declared.message.Best.{Best}
 use Rattle.holding.specs.Held.{holds}
-use Rattle.holding.specs.Message.{isWhole, continues, follow, isLeftEnd, isExpected, opens, chosen}
+use Rattle.holding.specs.Message.{isWhole, continues, follow, isLeftEnd, isDueAt, isExpected, opens, chosen}
 use Rattle.holding.specs.MessageLaws.{isBetter, tried}
 use Rattle.holding.specs.Taking.{advanced, tookBy, took}
 
@@ -22,22 +22,22 @@ pub holds-not-continues : (first : Held) (t : ℕ) (h : Held) → holds t h ≡ 
 unfolding continues
 holds-not-continues first t h e = rw e
 
-module _ (P : Profile) (next : List Ssn) (h : Held) where
-  pub expected-is : isExpected P next h ≡ pick (h .unordered) true (pick (ltb (h .stream .0) (P .streams)) (eqb (h .ssn .0) (getD next (h .stream .0) ssn0 .0)) false)
+module _ (S : Numbering) (P : Profile) (next : List Ssn) (h : Held) where
+  pub expected-is : isExpected S P next h ≡ pick (h .unordered) true (pick (ltb (h .stream .0) (P .streams)) (isDueAt S (getD next (h .stream .0) ssn0 .0) (h .ssn .0)) false)
   unfolding isExpected
   expected-is = refl
 
-  pub opens-is : opens P next h ≡ pick (isLeftEnd h) (isExpected P next h) false
+  pub opens-is : opens S P next h ≡ pick (isLeftEnd h) (isExpected S P next h) false
   unfolding opens
   opens-is = refl
 
-module _ (T : Numbering) (P : Profile) (next : List Ssn) (point : ℕ) (best : Best) (h : Held) where
-  pub better-is : isBetter T P next point best h ≡ pick (opens P next h) (pick (best .some) (ltb (key T point (h .tsn .0)) (best .key)) true) false
+module _ (N : Numberings) (P : Profile) (next : List Ssn) (point : ℕ) (best : Best) (h : Held) where
+  pub better-is : isBetter N P next point best h ≡ pick (opens (N .ssn) P next h) (pick (best .some) (ltb (key (N .tsn) point (h .tsn .0)) (best .key)) true) false
   unfolding isBetter
   better-is = refl
 
   -- no message begins at a free place
-  pub free-not-better : h .used ≡ false → isBetter T P next point best h ≡ false
+  pub free-not-better : h .used ≡ false → isBetter N P next point best h ≡ false
   unfolding isBetter opens isLeftEnd
   free-not-better u = rw u
 
@@ -51,7 +51,7 @@ pub advanced-is : (S : Numbering) (next : List Ssn) (h : Held)
 unfolding advanced
 advanced-is S next h = refl
 
-pub took-is : (T S : Numbering) (P : Profile) (hs : List Held) (next : List Ssn) (point room : ℕ)
-    → took T S P hs next point room ≡ tookBy S hs next room (chosen T P hs next point)
+pub took-is : (N : Numberings) (P : Profile) (hs : List Held) (next : List Ssn) (point room : ℕ)
+    → took N P hs next point room ≡ tookBy (N .ssn) hs next room (chosen N P hs next point)
 unfolding took
-took-is T S P hs next point room = refl
+took-is N P hs next point room = refl

@@ -3,7 +3,7 @@ use Prim.Native.Nat.{ℕ, _^_}
 use lib.ListN.{replicate}
 use Rattle.numbers.specs.declared.circle.Tsn.{Tsn}
 use Rattle.numbers.specs.Keeping as keeping
-use Rattle.numbers.specs.Numbering.{ring}
+use Rattle.numbers.specs.Numbering.{ring, circles}
 use Rattle.numbers.specs.Profile.{rail}
 use Rattle.holding.specs.declared.held.Held.{Held}
 use Rattle.holding.specs.Taking.{took}
@@ -26,21 +26,21 @@ begun t = record { keeping = keeping.fresh (ring (2 ^ 32)) rail t; held = replic
 
 abbrev pub cameTo : Incoming → Held → ℕ → Came
 cameTo r h streams = record {
-  verdict = reception.told (ring (2 ^ 32)) rail (shown r) h streams .verdict;
+  verdict = reception.told circles rail (shown r) h streams .verdict;
   incoming = record {
-    keeping = reception.told (ring (2 ^ 32)) rail (shown r) h streams .keeping;
-    held = reception.wordsAfter (ring (2 ^ 32)) rail (shown r) (r .held) h streams;
+    keeping = reception.told circles rail (shown r) h streams .keeping;
+    held = reception.wordsAfter circles rail (shown r) (r .held) h streams;
     next = r .next;
   };
 }
 
 abbrev pub tookFrom : Incoming → ℕ → Took
 tookFrom r room = record {
-  answer = took (ring (2 ^ 32)) (ring (2 ^ 16)) rail (heldOf rail (r .held)) (ssnsOf rail (r .next)) (r .keeping .point .0) room .answer;
+  answer = took circles rail (heldOf rail (r .held)) (ssnsOf rail (r .next)) (r .keeping .point .0) room .answer;
   incoming = record {
     keeping = r .keeping;
-    held = wordsTaken (ring (2 ^ 32)) rail (r .held) (r .next) (r .keeping .point .0) room;
-    next = ssnsTaken (ring (2 ^ 32)) (ring (2 ^ 16)) rail (r .held) (r .next) (r .keeping .point .0) room;
+    held = wordsTaken circles rail (r .held) (r .next) (r .keeping .point .0) room;
+    next = ssnsTaken circles rail (r .held) (r .next) (r .keeping .point .0) room;
   };
 }
 

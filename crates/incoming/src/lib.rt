@@ -9,7 +9,7 @@ use numbers::Tsn;
 ghost use mathlib.Core.Path.{_≡_};
 ghost use Prim.Native.Nat.{_^_};
 ghost use lib.ListN.{length};
-ghost use Rattle.numbers.specs.Numbering.{ring};
+ghost use Rattle.numbers.specs.Numbering.{ring, circles};
 ghost use Rattle.numbers.specs.Profile.{rail};
 ghost use Rattle.holding.specs.Held.{asHeld};
 ghost use Rattle.holding.specs.Taking.{written};
@@ -63,8 +63,8 @@ impl Incoming {
 // A chunk arrives with its payload, in an association of so many agreed streams.
 pub fn arrive(mut r: Incoming, area: &mut [u8], c: Chunk, payload: &[u8], streams: u16) -> Came
     ensures { λ o. ⌜ (o ≡ cameTo r (asHeld c (length (now (payload .entry)))) streams)
-        × (_≡_ {A = Arrival} (record { verdict = o .verdict; receiving = shown (o .incoming) }) (arrived (ring (2 ^ 32)) rail (shown r) (asHeld c (length (now (payload .entry)))) streams))
-        × (now (area .exit) ≡ areaAfter (ring (2 ^ 32)) rail (shown r) (asHeld c (length (now (payload .entry)))) streams (now (area .entry)) (now (payload .entry))) ⌝ }
+        × (_≡_ {A = Arrival} (record { verdict = o .verdict; receiving = shown (o .incoming) }) (arrived circles rail (shown r) (asHeld c (length (now (payload .entry)))) streams))
+        × (now (area .exit) ≡ areaAfter circles rail (shown r) (asHeld c (length (now (payload .entry)))) streams (now (area .entry)) (now (payload .entry))) ⌝ }
 {
     let keeping = r.keeping;
     let next = r.next;
@@ -81,8 +81,8 @@ pub fn arrive(mut r: Incoming, area: &mut [u8], c: Chunk, payload: &[u8], stream
 // A message is taken: its bytes go to `out`. Two tables of one record cannot be lent at once: the smaller goes by a local.
 pub fn take(mut r: Incoming, area: &[u8], out: &mut [u8]) -> Took
     ensures { λ o. ⌜ (o ≡ tookFrom r (length (now (out .entry))))
-        × (_≡_ {A = Taken} (record { answer = o .answer; receiving = shown (o .incoming) }) (taken (ring (2 ^ 32)) (ring (2 ^ 16)) rail (shown r) (length (now (out .entry)))))
-        × (now (out .exit) ≡ written (ring (2 ^ 32)) rail (shown r .held) (shown r .next) (r .keeping .point .0) (now (area .entry)) (now (out .entry))) ⌝ }
+        × (_≡_ {A = Taken} (record { answer = o .answer; receiving = shown (o .incoming) }) (taken circles rail (shown r) (length (now (out .entry)))))
+        × (now (out .exit) ≡ written circles rail (shown r .held) (shown r .next) (r .keeping .point .0) (now (area .entry)) (now (out .entry))) ⌝ }
 {
     let keeping = r.keeping;
     let point = keeping.point;

@@ -18,7 +18,7 @@ use Rattle.scans.specs.Each.{All, all-map, all-at, all-of, count-map, find-map,
 use Rattle.numbers.specs.declared.circle.Tsn.{Tsn}
 use Rattle.numbers.specs.declared.circle.Ssn.{Ssn}
 use Rattle.numbers.specs.Circle.{ssn0}
-use Rattle.numbers.specs.Numbering.{ring, line, on, key, Within, far-law, on-law, same-law, key-law, key-line}
+use Rattle.numbers.specs.Numbering.{ring, line, rings, lines, on, key, Within, far-law, on-law, same-law, key-law, key-line}
 use Rattle.numbers.specs.Profile.{Profile}
 use Rattle.numbers.specs.Judgement.{judged}
 use Rattle.numbers.specs.KeepingLine as kept
@@ -29,6 +29,7 @@ use Rattle.holding.specs.declared.taking.Took.{Took}
 use Rattle.holding.specs.declared.taking.Answer.the-variants.{Taken, Short}
 use Rattle.holding.specs.Held.{noHeld, isFree, holds, is-held}
 use Rattle.holding.specs.Message.{Run, broken, whole, Choice, none, one, isOfOne, continues, led, onward, follow, isLeftEnd, isExpected, opens, ranked, better, chosen, isOne, chunksAt}
+use Rattle.holding.specs.DueLaws.{due-law}
 use Rattle.holding.specs.MessageLaws.{continues-holds}
 use Rattle.holding.specs.Taking.{firstOf, lenAt, lengthOf, payloadAt, copied, emptied, advanced, messageOf, tookBy, took, writtenBy, written}
 use Rattle.delivery.specs.declared.receiving.Receiving.{Receiving}
@@ -97,7 +98,7 @@ module _ (P : Profile) (h k : ℕ) where
     unfolding holds
     holds-law t x w = if-so false (x .used) (λ e. same-law n (x .tsn .0) t (w e))
 
-    opens-law : (x : Held) → Good x → opens P (map (reduceSsn m) next) (down x) ≡ opens P next x
+    opens-law : (x : Held) → Good x → opens (ring m) P (map (reduceSsn m) next) (down x) ≡ opens line P next x
     unfolding opens isLeftEnd isExpected
     opens-law x g =
         if-so false (pick (x .used) (x .begin) false)
@@ -107,7 +108,7 @@ module _ (P : Profile) (h k : ℕ) where
         if-so false (ltb (x .stream .0) (P .streams))
         (λ _.
         let v = g .ssn (left-used x e) f in
-        rw (next-at next (x .stream .0)) (same-law m (x .ssn .0) (getD next (x .stream .0) ssn0 .0) (omega arith)))))
+        rw (next-at next (x .stream .0)) (due-law k (getD next (x .stream .0) ssn0 .0) (x .ssn .0) v))))
 
     none-good : Good noHeld
     none-good = record { tsn = λ e. clash e; ssn = λ e. clash e }
@@ -202,22 +203,22 @@ module _ (P : Profile) (h k : ℕ) where
         go true = v
         go false = w
 
-    opens-used : (x : Held) → opens P next x ≡ true → x .used ≡ true
+    opens-used : (x : Held) → opens line P next x ≡ true → x .used ≡ true
     unfolding opens
     opens-used x e = left-used x (go (isLeftEnd x) e)
       where
-        go : (u : Bool) → pick u (isExpected P next x) false ≡ true → u ≡ true
+        go : (u : Bool) → pick u (isExpected line P next x) false ≡ true → u ≡ true
         go true e = refl
         go false e = clash e
 
     module _ (hs : List Held) (ws : All Good hs) where
       better-law : (c : Choice) → Ranks c → (i : ℕ) (x : Held) → Good x
-          → (better (ring n) P (map down hs) (map (reduceSsn m) next) (p % n) (moved c) i (down x) ≡ moved (better line P hs next p c i x))
-          × Ranks (better line P hs next p c i x)
+          → (better (rings n m) P (map down hs) (map (reduceSsn m) next) (p % n) (moved c) i (down x) ≡ moved (better lines P hs next p c i x))
+          × Ranks (better lines P hs next p c i x)
       unfolding better
-      better-law c v i x g = rw (opens-law x g) (go (opens P next x) refl)
+      better-law c v i x g = rw (opens-law x g) (go (opens line P next x) refl)
         where
-          go : (t : Bool) → opens P next x ≡ t
+          go : (t : Bool) → opens line P next x ≡ t
               → (pick t (ranked (moved c) (key (ring n) (p % n) (x .tsn .0 % n)) (follow (ring n) (map down hs) (down x) (P .places) i (down x))) (moved c)
               ≡ moved (pick t (ranked c (key line p (x .tsn .0)) (follow line hs x (P .places) i x)) c))
               × Ranks (pick t (ranked c (key line p (x .tsn .0)) (follow line hs x (P .places) i x)) c)
@@ -229,13 +230,13 @@ module _ (P : Profile) (h k : ℕ) where
           go false e = (refl, v)
 
       fold-law : (c : Choice) → Ranks c → (i : ℕ) (xs : List Held) → All Good xs
-          → foldFrom (better (ring n) P (map down hs) (map (reduceSsn m) next) (p % n)) (moved c) i (map down xs)
-          ≡ moved (foldFrom (better line P hs next p) c i xs)
+          → foldFrom (better (rings n m) P (map down hs) (map (reduceSsn m) next) (p % n)) (moved c) i (map down xs)
+          ≡ moved (foldFrom (better lines P hs next p) c i xs)
       fold-law c v i [] gs = refl
       fold-law c v i (x ∷ xs) gs =
           let b = better-law c v i x (gs .0) in
-          ap (λ (z : Choice). foldFrom (better (ring n) P (map down hs) (map (reduceSsn m) next) (p % n)) z (i + 1) (map down xs)) (b .0)
-          ∙ (fold-law (better line P hs next p c i x) (b .1) (i + 1) xs (gs .1))
+          ap (λ (z : Choice). foldFrom (better (rings n m) P (map down hs) (map (reduceSsn m) next) (p % n)) z (i + 1) (map down xs)) (b .0)
+          ∙ (fold-law (better lines P hs next p c i x) (b .1) (i + 1) xs (gs .1))
 
   -- ---- what needs no nearness
 
@@ -292,12 +293,12 @@ module _ (P : Profile) (h k : ℕ) where
     abbrev point : ℕ
     point = r .keeping .point .0
 
-    chosen-law : chosen (ring n) P (map down (r .held)) (map (reduceSsn m) (r .next)) (point % n) ≡ moved point (r .next) (chosen line P (r .held) (r .next) point)
+    chosen-law : chosen (rings n m) P (map down (r .held)) (map (reduceSsn m) (r .next)) (point % n) ≡ moved point (r .next) (chosen lines P (r .held) (r .next) point)
     unfolding chosen
     chosen-law = fold-law point (r .next) (r .held) near none tt 0 (r .held) near
 
-    ready-law : isOne (chosen (ring n) P (map down (r .held)) (map (reduceSsn m) (r .next)) (point % n)) ≡ isOne (chosen line P (r .held) (r .next) point)
-    ready-law = ap isOne chosen-law ∙ go (chosen line P (r .held) (r .next) point)
+    ready-law : isOne (chosen (rings n m) P (map down (r .held)) (map (reduceSsn m) (r .next)) (point % n)) ≡ isOne (chosen lines P (r .held) (r .next) point)
+    ready-law = ap isOne chosen-law ∙ go (chosen lines P (r .held) (r .next) point)
       where
         go : (c : Choice) → isOne (moved point (r .next) c) ≡ isOne c
         go none = refl
@@ -321,15 +322,15 @@ module _ (P : Profile) (h k : ℕ) where
       unfolding judgementOf judged
       judgement-law = rw (low-law, far-law h point (c .tsn .0) w)
 
-      wedged-law : isWedged (ring n) P (lowOf (ring n) (reduce n m r)) (map down (r .held)) (map (reduceSsn m) (r .next)) (point % n)
-          ≡ isWedged line P (lowOf line r) (r .held) (r .next) point
+      wedged-law : isWedged (rings n m) P (lowOf (ring n) (reduce n m r)) (map down (r .held)) (map (reduceSsn m) (r .next)) (point % n)
+          ≡ isWedged lines P (lowOf line r) (r .held) (r .next) point
       unfolding isWedged
       wedged-law = rw (low-law, ready-law)
 
       clash-law : isContradicted (ring n) (map down (r .held)) (down c) ≡ isContradicted line (r .held) c
       clash-law = contradicted-law n m (r .held) c (all-map (λ x g u. let v = g .tsn u in omega arith) (r .held) near)
 
-      pub verdict-law : (streams : ℕ) → verdictOf (ring n) P (reduce n m r) (down c) streams ≡ verdictOf line P r c streams
+      pub verdict-law : (streams : ℕ) → verdictOf (rings n m) P (reduce n m r) (down c) streams ≡ verdictOf lines P r c streams
       unfolding verdictOf
       verdict-law streams = rw (judgement-law, repeat-law, wedged-law, clash-law)
 
@@ -350,14 +351,14 @@ module _ (P : Profile) (h k : ℕ) where
       after-law Stray = rw (kept.marked-law h (r .keeping) (c .tsn .0) w P)
 
       -- a chunk arrives
-      pub arrived-law : (streams : ℕ) → arrived (ring n) P (reduce n m r) (down c) streams
-          ≡ record { verdict = arrived line P r c streams .verdict; receiving = reduce n m (arrived line P r c streams .receiving) }
+      pub arrived-law : (streams : ℕ) → arrived (rings n m) P (reduce n m r) (down c) streams
+          ≡ record { verdict = arrived lines P r c streams .verdict; receiving = reduce n m (arrived lines P r c streams .receiving) }
       unfolding arrived
-      arrived-law streams = rw (verdict-law streams, after-law (verdictOf line P r c streams))
+      arrived-law streams = rw (verdict-law streams, after-law (verdictOf lines P r c streams))
 
-      pub area-law : (streams : ℕ) (area bytes : List ℕ) → areaAfter (ring n) P (reduce n m r) (down c) streams area bytes ≡ areaAfter line P r c streams area bytes
+      pub area-law : (streams : ℕ) (area bytes : List ℕ) → areaAfter (rings n m) P (reduce n m r) (down c) streams area bytes ≡ areaAfter lines P r c streams area bytes
       unfolding areaAfter
-      area-law streams area bytes = rw (verdict-law streams) (go (verdictOf line P r c streams))
+      area-law streams area bytes = rw (verdict-law streams) (go (verdictOf lines P r c streams))
         where
           go : (v : Verdict) → storedBy P (map down (r .held)) area bytes v ≡ storedBy P (r .held) area bytes v
           go Kept = rw (free-law (r .held))
@@ -375,10 +376,10 @@ module _ (P : Profile) (h k : ℕ) where
     Same a b = takenBy (reduce n m r) a ≡ record { answer = reduceTaken m (takenBy r b .answer); receiving = reduce n m (takenBy r b .receiving) }
 
     -- a take
-    pub taken-law : (room : ℕ) → taken (ring n) (ring m) P (reduce n m r) room
-        ≡ record { answer = reduceTaken m (taken line line P r room .answer); receiving = reduce n m (taken line line P r room .receiving) }
+    pub taken-law : (room : ℕ) → taken (rings n m) P (reduce n m r) room
+        ≡ record { answer = reduceTaken m (taken lines P r room .answer); receiving = reduce n m (taken lines P r room .receiving) }
     unfolding taken took
-    taken-law room = rw chosen-law (go (chosen line P (r .held) (r .next) point))
+    taken-law room = rw chosen-law (go (chosen lines P (r .held) (r .next) point))
       where
         go : (c : Choice) → Same (tookBy (ring m) (map down (r .held)) (map (reduceSsn m) (r .next)) room (moved point (r .next) c)) (tookBy line (r .held) (r .next) room c)
         go none = refl
@@ -392,10 +393,10 @@ module _ (P : Profile) (h k : ℕ) where
             fits true = refl
             fits false = refl
 
-    pub written-law : (area out : List ℕ) → written (ring n) P (map down (r .held)) (map (reduceSsn m) (r .next)) (point % n) area out
-        ≡ written line P (r .held) (r .next) point area out
+    pub written-law : (area out : List ℕ) → written (rings n m) P (map down (r .held)) (map (reduceSsn m) (r .next)) (point % n) area out
+        ≡ written lines P (r .held) (r .next) point area out
     unfolding written
-    written-law area out = rw chosen-law (go (chosen line P (r .held) (r .next) point))
+    written-law area out = rw chosen-law (go (chosen lines P (r .held) (r .next) point))
       where
         go : (c : Choice) → writtenBy P (map down (r .held)) area out (moved point (r .next) c) ≡ writtenBy P (r .held) area out c
         go none = refl

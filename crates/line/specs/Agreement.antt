@@ -16,7 +16,7 @@ use lib.ListN.{length}
 use Rattle.scans.specs.Scan.{count, bit-le}
 use Rattle.scans.specs.Each.{All}
 use Rattle.numbers.specs.declared.circle.Tsn.{Tsn}
-use Rattle.numbers.specs.Numbering.{ring, line}
+use Rattle.numbers.specs.Numbering.{ring, line, rings, lines}
 use Rattle.numbers.specs.Profile.{Profile, rail}
 use Rattle.numbers.specs.KeepingLine.{reduceTsn}
 use Rattle.holding.specs.declared.held.Chunk.{Chunk}
@@ -47,20 +47,20 @@ module _ (P : Profile) (h : ℕ) (t : Tsn) (some : 0 < t .0) (streams : ℕ) (ar
   begun = start line P t area
 
   abbrev said : List Answer
-  said = answers line line P streams begun es
+  said = answers lines P streams begun es
 
   abbrev last : Lent
-  last = finally line line P streams begun es
+  last = finally lines P streams begun es
 
   -- the circle receiver, with ordered messages on a circle of k and k: what it answers, and what it then has
   abbrev n : ℕ
   n = h + h
 
   abbrev circleSaid : ℕ → List Answer
-  circleSaid k = answers (ring n) (ring (k + k)) P streams (start (ring n) P (reduceTsn n t) area) (map (reduceEvent n (k + k)) es)
+  circleSaid k = answers (rings n (k + k)) P streams (start (ring n) P (reduceTsn n t) area) (map (reduceEvent n (k + k)) es)
 
   abbrev circleLast : ℕ → Lent
-  circleLast k = finally (ring n) (ring (k + k)) P streams (start (ring n) P (reduceTsn n t) area) (map (reduceEvent n (k + k)) es)
+  circleLast k = finally (rings n (k + k)) P streams (start (ring n) P (reduceTsn n t) area) (map (reduceEvent n (k + k)) es)
 
   abbrev size : ℕ → ℕ
   size j = length (payload j)
@@ -73,7 +73,7 @@ module _ (P : Profile) (h : ℕ) (t : Tsn) (some : 0 < t .0) (streams : ℕ) (ar
   agrees k wh wk = rw (fresh-law P h k t (omega arith) some) (agree-along P h k streams es begun (near-along payload send h k wh wk es begun sound fair))
 
   -- every number that a SACK then tells as come was given once or is held once, and no other was or is
-  pub none-lost : (s : Sack) → turn line line P streams last sack .answer ≡ tells s
+  pub none-lost : (s : Sack) → turn lines P streams last sack .answer ≡ tells s
       → (j : ℕ) → copies (joinedAll (handedOver P streams begun es)) j + copies (last .receiving .held) j ≡ bit (acknowledges (t .0) s j)
   none-lost s e j =
       let q : acknowledged P (last .receiving) .sack ≡ s = cc in
@@ -102,12 +102,12 @@ module _ (P : Profile) (h : ℕ) (t : Tsn) (some : 0 < t .0) (streams : ℕ) (ar
       ap (orderGiven q) (agrees k wh wk .0) ∙ (order-reduced n (k + k) q said ∙ ap (map (λ (x : ℕ). x % (k + k))) (in-order q))
 
   -- a chunk that arrives then and is told as kept is held, once
-  pub kept-is-held : (j : ℕ) → t .0 ≤ j → verdictOf line P (last .receiving) (asHeld (chunk j) (size j)) streams ≡ Kept
-      → copies (turn line line P streams last (arrive (chunk j) (payload j)) .lent .receiving .held) j ≡ 1
+  pub kept-is-held : (j : ℕ) → t .0 ≤ j → verdictOf lines P (last .receiving) (asHeld (chunk j) (size j)) streams ≡ Kept
+      → copies (turn lines P streams last (arrive (chunk j) (payload j)) .lent .receiving .held) j ≡ 1
   kept-is-held j l e = kept-once send (last .receiving) (sound-from payload send h es begun sound fair .2) j l e
 
   -- a sender that cuts no message into more chunks than there are places is never answered 12
-  pub never-wedged : Few P (t .0) chunk → isWedged line P (lowOf line (last .receiving)) (last .receiving .held) (last .receiving .next) (last .receiving .keeping .point .0) ≡ false
+  pub never-wedged : Few P (t .0) chunk → isWedged lines P (lowOf line (last .receiving)) (last .receiving .held) (last .receiving .next) (last .receiving .keeping .point .0) ≡ false
   never-wedged few = not-wedged send few (last .receiving) (sound-from payload send h es begun sound fair .2)
 
   -- what no answer of the line is, none of the circle is
@@ -125,17 +125,17 @@ module _ (P : Profile) (h : ℕ) (t : Tsn) (some : 0 < t .0) (streams : ℕ) (ar
   -- what a take then gives is a message that the sender cut, with its bytes, stream, U, SSN and PPID, so no new chunk passes for an old one; a
   -- refusal gives nothing, and 18 names the length of such a message
   pub as-cut : P .payload * P .places ≤ length area → (out : List ℕ)
-      → Genuine (t .0) chunk payload out (handed line P (last .receiving) (length out)) (taken line line P (last .receiving) (length out) .answer)
-      (written line P (last .receiving .held) (last .receiving .next) (last .receiving .keeping .point .0) (last .area) out)
+      → Genuine (t .0) chunk payload out (handed lines P (last .receiving) (length out)) (taken lines P (last .receiving) (length out) .answer)
+      (written lines P (last .receiving .held) (last .receiving .next) (last .receiving .keeping .point .0) (last .area) out)
   as-cut long out =
       genuine payload send last (sound-from payload send h es begun sound fair .2)
       (lodged-from payload send h es begun sound (lodged-fresh P payload area t long) fair) out
 
   -- and the circle gives that, its SSN brought back
   pub as-cut-circle : (k : ℕ) → Wide P h → Wide P k → (out : List ℕ)
-      → turn (ring n) (ring (k + k)) P streams (circleLast k) (take out) .answer ≡ reduceAnswer n (k + k) (turn line line P streams last (take out) .answer)
+      → turn (rings n (k + k)) P streams (circleLast k) (take out) .answer ≡ reduceAnswer n (k + k) (turn lines P streams last (take out) .answer)
   as-cut-circle k wh wk out =
-      ap (λ (l : Lent). turn (ring n) (ring (k + k)) P streams l (take out) .answer) (agrees k wh wk .1)
+      ap (λ (l : Lent). turn (rings n (k + k)) P streams l (take out) .answer) (agrees k wh wk .1)
       ∙ ap (λ (x : Turn). x .answer) (take-alike P h k streams last (near send (sound-from payload send h es begun sound fair .2) h k wh wk) out)
 
 -- THE RAIL: any initial TSN x, which on the line is x + 2^32; circles of 2^32 and 2^16; less than 2^31 from the point
@@ -154,7 +154,7 @@ module _ (x : ℕ) (small : x < 2 ^ 32) where
 
   pub rail-agrees : (streams : ℕ) (area : List ℕ) (chunk : ℕ → Chunk) (payload : ℕ → List ℕ) → Sender rail (x + 2 ^ 32) streams chunk
       → (es : List Event) → Fair rail (2 ^ 31) (x + 2 ^ 32) chunk payload streams (start line rail first area) es
-      → (answers (ring TSNs) (ring SSNs) rail streams (start (ring TSNs) rail (record { 0 = x }) area) (map (reduceEvent TSNs SSNs) es) ≡ map (reduceAnswer TSNs SSNs) (answers line line rail streams (start line rail first area) es))
-      × (finally (ring TSNs) (ring SSNs) rail streams (start (ring TSNs) rail (record { 0 = x }) area) (map (reduceEvent TSNs SSNs) es) ≡ reduceLent TSNs SSNs (finally line line rail streams (start line rail first area) es))
+      → (answers (rings TSNs SSNs) rail streams (start (ring TSNs) rail (record { 0 = x }) area) (map (reduceEvent TSNs SSNs) es) ≡ map (reduceAnswer TSNs SSNs) (answers lines rail streams (start line rail first area) es))
+      × (finally (rings TSNs SSNs) rail streams (start (ring TSNs) rail (record { 0 = x }) area) (map (reduceEvent TSNs SSNs) es) ≡ reduceLent TSNs SSNs (finally lines rail streams (start line rail first area) es))
   rail-agrees streams area chunk payload send es fair =
       rw (← initial) (agrees rail (2 ^ 31) first (omega arith) streams area chunk payload send es fair (2 ^ 15) (omega arith) (omega arith))

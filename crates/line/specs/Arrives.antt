@@ -22,7 +22,7 @@ use Rattle.numbers.specs.declared.circle.Ssn.{Ssn}
 use Rattle.numbers.specs.declared.circle.Judgement.{Judgement}
 use Rattle.numbers.specs.declared.circle.Judgement.the-variants.{AtOrBehind, AheadWithin, AheadBeyond, AtOpposite}
 use Rattle.numbers.specs.declared.keeping.Keeping.{Keeping}
-use Rattle.numbers.specs.Numbering.{line, on}
+use Rattle.numbers.specs.Numbering.{line, lines, on}
 use Rattle.numbers.specs.Profile.{Profile}
 use Rattle.numbers.specs.Come.{run, shift}
 use Rattle.numbers.specs.ComeLaws.{run-at, shift-at, length-shift}
@@ -231,10 +231,10 @@ module _ {P : Profile} {base streams : ℕ} {chunk : ℕ → Chunk} {size : ℕ 
   c = asHeld (chunk n) (size n)
 
   -- it is held once
-  keep-case : verdictOf line P r c streams ≡ Kept → SoundOf P base chunk size (after line P r c Kept) gone least × (copies (after line P r c Kept .held) n ≡ 1)
+  keep-case : verdictOf lines P r c streams ≡ Kept → SoundOf P base chunk size (after line P r c Kept) gone least × (copies (after line P r c Kept .held) n ≡ 1)
   unfolding isRepeat judgementOf settled on lowOf arrival.kept
   keep-case e =
-      let v = kept-coming line P r c streams e .0 in
+      let v = kept-coming lines P r c streams e .0 in
       let low : ℕ = lowOf line r in
       let o = judged-within (judgementOf line P r t) (P .places - low) (offsetOf line (r .keeping) t) (judged-offset line (r .keeping) (P .places - low) t (judgementOf line P r t) refl) (v .sided) (v .new) (v .near) in
       let b = neither (isCome line (r .keeping) t) (any (holds t) (r .held)) (v .first) .0 in
@@ -271,14 +271,14 @@ module _ {P : Profile} {base streams : ℕ} {chunk : ℕ → Chunk} {size : ℕ 
       (subst (λ (x : List Bool). Sound P base chunk size pt x (r .held) (r .next) gone least) (sym (w .1)) s)
 
   -- a chunk of the sender is of an agreed stream, and contradicts none that is held
-  last-case : (v : Verdict) → 14 ≤ numberOf v → numberOf v ≤ 21 → verdictOf line P r c streams ≡ v → ⊥
+  last-case : (v : Verdict) → 14 ≤ numberOf v → numberOf v ≤ 21 → verdictOf lines P r c streams ≡ v → ⊥
   unfolding verdictOf
   last-case v l m e =
       never-last (ltb (size n) 1) (ltb (P .payload) (size n)) (isOpposite (judgementOf line P r t)) (isOld (judgementOf line P r t))
-      (isRepeat line (r .keeping) (r .held) t) (isWedged line P (lowOf line r) (r .held) (r .next) pt) (isBeyond (judgementOf line P r t)) v l m
+      (isRepeat line (r .keeping) (r .held) t) (isWedged lines P (lowOf line r) (r .held) (r .next) pt) (isBeyond (judgementOf line P r t)) v l m
       (rw (send .agreed n lb, never-contradicted send size (r .held) (s .real) n (size n) lb) at e)
 
-  after-case : (v : Verdict) → verdictOf line P r c streams ≡ v → SoundOf P base chunk size (after line P r c v) gone least
+  after-case : (v : Verdict) → verdictOf lines P r c streams ≡ v → SoundOf P base chunk size (after line P r c v) gone least
   after-case Kept e = keep-case e .0
   after-case Empty e = s
   after-case Long e = s
@@ -289,13 +289,13 @@ module _ {P : Profile} {base streams : ℕ} {chunk : ℕ → Chunk} {size : ℕ 
   after-case Stray e = absurd (last-case Stray (omega arith) (omega arith) e)
   after-case Clashing e = s
 
-  pub arrived-sound : SoundOf P base chunk size (arrived line P r c streams .receiving) gone least
+  pub arrived-sound : SoundOf P base chunk size (arrived lines P r c streams .receiving) gone least
   unfolding arrived
-  arrived-sound = after-case (verdictOf line P r c streams) refl
+  arrived-sound = after-case (verdictOf lines P r c streams) refl
 
-  pub kept-once : verdictOf line P r c streams ≡ Kept → copies (arrived line P r c streams .receiving .held) n ≡ 1
+  pub kept-once : verdictOf lines P r c streams ≡ Kept → copies (arrived lines P r c streams .receiving .held) n ≡ 1
   unfolding arrived
   kept-once e = ap (λ (v : Verdict). copies (after line P r c v .held) n) e ∙ keep-case e .1
 
-  pub not-clashing : verdictOf line P r c streams ≡ Clashing → ⊥
+  pub not-clashing : verdictOf lines P r c streams ≡ Clashing → ⊥
   not-clashing = last-case Clashing (omega arith) (omega arith)

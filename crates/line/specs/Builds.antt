@@ -5,7 +5,7 @@ use mathlib.Core.List.{List, [], _∷_, map}
 use lib.ListN.{length}
 use lib.Dec.{eqb}
 use Rattle.scans.specs.Scan.{pick, any}
-use Rattle.numbers.specs.Numbering.{ring, line, on}
+use Rattle.numbers.specs.Numbering.{ring, line, rings, on}
 use Rattle.numbers.specs.Profile.{Profile, rail}
 use Rattle.numbers.specs.Judgement.{judged}
 use Rattle.holding.specs.declared.held.Chunk.{Chunk}
@@ -23,7 +23,7 @@ use Rattle.line.specs.Demand.{Step, Handing, Receiver, over}
 -- ours, over a profile with circles of n and m, with another arrival, take or SACK
 module _ (n m : ℕ) (P : Profile) where
   abbrev right : Receiver
-  right = over (ring n) (ring m) P
+  right = over (rings n m) P
 
   abbrev withArrive : (ℕ → Lent → Chunk → List ℕ → Step ℕ Lent) → Receiver
   withArrive f = record { State = Lent; begun = right .begun; arrive = f; take = right .take; sack = right .sack }
@@ -66,11 +66,11 @@ module _ (n m : ℕ) (P : Profile) where
 
   -- "Plain 'less than' on TSN": a chunk is judged as if the circle were a line
   abbrev pub plainTsn : Receiver
-  plainTsn = withArrive (over line (ring m) P .arrive)
+  plainTsn = withArrive (over (record { tsn = line; ssn = ring m }) P .arrive)
 
   -- "or SSN": the next expected goes up as if the circle were a line
   abbrev pub plainSsn : Receiver
-  plainSsn = withTake (over (ring n) line P .take)
+  plainSsn = withTake (over (record { tsn = ring n; ssn = line }) P .take)
 
   -- "Freeing a taken chunk's offset above the point": of the flags from offset d on, those stay whose number is still held
   abbrev stillHeld : List Held → ℕ → ℕ → List Bool → List Bool
@@ -89,7 +89,7 @@ module _ (n m : ℕ) (P : Profile) where
       firstOf
       (map
       (λ (c : Check). pick (eqb (numberOf (c .answer)) 13) (record { met = isBeyond (judged (ring n) (r .keeping .point .0) (P .places) (h .tsn .0)); answer = Far }) c)
-      (checks (ring n) P r h streams))
+      (checks (rings n m) P r h streams))
       Kept
 
   abbrev filling : Lent → Held → List ℕ → Verdict → Step ℕ Lent

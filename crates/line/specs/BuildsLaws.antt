@@ -9,7 +9,7 @@ use borrow.Author.Tests.{eq-eqb, eqb-false}
 use lib.ListN.{length, drop, getD, replicate}
 use Rattle.scans.specs.Each.{clash}
 use Rattle.numbers.specs.Circle.{onCircle}
-use Rattle.numbers.specs.Numbering.{ring, line, on, before, far, key}
+use Rattle.numbers.specs.Numbering.{line, rings, on, before, far, key}
 use Rattle.numbers.specs.Profile.{Profile, rail, isAgreed}
 use Rattle.numbers.specs.Judgement.{judged}
 use Rattle.numbers.specs.Keeping as keeping
@@ -19,7 +19,7 @@ use Rattle.numbers.specs.Blocks.{runs, laidOut, blocksOf}
 use Rattle.octets.specs.Bytes.{laid}
 use Rattle.holding.specs.declared.held.Chunk.{Chunk}
 use Rattle.holding.specs.Held.{holds}
-use Rattle.holding.specs.Message.{isOfOne, continues, follow, isLeftEnd, isExpected, opens, better, chosen}
+use Rattle.holding.specs.Message.{isOfOne, continues, follow, isLeftEnd, isDueAt, isExpected, opens, better, chosen}
 use Rattle.holding.specs.Taking as taking
 use Rattle.holding.specs.Taking.{advanced, took, written}
 use Rattle.delivery.specs.declared.acknowledging.Sack.{Sack}
@@ -74,7 +74,7 @@ one = calls (comes first ∷ (sack ∷ [])) ((first, omega arith, refl, refl, om
 
 -- whatever it refuses them with, and whatever it keeps: the next chunk is to be held
 pub refuses-all : (R : Receiver) → ((streams : ℕ) (s : R .State) (c : Chunk) (bytes : List ℕ) → R .arrive streams s c bytes .answer ≡ 0 → ⊥) → Demand3 R → ⊥
-unfolding none seen fresh keeping.fresh before on far onCircle judged offsetOf isCome settled marked listed keeping.told runs laidOut blocksOf laid holds isOfOne continues follow isLeftEnd isExpected opens key better chosen advanced took written isLow lowOf taken isRepeat isWedged judgementOf contradicts contradictsNext clashes isContradicted verdictOf noted passed arrival.kept arrived areaAfter sackOf acknowledging.told acknowledged demand.after
+unfolding none seen fresh keeping.fresh before on far onCircle judged offsetOf isCome settled marked listed keeping.told runs laidOut blocksOf laid holds isOfOne continues follow isLeftEnd isDueAt isExpected opens key better chosen advanced took written isLow lowOf taken isRepeat isWedged judgementOf contradicts contradictsNext clashes isContradicted verdictOf noted passed arrival.kept arrived areaAfter sackOf acknowledging.told acknowledged demand.after
 refuses-all R f d = f _ _ _ _ (d .progress none first refl (omega arith) (omega arith) (omega arith) .0)
 
 pub refusing-false : (x : ℕ) → (x ≡ 0 → ⊥) → Demand3 (atRail (λ n m P. refusing n m P x)) → ⊥
@@ -82,12 +82,12 @@ refusing-false x f = refuses-all (atRail (λ n m P. refusing n m P x)) (λ strea
 
 -- C8, then C9
 two : Premises rail (2 ^ 31)
-unfolding seen fresh keeping.fresh before on far onCircle judged offsetOf isCome settled marked listed keeping.told runs laidOut blocksOf laid holds isOfOne continues follow isLeftEnd isExpected opens key better chosen advanced took written isLow lowOf taken isRepeat isWedged judgementOf contradicts contradictsNext clashes isContradicted verdictOf noted passed arrival.kept arrived areaAfter sackOf acknowledging.told acknowledged
+unfolding seen fresh keeping.fresh before on far onCircle judged offsetOf isCome settled marked listed keeping.told runs laidOut blocksOf laid holds isOfOne continues follow isLeftEnd isDueAt isExpected opens key better chosen advanced took written isLow lowOf taken isRepeat isWedged judgementOf contradicts contradictsNext clashes isContradicted verdictOf noted passed arrival.kept arrived areaAfter sackOf acknowledging.told acknowledged
 two = calls (comes (first + 1) ∷ (sack ∷ (comes first ∷ (sack ∷ [])))) ((first + 1, omega arith, refl, refl, omega arith), ((first, omega arith, refl, refl, omega arith), tt))
 
 -- whatever it tells
 pub never-varies : (R : Receiver) → ((s t : R .State) → R .sack s .answer ≡ R .sack t .answer) → Demand3 R → ⊥
-unfolding two seen fresh keeping.fresh before on far onCircle judged offsetOf isCome settled marked listed keeping.told runs laidOut blocksOf laid holds isOfOne continues follow isLeftEnd isExpected opens key better chosen advanced took written isLow lowOf taken isRepeat isWedged judgementOf contradicts contradictsNext clashes isContradicted verdictOf noted passed arrival.kept arrived areaAfter sackOf acknowledging.told acknowledged
+unfolding two seen fresh keeping.fresh before on far onCircle judged offsetOf isCome settled marked listed keeping.told runs laidOut blocksOf laid holds isOfOne continues follow isLeftEnd isDueAt isExpected opens key better chosen advanced took written isLow lowOf taken isRepeat isWedged judgementOf contradicts contradictsNext clashes isContradicted verdictOf noted passed arrival.kept arrived areaAfter sackOf acknowledging.told acknowledged
 never-varies R f d =
     eqb-false 4294967294 0 refl (sym (ap (at 1) (d .agrees two)) ∙ (ap (λ (s : Sack). s .point .0) (f _ _) ∙ ap (at 3) (d .agrees two)))
 
@@ -96,35 +96,35 @@ unvarying-false s = never-varies (atRail (λ n m P. unvarying n m P s)) (λ x y.
 
 -- the next chunk takes no place
 pub keeps-nothing : Demand3 (atRail keepsNothing) → ⊥
-unfolding demand.after none seen fresh keeping.fresh before on far onCircle judged offsetOf isCome settled marked listed keeping.told runs laidOut blocksOf laid holds isOfOne continues follow isLeftEnd isExpected opens key better chosen advanced took written isLow lowOf taken isRepeat isWedged judgementOf contradicts contradictsNext clashes isContradicted verdictOf noted passed arrival.kept arrived areaAfter sackOf acknowledging.told acknowledged
+unfolding demand.after none seen fresh keeping.fresh before on far onCircle judged offsetOf isCome settled marked listed keeping.told runs laidOut blocksOf laid holds isOfOne continues follow isLeftEnd isDueAt isExpected opens key better chosen advanced took written isLow lowOf taken isRepeat isWedged judgementOf contradicts contradictsNext clashes isContradicted verdictOf noted passed arrival.kept arrived areaAfter sackOf acknowledging.told acknowledged
 keeps-nothing d = eqb-false (65536 + 512) 65536 refl (d .progress none first refl (omega arith) (omega arith) (omega arith) .1)
 
 -- the SACK's point lies 128 too far
 pub acknowledges-all : Demand3 (atRail acknowledgesAll) → ⊥
-unfolding one seen fresh keeping.fresh before on far onCircle judged offsetOf isCome settled marked listed keeping.told runs laidOut blocksOf laid holds isOfOne continues follow isLeftEnd isExpected opens key better chosen advanced took written isLow lowOf taken isRepeat isWedged judgementOf contradicts contradictsNext clashes isContradicted verdictOf noted passed arrival.kept arrived areaAfter sackOf acknowledging.told acknowledged
+unfolding one seen fresh keeping.fresh before on far onCircle judged offsetOf isCome settled marked listed keeping.told runs laidOut blocksOf laid holds isOfOne continues follow isLeftEnd isDueAt isExpected opens key better chosen advanced took written isLow lowOf taken isRepeat isWedged judgementOf contradicts contradictsNext clashes isContradicted verdictOf noted passed arrival.kept arrived areaAfter sackOf acknowledging.told acknowledged
 acknowledges-all d = eqb-false 127 4294967295 refl (ap (at 1) (d .agrees one))
 
 -- TSN 0 behind 4,294,967,294
 pub plain-tsn : Demand3 (atRail plainTsn) → ⊥
-unfolding two seen fresh keeping.fresh before on far onCircle judged offsetOf isCome settled marked listed keeping.told runs laidOut blocksOf laid holds isOfOne continues follow isLeftEnd isExpected opens key better chosen advanced took written isLow lowOf taken isRepeat isWedged judgementOf contradicts contradictsNext clashes isContradicted verdictOf noted passed arrival.kept arrived areaAfter sackOf acknowledging.told acknowledged
+unfolding two seen fresh keeping.fresh before on far onCircle judged offsetOf isCome settled marked listed keeping.told runs laidOut blocksOf laid holds isOfOne continues follow isLeftEnd isDueAt isExpected opens key better chosen advanced took written isLow lowOf taken isRepeat isWedged judgementOf contradicts contradictsNext clashes isContradicted verdictOf noted passed arrival.kept arrived areaAfter sackOf acknowledging.told acknowledged
 plain-tsn d = eqb-false 11 0 refl (ap (at 0) (d .agrees two))
 
 -- an unordered message above a hole is taken, and its chunk comes again
 again : Premises rail (2 ^ 31)
-unfolding seen fresh keeping.fresh before on far onCircle judged offsetOf isCome settled marked listed keeping.told runs laidOut blocksOf laid holds isOfOne continues follow isLeftEnd isExpected opens key better chosen advanced took written isLow lowOf taken isRepeat isWedged judgementOf contradicts contradictsNext clashes isContradicted verdictOf noted passed arrival.kept arrived areaAfter sackOf acknowledging.told acknowledged
+unfolding seen fresh keeping.fresh before on far onCircle judged offsetOf isCome settled marked listed keeping.told runs laidOut blocksOf laid holds isOfOne continues follow isLeftEnd isDueAt isExpected opens key better chosen advanced took written isLow lowOf taken isRepeat isWedged judgementOf contradicts contradictsNext clashes isContradicted verdictOf noted passed arrival.kept arrived areaAfter sackOf acknowledging.told acknowledged
 again = calls (comes (first + 2) ∷ (take out ∷ (comes (first + 2) ∷ []))) ((first + 2, omega arith, refl, refl, omega arith), ((first + 2, omega arith, refl, refl, omega arith), tt))
 
 pub frees-taken : Demand3 (atRail freesTaken) → ⊥
-unfolding again seen fresh keeping.fresh before on far onCircle judged offsetOf isCome settled marked listed keeping.told runs laidOut blocksOf laid holds isOfOne continues follow isLeftEnd isExpected opens key better chosen advanced took written isLow lowOf taken isRepeat isWedged judgementOf contradicts contradictsNext clashes isContradicted verdictOf noted passed arrival.kept arrived areaAfter sackOf acknowledging.told acknowledged
+unfolding again seen fresh keeping.fresh before on far onCircle judged offsetOf isCome settled marked listed keeping.told runs laidOut blocksOf laid holds isOfOne continues follow isLeftEnd isDueAt isExpected opens key better chosen advanced took written isLow lowOf taken isRepeat isWedged judgementOf contradicts contradictsNext clashes isContradicted verdictOf noted passed arrival.kept arrived areaAfter sackOf acknowledging.told acknowledged
 frees-taken d = eqb-false 0 11 refl (ap (at 2) (d .agrees again))
 
 -- with one chunk to be taken, the 128th above the point
 above : Premises rail (2 ^ 31)
-unfolding seen fresh keeping.fresh before on far onCircle judged offsetOf isCome settled marked listed keeping.told runs laidOut blocksOf laid holds isOfOne continues follow isLeftEnd isExpected opens key better chosen advanced took written isLow lowOf taken isRepeat isWedged judgementOf contradicts contradictsNext clashes isContradicted verdictOf noted passed arrival.kept arrived areaAfter sackOf acknowledging.told acknowledged
+unfolding seen fresh keeping.fresh before on far onCircle judged offsetOf isCome settled marked listed keeping.told runs laidOut blocksOf laid holds isOfOne continues follow isLeftEnd isDueAt isExpected opens key better chosen advanced took written isLow lowOf taken isRepeat isWedged judgementOf contradicts contradictsNext clashes isContradicted verdictOf noted passed arrival.kept arrived areaAfter sackOf acknowledging.told acknowledged
 above = calls (comes first ∷ (comes (first + 128) ∷ [])) ((first, omega arith, refl, refl, omega arith), ((first + 128, omega arith, refl, refl, omega arith), tt))
 
 pub fills-above : Demand3 (atRail fillsAbove) → ⊥
-unfolding above seen fresh keeping.fresh before on far onCircle judged offsetOf isCome settled marked listed keeping.told runs laidOut blocksOf laid holds isOfOne continues follow isLeftEnd isExpected opens key better chosen advanced took written isLow lowOf taken isRepeat isWedged judgementOf contradicts contradictsNext clashes isContradicted verdictOf noted passed arrival.kept arrived areaAfter sackOf acknowledging.told acknowledged
+unfolding above seen fresh keeping.fresh before on far onCircle judged offsetOf isCome settled marked listed keeping.told runs laidOut blocksOf laid holds isOfOne continues follow isLeftEnd isDueAt isExpected opens key better chosen advanced took written isLow lowOf taken isRepeat isWedged judgementOf contradicts contradictsNext clashes isContradicted verdictOf noted passed arrival.kept arrived areaAfter sackOf acknowledging.told acknowledged
 fills-above d = eqb-false 0 13 refl (ap (at 1) (d .agrees above))
 
 -- ---- the harm that they do, which the line receiver's rules are not asked for; with few places of two bytes, on small circles
@@ -153,21 +153,21 @@ abbrev small : Profile
 small = record { places = 2; streams = 1; payload = 2; listed = 1 }
 
 -- ours meets the demand there
-pub small-right : Demand small 8 8 (over (ring 16) (ring 16) small)
+pub small-right : Demand small 8 8 (over (rings 16 16) small)
 small-right = demanded small 8 8 (omega arith) (omega arith)
 
 -- "so that the missing chunk finds none": 16 is to be taken, 18 comes; then 17 takes no place
 hole : Premises small 8
-unfolding seen fresh keeping.fresh before on far onCircle judged offsetOf isCome settled marked listed keeping.told runs laidOut blocksOf laid holds isOfOne continues follow isLeftEnd isExpected opens key better chosen advanced took written isLow lowOf taken isRepeat isWedged judgementOf contradicts contradictsNext clashes isContradicted verdictOf noted passed arrival.kept arrived areaAfter sackOf acknowledging.told acknowledged
+unfolding seen fresh keeping.fresh before on far onCircle judged offsetOf isCome settled marked listed keeping.told runs laidOut blocksOf laid holds isOfOne continues follow isLeftEnd isDueAt isExpected opens key better chosen advanced took written isLow lowOf taken isRepeat isWedged judgementOf contradicts contradictsNext clashes isContradicted verdictOf noted passed arrival.kept arrived areaAfter sackOf acknowledging.told acknowledged
 hole = callsIn small refl 8 16 (omega arith) (arriving 16 16 16 ∷ (arriving 16 16 18 ∷ [])) ((16, omega arith, refl, refl, omega arith), ((18, omega arith, refl, refl, omega arith), tt))
 
 pub missing-finds-none : Demand small 8 8 (fillsAbove 16 16 small) → ⊥
-unfolding hole demand.after seen fresh keeping.fresh before on far onCircle judged offsetOf isCome settled marked listed keeping.told runs laidOut blocksOf laid holds isOfOne continues follow isLeftEnd isExpected opens key better chosen advanced took written isLow lowOf taken isRepeat isWedged judgementOf contradicts contradictsNext clashes isContradicted verdictOf noted passed arrival.kept arrived areaAfter sackOf acknowledging.told acknowledged
+unfolding hole demand.after seen fresh keeping.fresh before on far onCircle judged offsetOf isCome settled marked listed keeping.told runs laidOut blocksOf laid holds isOfOne continues follow isLeftEnd isDueAt isExpected opens key better chosen advanced took written isLow lowOf taken isRepeat isWedged judgementOf contradicts contradictsNext clashes isContradicted verdictOf noted passed arrival.kept arrived areaAfter sackOf acknowledging.told acknowledged
 missing-finds-none d = eqb-false 2 0 refl (d .progress hole 17 refl (omega arith) (omega arith) (omega arith) .1)
 
 -- "so that a repeat is delivered again": 17 is taken above the hole at 16, comes again and is taken again
 repeat : Premises small 8
-unfolding seen fresh keeping.fresh before on far onCircle judged offsetOf isCome settled marked listed keeping.told runs laidOut blocksOf laid holds isOfOne continues follow isLeftEnd isExpected opens key better chosen advanced took written isLow lowOf taken isRepeat isWedged judgementOf contradicts contradictsNext clashes isContradicted verdictOf noted passed arrival.kept arrived areaAfter sackOf acknowledging.told acknowledged
+unfolding seen fresh keeping.fresh before on far onCircle judged offsetOf isCome settled marked listed keeping.told runs laidOut blocksOf laid holds isOfOne continues follow isLeftEnd isDueAt isExpected opens key better chosen advanced took written isLow lowOf taken isRepeat isWedged judgementOf contradicts contradictsNext clashes isContradicted verdictOf noted passed arrival.kept arrived areaAfter sackOf acknowledging.told acknowledged
 repeat = callsIn small refl 8 16 (omega arith) (arriving 16 16 17 ∷ (take out ∷ (arriving 16 16 17 ∷ (take out ∷ [])))) ((17, omega arith, refl, refl, omega arith), ((17, omega arith, refl, refl, omega arith), tt))
 
 -- a message with byte 1 ahead is that of number 17
@@ -188,20 +188,20 @@ not-twice (s ∷ (t ∷ [])) g h a b w d =
 not-twice (s ∷ (t ∷ (u ∷ index))) g h a b w d = w .1 .1
 
 pub repeat-delivered : Demand small 8 8 (freesTaken 16 16 small) → ⊥
-unfolding repeat seen fresh keeping.fresh before on far onCircle judged offsetOf isCome settled marked listed keeping.told runs laidOut blocksOf laid holds isOfOne continues follow isLeftEnd isExpected opens key better chosen advanced took written isLow lowOf taken isRepeat isWedged judgementOf contradicts contradictsNext clashes isContradicted verdictOf noted passed arrival.kept arrived areaAfter sackOf acknowledging.told acknowledged
+unfolding repeat seen fresh keeping.fresh before on far onCircle judged offsetOf isCome settled marked listed keeping.told runs laidOut blocksOf laid holds isOfOne continues follow isLeftEnd isDueAt isExpected opens key better chosen advanced took written isLow lowOf taken isRepeat isWedged judgementOf contradicts contradictsNext clashes isContradicted verdictOf noted passed arrival.kept arrived areaAfter sackOf acknowledging.told acknowledged
 repeat-delivered d = let w = d .messages repeat (omega arith) in not-twice (w .index) _ _ refl refl (w .genuine) (w .different)
 
 -- one place, circles of 8: the ordered message that stands behind eight others has SSN 0 again
 abbrev tiny : Profile
 tiny = record { places = 1; streams = 1; payload = 2; listed = 1 }
 
-pub tiny-right : Demand tiny 4 4 (over (ring 8) (ring 8) tiny)
+pub tiny-right : Demand tiny 4 4 (over (rings 8 8) tiny)
 tiny-right = demanded tiny 4 4 (omega arith) (omega arith)
 
 nine : Premises tiny 4
-unfolding seen fresh keeping.fresh before on far onCircle judged offsetOf isCome settled marked listed keeping.told runs laidOut blocksOf laid holds isOfOne continues follow isLeftEnd isExpected opens key better chosen advanced took written isLow lowOf taken isRepeat isWedged judgementOf contradicts contradictsNext clashes isContradicted verdictOf noted passed arrival.kept arrived areaAfter sackOf acknowledging.told acknowledged
+unfolding seen fresh keeping.fresh before on far onCircle judged offsetOf isCome settled marked listed keeping.told runs laidOut blocksOf laid holds isOfOne continues follow isLeftEnd isDueAt isExpected opens key better chosen advanced took written isLow lowOf taken isRepeat isWedged judgementOf contradicts contradictsNext clashes isContradicted verdictOf noted passed arrival.kept arrived areaAfter sackOf acknowledging.told acknowledged
 nine = callsIn tiny refl 4 99 (omega arith) (arriving 8 99 8 ∷ (take out ∷ (arriving 8 99 9 ∷ (take out ∷ (arriving 8 99 10 ∷ (take out ∷ (arriving 8 99 11 ∷ (take out ∷ (arriving 8 99 12 ∷ (take out ∷ (arriving 8 99 13 ∷ (take out ∷ (arriving 8 99 14 ∷ (take out ∷ (arriving 8 99 15 ∷ (take out ∷ (arriving 8 99 16 ∷ (take out ∷ [])))))))))))))))))) ((8, omega arith, refl, refl, omega arith), ((9, omega arith, refl, refl, omega arith), ((10, omega arith, refl, refl, omega arith), ((11, omega arith, refl, refl, omega arith), ((12, omega arith, refl, refl, omega arith), ((13, omega arith, refl, refl, omega arith), ((14, omega arith, refl, refl, omega arith), ((15, omega arith, refl, refl, omega arith), ((16, omega arith, refl, refl, omega arith), tt)))))))))
 
 pub plain-ssn : Demand tiny 4 4 (plainSsn 8 8 tiny) → ⊥
-unfolding nine seen fresh keeping.fresh before on far onCircle judged offsetOf isCome settled marked listed keeping.told runs laidOut blocksOf laid holds isOfOne continues follow isLeftEnd isExpected opens key better chosen advanced took written isLow lowOf taken isRepeat isWedged judgementOf contradicts contradictsNext clashes isContradicted verdictOf noted passed arrival.kept arrived areaAfter sackOf acknowledging.told acknowledged
+unfolding nine seen fresh keeping.fresh before on far onCircle judged offsetOf isCome settled marked listed keeping.told runs laidOut blocksOf laid holds isOfOne continues follow isLeftEnd isDueAt isExpected opens key better chosen advanced took written isLow lowOf taken isRepeat isWedged judgementOf contradicts contradictsNext clashes isContradicted verdictOf noted passed arrival.kept arrived areaAfter sackOf acknowledging.told acknowledged
 plain-ssn d = eqb-false 17 0 refl (ap (at 17) (d .agrees nine))

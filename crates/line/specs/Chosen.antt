@@ -19,7 +19,7 @@ use Rattle.scans.specs.declared.Found.the-variants.{At, Nothing}
 use Rattle.scans.specs.Scan.{pick, findFrom, foldFrom}
 use Rattle.scans.specs.Each.{All, all-at, clash, found-at}
 use Rattle.numbers.specs.declared.circle.Ssn.{Ssn}
-use Rattle.numbers.specs.Numbering.{line, on, key, key-line}
+use Rattle.numbers.specs.Numbering.{line, lines, on, key, key-line}
 use Rattle.numbers.specs.Profile.{Profile}
 use Rattle.holding.specs.declared.held.Chunk.{Chunk}
 use Rattle.holding.specs.declared.held.Held.{Held}
@@ -190,7 +190,7 @@ spanning-some chunk hs f (i ∷ (j ∷ is)) s = omega arith
 
 -- a whole message that can be taken begins at place i
 abbrev pub Ready : Profile → List Held → List Ssn → ℕ → List ℕ → Type 0
-Ready P hs next i is = (opens P next (getD hs i noHeld) ≡ true) × (follow line hs (getD hs i noHeld) (P .places) i (getD hs i noHeld) ≡ whole is)
+Ready P hs next i is = (opens line P next (getD hs i noHeld) ≡ true) × (follow line hs (getD hs i noHeld) (P .places) i (getD hs i noHeld) ≡ whole is)
 
 -- what is chosen is such a message
 abbrev pub Chosen : Profile → List Held → List Ssn → Choice → Type 0
@@ -362,11 +362,11 @@ module _ (P : Profile) (base streams : ℕ) (chunk : ℕ → Chunk) (size : ℕ 
       abbrev Won : Choice → Type 0
       Won = Chosen P hs next
 
-      better-won : (c : Choice) (i : ℕ) → Won c → Won (better line P hs next p c i (at i))
+      better-won : (c : Choice) (i : ℕ) → Won c → Won (better lines P hs next p c i (at i))
       unfolding better
-      better-won c i v = go (opens P next (at i)) refl (follow line hs (at i) (P .places) i (at i)) refl
+      better-won c i v = go (opens line P next (at i)) refl (follow line hs (at i) (P .places) i (at i)) refl
         where
-          go : (t : Bool) → opens P next (at i) ≡ t → (r : Run) → follow line hs (at i) (P .places) i (at i) ≡ r
+          go : (t : Bool) → opens line P next (at i) ≡ t → (r : Run) → follow line hs (at i) (P .places) i (at i) ≡ r
               → Won (pick t (ranked c (key line p (at i .tsn .0)) r) c)
           go false e r f = v
           go true e broken f = v
@@ -380,10 +380,10 @@ module _ (P : Profile) (base streams : ℕ) (chunk : ℕ → Chunk) (size : ℕ 
                   least true = v
                   least false = (i, key-line p (at i .tsn .0), (e, f))
 
-      better-keeps : (t : ℕ) (c : Choice) (i : ℕ) (x : Held) → AtMost t c → AtMost t (better line P hs next p c i x)
+      better-keeps : (t : ℕ) (c : Choice) (i : ℕ) (x : Held) → AtMost t c → AtMost t (better lines P hs next p c i x)
       unfolding better
       better-keeps t none i x v = absurd v
-      better-keeps t (one l js) i x v = go (opens P next x) (follow line hs x (P .places) i x)
+      better-keeps t (one l js) i x v = go (opens line P next x) (follow line hs x (P .places) i x)
         where
           go : (b : Bool) (r : Run) → AtMost t (pick b (ranked (one l js) (key line p (x .tsn .0)) r) (one l js))
           go false r = v
@@ -394,7 +394,7 @@ module _ (P : Profile) (base streams : ℕ) (chunk : ℕ → Chunk) (size : ℕ 
               least true e = v
               least false e = omega (arith, leb-false l (key line p (x .tsn .0)) e)
 
-      better-least : (c : Choice) (i : ℕ) (is : List ℕ) → Whole i is → AtMost (at i .tsn .0) (better line P hs next p c i (at i))
+      better-least : (c : Choice) (i : ℕ) (is : List ℕ) → Whole i is → AtMost (at i .tsn .0) (better lines P hs next p c i (at i))
       unfolding better
       better-least c i is w = rw (w .0, w .1) (rank c)
         where
@@ -415,30 +415,30 @@ module _ (P : Profile) (base streams : ℕ) (chunk : ℕ → Chunk) (size : ℕ 
       here-zero : (i : ℕ) (x : Held) (xs : List Held) → Here i (x ∷ xs) → x ≡ at i
       here-zero i x xs a = rw (add-zero i) at (a 0)
 
-      fold-won : (c : Choice) (i : ℕ) (xs : List Held) → Here i xs → Won c → Won (foldFrom (better line P hs next p) c i xs)
+      fold-won : (c : Choice) (i : ℕ) (xs : List Held) → Here i xs → Won c → Won (foldFrom (better lines P hs next p) c i xs)
       fold-won c i [] a v = v
       fold-won c i (x ∷ xs) a v =
-          fold-won (better line P hs next p c i x) (i + 1) xs (here-suc i x xs a)
-          (subst (λ (y : Held). Won (better line P hs next p c i y)) (sym (here-zero i x xs a)) (better-won c i v))
+          fold-won (better lines P hs next p c i x) (i + 1) xs (here-suc i x xs a)
+          (subst (λ (y : Held). Won (better lines P hs next p c i y)) (sym (here-zero i x xs a)) (better-won c i v))
 
-      fold-keeps : (t : ℕ) (c : Choice) (i : ℕ) (xs : List Held) → AtMost t c → AtMost t (foldFrom (better line P hs next p) c i xs)
+      fold-keeps : (t : ℕ) (c : Choice) (i : ℕ) (xs : List Held) → AtMost t c → AtMost t (foldFrom (better lines P hs next p) c i xs)
       fold-keeps t c i [] v = v
-      fold-keeps t c i (x ∷ xs) v = fold-keeps t (better line P hs next p c i x) (i + 1) xs (better-keeps t c i x v)
+      fold-keeps t c i (x ∷ xs) v = fold-keeps t (better lines P hs next p c i x) (i + 1) xs (better-keeps t c i x v)
 
       fold-least : (c : Choice) (i : ℕ) (xs : List Held) → Here i xs → (j : ℕ) (is : List ℕ) → i ≤ j → j < i + length xs → Whole j is
-          → AtMost (at j .tsn .0) (foldFrom (better line P hs next p) c i xs)
+          → AtMost (at j .tsn .0) (foldFrom (better lines P hs next p) c i xs)
       fold-least c i [] a j is l m w = absurd (omega arith)
       fold-least c i (x ∷ xs) a j is l m w =
-          go (ℕ-discrete i j) (fold-least (better line P hs next p c i x) (i + 1) xs (here-suc i x xs a) j is)
+          go (ℕ-discrete i j) (fold-least (better lines P hs next p c i x) (i + 1) xs (here-suc i x xs a) j is)
         where
           go : Dec (i ≡ j)
-              → (i + 1 ≤ j → j < i + 1 + length xs → Whole j is → AtMost (at j .tsn .0) (foldFrom (better line P hs next p) (better line P hs next p c i x) (i + 1) xs))
-              → AtMost (at j .tsn .0) (foldFrom (better line P hs next p) (better line P hs next p c i x) (i + 1) xs)
+              → (i + 1 ≤ j → j < i + 1 + length xs → Whole j is → AtMost (at j .tsn .0) (foldFrom (better lines P hs next p) (better lines P hs next p c i x) (i + 1) xs))
+              → AtMost (at j .tsn .0) (foldFrom (better lines P hs next p) (better lines P hs next p c i x) (i + 1) xs)
           go (no n) ih = ih (omega arith) (omega arith) w
-          go (yes e) ih = fold-keeps (at j .tsn .0) (better line P hs next p c i x) (i + 1) xs (rw (here-zero i x xs a, e) (better-least c j is w))
+          go (yes e) ih = fold-keeps (at j .tsn .0) (better lines P hs next p c i x) (i + 1) xs (rw (here-zero i x xs a, e) (better-least c j is w))
 
-      pub chosen-won : Won (foldFrom (better line P hs next p) none 0 hs)
+      pub chosen-won : Won (foldFrom (better lines P hs next p) none 0 hs)
       chosen-won = fold-won none 0 hs (λ j. let e : 0 + j ≡ j = omega arith in rw e) tt
 
-      pub chosen-least : (j : ℕ) (is : List ℕ) → j < length hs → Whole j is → AtMost (at j .tsn .0) (foldFrom (better line P hs next p) none 0 hs)
+      pub chosen-least : (j : ℕ) (is : List ℕ) → j < length hs → Whole j is → AtMost (at j .tsn .0) (foldFrom (better lines P hs next p) none 0 hs)
       chosen-least j is l w = fold-least none 0 hs (λ j. let e : 0 + j ≡ j = omega arith in rw e) j is (omega arith) (omega arith) w

@@ -7,7 +7,7 @@ use lib.ListN.{length, drop}
 use lib.Dec.{eqb}
 use Rattle.scans.specs.Scan.{pick}
 use Rattle.numbers.specs.declared.circle.Tsn.{Tsn}
-use Rattle.numbers.specs.Numbering.{Numbering, ring, line}
+use Rattle.numbers.specs.Numbering.{Numberings, line, circles, lines}
 use Rattle.numbers.specs.Profile.{Profile, rail}
 use Rattle.numbers.specs.KeepingRoom.{Distinct}
 use Rattle.holding.specs.declared.held.Chunk.{Chunk}
@@ -68,32 +68,32 @@ after R streams s (arrive c bytes ∷ es) = after R streams (R .arrive streams s
 after R streams s (take out ∷ es) = after R streams (R .take s out .left) es
 after R streams s (sack ∷ es) = after R streams (R .sack s .left) es
 
--- the receiver of the rules that the code's promises cite (`turn`), over the numberings T of chunks and S of the ordered messages of a stream
-abbrev pub over : Numbering → Numbering → Profile → Receiver
-over T S P = record {
+-- the receiver of the rules that the code's promises cite (`turn`), over the numberings N of chunks and of the ordered messages of a stream
+abbrev pub over : Numberings → Profile → Receiver
+over N P = record {
   State = Lent;
-  begun = start T P;
+  begun = start (N .tsn) P;
   arrive = λ streams l c bytes. record {
-    answer = numberOf (arrived T P (l .receiving) (asHeld c (length bytes)) streams .verdict);
-    left = turn T S P streams l (arrive c bytes) .lent;
+    answer = numberOf (arrived N P (l .receiving) (asHeld c (length bytes)) streams .verdict);
+    left = turn N P streams l (arrive c bytes) .lent;
   };
   take = λ l out. record {
     answer = record {
-      answer = taken T S P (l .receiving) (length out) .answer;
-      output = written T P (l .receiving .held) (l .receiving .next) (l .receiving .keeping .point .0) (l .area) out;
+      answer = taken N P (l .receiving) (length out) .answer;
+      output = written N P (l .receiving .held) (l .receiving .next) (l .receiving .keeping .point .0) (l .area) out;
     };
-    left = turn T S P 0 l (take out) .lent;
+    left = turn N P 0 l (take out) .lent;
   };
-  sack = λ l. record { answer = acknowledged P (l .receiving) .sack; left = turn T S P 0 l sack .lent };
+  sack = λ l. record { answer = acknowledged P (l .receiving) .sack; left = turn N P 0 l sack .lent };
 }
 
 -- the line receiver
 abbrev pub onLine : Profile → Receiver
-onLine P = over line line P
+onLine P = over lines P
 
 -- ours
 abbrev pub ours : Receiver
-ours = over (ring (2 ^ 32)) (ring (2 ^ 16)) rail
+ours = over circles rail
 
 -- what the host of the line receiver sees, as the circles have it
 abbrev pub reduceSeen : ℕ → ℕ → Seen → Seen

@@ -17,7 +17,7 @@ use Rattle.scans.specs.Each.{found-at, after-not}
 use Rattle.numbers.specs.declared.circle.Tsn.{Tsn}
 use Rattle.numbers.specs.declared.keeping.Keeping.{Keeping}
 use Rattle.numbers.specs.declared.circle.Judgement.the-variants.{AheadWithin}
-use Rattle.numbers.specs.Numbering.{Numbering, ring, line, far}
+use Rattle.numbers.specs.Numbering.{Numberings, ring, line, rings, lines, far}
 use Rattle.numbers.specs.Judgement.{judged}
 use Rattle.numbers.specs.Profile.{Profile, rail}
 use Rattle.numbers.specs.Keeping as keeping
@@ -94,7 +94,7 @@ module _ (P : Profile) (h k streams : ℕ) where
   M = k + k
 
   abbrev R : Receiver
-  R = over (ring N) (ring M) P
+  R = over (rings N M) P
 
   seen-along : (es : List Event) (l : Lent) → NearAlong P h k streams l es
       → seen R streams (reduceLent N M l) (map (reduceEvent N M) es) ≡ map (reduceSeen N M) (seen (onLine P) streams l es)
@@ -102,21 +102,21 @@ module _ (P : Profile) (h k streams : ℕ) where
   seen-along [] l w = refl
   seen-along (arrive c bytes ∷ es) l w =
       ap (λ (t : Turn). shownAs [] (t .answer) ∷ seen R streams (t .lent) (map (reduceEvent N M) es)) (arrive-alike P h k streams l (w .0) c bytes (w .1))
-      ∙ ap (λ (zs : List Seen). shownAs [] (turn line line P streams l (arrive c bytes) .answer) ∷ zs) (seen-along es (turn line line P streams l (arrive c bytes) .lent) (w .2))
+      ∙ ap (λ (zs : List Seen). shownAs [] (turn lines P streams l (arrive c bytes) .answer) ∷ zs) (seen-along es (turn lines P streams l (arrive c bytes) .lent) (w .2))
   seen-along (take out ∷ es) l w =
       ap (λ (t : Turn). shownAs out (t .answer) ∷ seen R streams (t .lent) (map (reduceEvent N M) es)) (take-alike P h k streams l (w .0) out)
-      ∙ ap (λ (zs : List Seen). shownAs out (reduceAnswer N M (turn line line P streams l (take out) .answer)) ∷ zs) (seen-along es (turn line line P streams l (take out) .lent) (w .1))
+      ∙ ap (λ (zs : List Seen). shownAs out (reduceAnswer N M (turn lines P streams l (take out) .answer)) ∷ zs) (seen-along es (turn lines P streams l (take out) .lent) (w .1))
   seen-along (sack ∷ es) l w =
       ap (λ (t : Turn). shownAs [] (t .answer) ∷ seen R streams (t .lent) (map (reduceEvent N M) es)) (sack-alike P h k streams l)
-      ∙ ap (λ (zs : List Seen). shownAs [] (reduceAnswer N M (turn line line P streams l sack .answer)) ∷ zs) (seen-along es (turn line line P streams l sack .lent) w)
+      ∙ ap (λ (zs : List Seen). shownAs [] (reduceAnswer N M (turn lines P streams l sack .answer)) ∷ zs) (seen-along es (turn lines P streams l sack .lent) w)
 
-module _ (T S : Numbering) (P : Profile) (streams : ℕ) where
-  after-is : (es : List Event) (l : Lent) → demand.after (over T S P) streams l es ≡ finally T S P streams l es
+module _ (N : Numberings) (P : Profile) (streams : ℕ) where
+  after-is : (es : List Event) (l : Lent) → demand.after (over N P) streams l es ≡ finally N P streams l es
   unfolding demand.after finally
   after-is [] l = refl
-  after-is (arrive c bytes ∷ es) l = after-is es (turn T S P streams l (arrive c bytes) .lent)
-  after-is (take out ∷ es) l = after-is es (turn T S P streams l (take out) .lent)
-  after-is (sack ∷ es) l = after-is es (turn T S P streams l sack .lent)
+  after-is (arrive c bytes ∷ es) l = after-is es (turn N P streams l (arrive c bytes) .lent)
+  after-is (take out ∷ es) l = after-is es (turn N P streams l (take out) .lent)
+  after-is (sack ∷ es) l = after-is es (turn N P streams l sack .lent)
 
 -- ---- the messages that takes gave
 
@@ -178,19 +178,19 @@ module _ {P : Profile} {base streams : ℕ} {chunk : ℕ → Chunk} (payload : �
 
   indexed : (h : ℕ) (es : List Event) (l : Lent) {gone : ℕ → ℕ} {least : ℕ} → SoundOf P base chunk size (l .receiving) gone least
       → Lodged P payload (l .area) (l .receiving .held) → Fair P h base chunk payload streams l es
-      → Indexed m base chunk payload (given (map (reduceSeen n m) (seen (onLine P) streams l es))) (joinedAll (handedOver P streams l es)) (λ q. orderGiven q (answers line line P streams l es))
+      → Indexed m base chunk payload (given (map (reduceSeen n m) (seen (onLine P) streams l es))) (joinedAll (handedOver P streams l es)) (λ q. orderGiven q (answers lines P streams l es))
   unfolding seen answers
   indexed h [] l s w f = record { index = []; there = tt; once = λ j. omega arith; order = λ q. refl }
   indexed h (arrive c bytes ∷ es) l s w f =
       let x = f .0 in
-      indexed h es (turn line line P streams l (arrive c bytes) .lent) (arrive-sound payload send (l .receiving) s (x .0) (x .1) c bytes (x .2) (x .3))
+      indexed h es (turn lines P streams l (arrive c bytes) .lent) (arrive-sound payload send (l .receiving) s (x .0) (x .1) c bytes (x .2) (x .3))
       (lodged-arrive payload send l w (x .0) (x .1) c bytes (x .2) (x .3) (s .held-long)) (f .1)
   indexed h (take out ∷ es) l s w f =
-      let l' : Lent = turn line line P streams l (take out) .lent in
-      step out (given (map (reduceSeen n m) (seen (onLine P) streams l' es))) (joinedAll (handedOver P streams l' es)) (λ q. orderGiven q (answers line line P streams l' es))
-      (taken line line P (l .receiving) (length out) .answer) _ (handed line P (l .receiving) (length out)) (genuine payload send l s w out)
+      let l' : Lent = turn lines P streams l (take out) .lent in
+      step out (given (map (reduceSeen n m) (seen (onLine P) streams l' es))) (joinedAll (handedOver P streams l' es)) (λ q. orderGiven q (answers lines P streams l' es))
+      (taken lines P (l .receiving) (length out) .answer) _ (handed lines P (l .receiving) (length out)) (genuine payload send l s w out)
       (indexed h es l' (taken-sound send (l .receiving) s (length out) .sound) (lodged-take payload send l w out) f)
-  indexed h (sack ∷ es) l s w f = indexed h es (turn line line P streams l sack .lent) (acknowledged-sound (l .receiving) s) (lodged-sack payload send l w) f
+  indexed h (sack ∷ es) l s w f = indexed h es (turn lines P streams l sack .lent) (acknowledged-sound (l .receiving) s) (lodged-sack payload send l w) f
 
 -- ---- progress
 
@@ -211,14 +211,14 @@ after-bounded P r c Wedged b = b
 after-bounded P r c Far b = b
 after-bounded P r c Clashing b = b
 
-bounded-from : (P : Profile) (streams : ℕ) (es : List Event) (l : Lent) → Bounded P (l .receiving .keeping) → Bounded P (finally line line P streams l es .receiving .keeping)
+bounded-from : (P : Profile) (streams : ℕ) (es : List Event) (l : Lent) → Bounded P (l .receiving .keeping) → Bounded P (finally lines P streams l es .receiving .keeping)
 unfolding finally arrived taken acknowledged told
 bounded-from P streams [] l b = b
 bounded-from P streams (arrive c bytes ∷ es) l b =
-    bounded-from P streams es (turn line line P streams l (arrive c bytes) .lent)
-    (after-bounded P (l .receiving) (asHeld c (length bytes)) (verdictOf line P (l .receiving) (asHeld c (length bytes)) streams) b)
-bounded-from P streams (take out ∷ es) l b = bounded-from P streams es (turn line line P streams l (take out) .lent) b
-bounded-from P streams (sack ∷ es) l b = bounded-from P streams es (turn line line P streams l sack .lent) (told-bounded P (l .receiving .keeping) b)
+    bounded-from P streams es (turn lines P streams l (arrive c bytes) .lent)
+    (after-bounded P (l .receiving) (asHeld c (length bytes)) (verdictOf lines P (l .receiving) (asHeld c (length bytes)) streams) b)
+bounded-from P streams (take out ∷ es) l b = bounded-from P streams es (turn lines P streams l (take out) .lent) b
+bounded-from P streams (sack ∷ es) l b = bounded-from P streams es (turn lines P streams l sack .lent) (told-bounded P (l .receiving .keeping) b)
 
 start-bounded : (P : Profile) (t : Tsn) → Bounded P (fresh line P t .keeping)
 unfolding fresh
@@ -259,19 +259,19 @@ module _ {P : Profile} {base streams : ℕ} {chunk : ℕ → Chunk} {size : ℕ 
       let c : any (holds t) (r .held) ≡ false = count-none (holds t) (r .held) (ap (λ (x : ℕ). count (holds x) (r .held)) (send .number j from) ∙ not-held) in
       rw (a, c)
 
-  not-full : isWedged line P (lowOf line r) (r .held) (r .next) p ≡ false
+  not-full : isWedged lines P (lowOf line r) (r .held) (r .next) p ≡ false
   unfolding isWedged
   not-full = rw (ne-eqb (lowOf line r) (P .places) (λ e. omega arith))
 
   -- the next chunk is answered 0
-  next-kept : verdictOf line P r (asHeld (chunk j) (size j)) streams ≡ Kept
+  next-kept : verdictOf lines P r (asHeld (chunk j) (size j)) streams ≡ Kept
   unfolding verdictOf judgementOf
   next-kept =
       rw
       (le-ltb (size j) 1 some, le-ltb (P .payload) (size j) fits, next-judged p (P .places - lowOf line r) t t-is (omega arith), new, not-full, send .agreed j from, never-contradicted send size (r .held) (s .real) j (size j) from)
 
   -- and takes a place
-  one-less : count isFree (arrived line P r (asHeld (chunk j) (size j)) streams .receiving .held) + 1 ≡ count isFree (r .held)
+  one-less : count isFree (arrived lines P r (asHeld (chunk j) (size j)) streams .receiving .held) + 1 ≡ count isFree (r .held)
   unfolding arrived passed arrival.kept
   one-less =
       ap (λ (v : Verdict). count isFree (after line P r c v .held) + 1) next-kept
@@ -286,10 +286,10 @@ module _ {P : Profile} {base streams : ℕ} {chunk : ℕ → Chunk} {size : ℕ 
           omega
           (arith, count-set isFree noHeld (r .held) i c (omega (arith, find-within isFree (r .held) 0 i e)), ap bit (found-at isFree noHeld (r .held) i e))
 
-  window-less : acknowledged P (arrived line P r (asHeld (chunk j) (size j)) streams .receiving) .sack .window + P .payload ≡ acknowledged P r .sack .window
+  window-less : acknowledged P (arrived lines P r (asHeld (chunk j) (size j)) streams .receiving) .sack .window + P .payload ≡ acknowledged P r .sack .window
   unfolding acknowledged sackOf
   window-less =
-      let a : ℕ = count isFree (arrived line P r (asHeld (chunk j) (size j)) streams .receiving .held) in
+      let a : ℕ = count isFree (arrived lines P r (asHeld (chunk j) (size j)) streams .receiving .held) in
       let e : suc a ≡ count isFree (r .held) = omega (arith, one-less) in
       omega (arith, mul-suc (P .payload) a, ap (λ (x : ℕ). P .payload * x) e)
 
@@ -308,7 +308,7 @@ windowIn (tells s) = s .window
 
 module _ (P : Profile) (h k : ℕ) (wh : Wide P h) (wk : Wide P k) where
   abbrev R' : Receiver
-  R' = over (ring (h + h)) (ring (k + k)) P
+  R' = over (rings (h + h) (k + k)) P
 
   module _ (c : Premises P h) where
     abbrev t' : Tsn
@@ -318,7 +318,7 @@ module _ (P : Profile) (h k : ℕ) (wh : Wide P h) (wk : Wide P k) where
     from' = start line P t' (c .area)
 
     abbrev last : Lent
-    last = finally line line P (c .streams) from' (c .events)
+    last = finally lines P (c .streams) from' (c .events)
 
     positive : 0 < first c
     positive = omega (arith, c .small)
@@ -345,16 +345,16 @@ module _ (P : Profile) (h k : ℕ) (wh : Wide P h) (wk : Wide P k) where
       in-order = λ q. subst (λ (xs : List ℕ). xs ≡ upFrom 0 (length xs)) (sym (i .order q)) (agreement.in-order P h t' positive (c .streams) (c .area) (c .chunk) (c .payload) (c .honest) (c .events) (c .fair) q);
     }
       where
-        i : Indexed (k + k) (first c) (c .chunk) (c .payload) (given (map (reduceSeen (h + h) (k + k)) (lineSeen c))) (joinedAll (handedOver P (c .streams) from' (c .events))) (λ q. orderGiven q (answers line line P (c .streams) from' (c .events)))
+        i : Indexed (k + k) (first c) (c .chunk) (c .payload) (given (map (reduceSeen (h + h) (k + k)) (lineSeen c))) (joinedAll (handedOver P (c .streams) from' (c .events))) (λ q. orderGiven q (answers lines P (c .streams) from' (c .events)))
         i = indexed (c .payload) (c .honest) (h + h) (k + k) h (c .events) from' fresh-sound' (lodged-fresh P (c .payload) (c .area) t' long) (c .fair)
 
     line-last : lineAfter c ≡ last
-    line-last = after-is line line P (c .streams) (c .events) from'
+    line-last = after-is lines P (c .streams) (c .events) from'
 
     host-last : hostAfter c (k + k) R' ≡ reduceLent (h + h) (k + k) last
     host-last =
-        after-is (ring (h + h)) (ring (k + k)) P (c .streams) (map (reduceEvent (h + h) (k + k)) (c .events)) (start (ring (h + h)) P (record { 0 = c .initial }) (c .area))
-        ∙ (ap (λ (x : Tsn). finally (ring (h + h)) (ring (k + k)) P (c .streams) (start (ring (h + h)) P x (c .area)) (map (reduceEvent (h + h) (k + k)) (c .events))) (sym initial-is)
+        after-is (rings (h + h) (k + k)) P (c .streams) (map (reduceEvent (h + h) (k + k)) (c .events)) (start (ring (h + h)) P (record { 0 = c .initial }) (c .area))
+        ∙ (ap (λ (x : Tsn). finally (rings (h + h) (k + k)) P (c .streams) (start (ring (h + h)) P x (c .area)) (map (reduceEvent (h + h) (k + k)) (c .events))) (sym initial-is)
         ∙ agreement.agrees P h t' positive (c .streams) (c .area) (c .chunk) (c .payload) (c .honest) (c .events) (c .fair) k wh wk .1)
 
     -- the chunk of number j is held by a receiver that keeps l
@@ -370,7 +370,7 @@ module _ (P : Profile) (h k : ℕ) (wh : Wide P h) (wk : Wide P k) where
           let b : Bounded P (last .receiving .keeping) = bounded-from P (c .streams) (c .events) from' (start-bounded P t') in
           let e : c .chunk j .tsn .0 ≡ j = c .honest .number j (omega (arith, w .2 .start)) in
           let a = arrive-alike P h k (c .streams) last (near (c .honest) (w .2) h k wh wk) (c .chunk j) (c .payload j) (omega arith) in
-          let l' : Lent = turn line line P (c .streams) last (arrive (c .chunk j) (c .payload j)) .lent in (
+          let l' : Lent = turn lines P (c .streams) last (arrive (c .chunk j) (c .payload j)) .lent in (
             ap (λ (x : Turn). numberIn (x .answer)) a ∙ ap numberOf (next-kept (c .honest) (last .receiving) (w .2) b j next some fits room),
             ap (λ (x : Turn). acknowledged P (x .lent .receiving) .sack .window + P .payload) a
                 ∙ (ap (λ (x : Turn). windowIn (x .answer) + P .payload) (sack-alike P h k (c .streams) l')
@@ -407,7 +407,7 @@ unfolding lowOf
 held-while-free {P} {h} {k} {R} d c j e some fits free =
     let w = sound-from (c .payload) (c .honest) h (c .events) (start line P (record { 0 = first c }) (c .area)) (fresh-sound P (c .chunk) (λ i. length (c .payload i)) (record { 0 = first c }) (omega (arith, c .small))) (c .fair) in
     let a : length (lineAfter c .receiving .held) ≡ P .places
-    = ap (λ (l : Lent). length (l .receiving .held)) (after-is line line P (c .streams) (c .events) (start line P (record { 0 = first c }) (c .area))) ∙ w .2 .held-long in
+    = ap (λ (l : Lent). length (l .receiving .held)) (after-is lines P (c .streams) (c .events) (start line P (record { 0 = first c }) (c .area))) ∙ w .2 .held-long in
     d .progress c j e some fits (omega (arith, low-free (lineAfter c .receiving .keeping) (lineAfter c .receiving .held)))
 
 -- DEMAND 3

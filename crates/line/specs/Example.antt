@@ -16,7 +16,7 @@ use Rattle.scans.specs.Each.{clash}
 use Rattle.numbers.specs.declared.circle.Tsn.{Tsn}
 use Rattle.numbers.specs.declared.keeping.Blocks.{Blocks}
 use Rattle.numbers.specs.Circle.{onCircle}
-use Rattle.numbers.specs.Numbering.{ring, line, on, before, far, key}
+use Rattle.numbers.specs.Numbering.{ring, line, circles, lines, on, before, far, key}
 use Rattle.numbers.specs.Profile.{Profile, rail, isAgreed}
 use Rattle.numbers.specs.Judgement.{judged}
 use Rattle.numbers.specs.Keeping as keeping
@@ -27,7 +27,7 @@ use Rattle.holding.specs.declared.held.Chunk.{Chunk}
 use Rattle.holding.specs.declared.taking.Message.{Message}
 use Rattle.holding.specs.declared.taking.Answer.the-variants.{Taken, Nothing, Short}
 use Rattle.holding.specs.Held.{asHeld, holds}
-use Rattle.holding.specs.Message.{isOfOne, continues, follow, isLeftEnd, isExpected, opens, better, chosen}
+use Rattle.holding.specs.Message.{isOfOne, continues, follow, isLeftEnd, isDueAt, isExpected, opens, better, chosen}
 use Rattle.holding.specs.Taking.{advanced, took, written}
 use Rattle.delivery.specs.declared.arrival.Verdict.the-variants.{Kept, Duplicate}
 use Rattle.delivery.specs.declared.acknowledging.Sack.{Sack}
@@ -125,7 +125,7 @@ events =
     ∷ (take out ∷ (take out ∷ (comes (first + 3) ∷ (take out ∷ (take out ∷ (comes (first + 3) ∷ (sack ∷ [])))))))))))
 
 fair : Fair rail (2 ^ 31) first chunk payload 1 (start line rail initial area) events
-unfolding fresh keeping.fresh before on far judged offsetOf isCome settled marked listed keeping.told holds isOfOne continues follow isLeftEnd isExpected opens key better chosen advanced took isLow lowOf taken isRepeat isWedged judgementOf contradicts contradictsNext clashes isContradicted verdictOf noted passed arrival.kept arrived told acknowledged
+unfolding fresh keeping.fresh before on far judged offsetOf isCome settled marked listed keeping.told holds isOfOne continues follow isLeftEnd isDueAt isExpected opens key better chosen advanced took isLow lowOf taken isRepeat isWedged judgementOf contradicts contradictsNext clashes isContradicted verdictOf noted passed arrival.kept arrived told acknowledged
 fair = (
   (first + 1, omega arith, refl, refl, omega arith),
   ((first, omega arith, refl, refl, omega arith), ((first + 3, omega arith, refl, refl, omega arith), ((first + 3, omega arith, refl, refl, omega arith), tt))),
@@ -153,7 +153,7 @@ blockAt2 = record { count = 1; starts = 2 ∷ replicate 63 0; ends = 2 ∷ repli
 abbrev message : ℕ → Bool → Message
 message n kind = record { length = 2; stream = record { 0 = 0 }; unordered = kind; ssn = record { 0 = n }; ppid = 7 }
 
-circle-says : answers (ring (2 ^ 32)) (ring (2 ^ 16)) rail 1 (start (ring (2 ^ 32)) rail (record { 0 = last }) area) (map (reduceEvent (2 ^ 32) (2 ^ 16)) events)
+circle-says : answers circles rail 1 (start (ring (2 ^ 32)) rail (record { 0 = last }) area) (map (reduceEvent (2 ^ 32) (2 ^ 16)) events)
     ≡ judges Kept
     ∷ (tells (sackAt 4294967294 65024 blockAt2 [] 0)
     ∷ (judges Kept
@@ -167,12 +167,12 @@ circle-says : answers (ring (2 ^ 32)) (ring (2 ^ 16)) rail 1 (start (ring (2 ^ 3
     ∷ (judges Duplicate
     ∷ (tells (sackAt 0 65536 blockAt2 (record { 0 = 2 } ∷ []) 1)
     ∷ [])))))))))))
-unfolding answers fresh keeping.fresh before on far onCircle judged offsetOf isCome settled marked listed keeping.told runs laidOut blocksOf laid holds isOfOne continues follow isLeftEnd isExpected opens key better chosen advanced took written isLow lowOf taken isRepeat isWedged judgementOf contradicts contradictsNext clashes isContradicted verdictOf noted passed arrival.kept arrived areaAfter sackOf told acknowledged
+unfolding answers fresh keeping.fresh before on far onCircle judged offsetOf isCome settled marked listed keeping.told runs laidOut blocksOf laid holds isOfOne continues follow isLeftEnd isDueAt isExpected opens key better chosen advanced took written isLow lowOf taken isRepeat isWedged judgementOf contradicts contradictsNext clashes isContradicted verdictOf noted passed arrival.kept arrived areaAfter sackOf told acknowledged
 circle-says = refl
 
 -- as the theorem says, with both sides of it computed
-holds-here : answers (ring (2 ^ 32)) (ring (2 ^ 16)) rail 1 (start (ring (2 ^ 32)) rail (record { 0 = last }) area) (map (reduceEvent (2 ^ 32) (2 ^ 16)) events)
-    ≡ map (reduceAnswer (2 ^ 32) (2 ^ 16)) (answers line line rail 1 (start line rail initial area) events)
+holds-here : answers circles rail 1 (start (ring (2 ^ 32)) rail (record { 0 = last }) area) (map (reduceEvent (2 ^ 32) (2 ^ 16)) events)
+    ≡ map (reduceAnswer (2 ^ 32) (2 ^ 16)) (answers lines rail 1 (start line rail initial area) events)
 holds-here = rail-agrees last (omega arith) 1 area chunk payload honest events fair .0
 
 -- behind number 65,535 of a stream stands 65,536 on the line, and 0 on the circle

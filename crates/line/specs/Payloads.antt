@@ -15,7 +15,7 @@ use Rattle.scans.specs.declared.Found.the-variants.{At, Nothing}
 use Rattle.scans.specs.Scan.{pick, findFrom, find-within}
 use Rattle.scans.specs.Each.{All, clash}
 use Rattle.numbers.specs.declared.circle.Tsn.{Tsn}
-use Rattle.numbers.specs.Numbering.{line}
+use Rattle.numbers.specs.Numbering.{line, lines}
 use Rattle.numbers.specs.Profile.{Profile}
 use Rattle.octets.specs.Bytes.{laid}
 use Rattle.octets.specs.BytesLaws.{drop-past, laid-is, laid-more, length-laid}
@@ -170,12 +170,12 @@ module _ {P : Profile} {base streams : ℕ} {chunk : ℕ → Chunk} (payload : �
   }
 
   pub genuine : (out : List ℕ)
-      → Genuine base chunk payload out (handed line P (l .receiving) (length out)) (taken line line P (l .receiving) (length out) .answer)
-      (written line P hs (l .receiving .next) (l .receiving .keeping .point .0) (l .area) out)
+      → Genuine base chunk payload out (handed lines P (l .receiving) (length out)) (taken lines P (l .receiving) (length out) .answer)
+      (written lines P hs (l .receiving .next) (l .receiving .keeping .point .0) (l .area) out)
   unfolding taken took handed written
-  genuine out = go (chosen line P hs (l .receiving .next) (l .receiving .keeping .point .0)) refl
+  genuine out = go (chosen lines P hs (l .receiving .next) (l .receiving .keeping .point .0)) refl
     where
-      go : (c : Choice) → chosen line P hs (l .receiving .next) (l .receiving .keeping .point .0) ≡ c
+      go : (c : Choice) → chosen lines P hs (l .receiving .next) (l .receiving .keeping .point .0) ≡ c
           → Genuine base chunk payload out (handedBy hs (length out) c) (takenBy (l .receiving) (tookBy line hs (l .receiving .next) (length out) c) .answer)
           (writtenBy P hs (l .area) out c)
       go none e = (refl, refl)
@@ -212,15 +212,15 @@ module _ {P : Profile} {base streams : ℕ} {chunk : ℕ → Chunk} (payload : �
     r = l .receiving
 
     lodged-chunk : (n : ℕ) → base ≤ n → length (r .held) ≡ P .places
-        → Lodged P payload (areaAfter line P r (asHeld (chunk n) (length (payload n))) streams (l .area) (payload n)) (arrived line P r (asHeld (chunk n) (length (payload n))) streams .receiving .held)
+        → Lodged P payload (areaAfter lines P r (asHeld (chunk n) (length (payload n))) streams (l .area) (payload n)) (arrived lines P r (asHeld (chunk n) (length (payload n))) streams .receiving .held)
     unfolding areaAfter arrived noted passed arrival.kept
-    lodged-chunk n lb long = go (verdictOf line P r x streams) refl
+    lodged-chunk n lb long = go (verdictOf lines P r x streams) refl
       where
         x : Held
         x = asHeld (chunk n) (length (payload n))
 
-        go : (v : Verdict) → verdictOf line P r x streams ≡ v → Lodged P payload (storedBy P (r .held) (l .area) (payload n) v) (after line P r x v .held)
-        go Kept e = place (findFrom isFree 0 (r .held)) refl (kept-coming line P r x streams e .0 .fits)
+        go : (v : Verdict) → verdictOf lines P r x streams ≡ v → Lodged P payload (storedBy P (r .held) (l .area) (payload n) v) (after line P r x v .held)
+        go Kept e = place (findFrom isFree 0 (r .held)) refl (kept-coming lines P r x streams e .0 .fits)
           where
             place : (f : Found) → findFrom isFree 0 (r .held) ≡ f → length (payload n) ≤ P .payload → Lodged P payload (stored P (l .area) (payload n) f) (keptIn line P r x f .held)
             place (At i) q fits = lodged-put w i n (chunk n) (send .number n lb) (rw (zero-add (length (r .held))) at (find-within isFree (r .held) 0 i q)) long fits
@@ -235,14 +235,14 @@ module _ {P : Profile} {base streams : ℕ} {chunk : ℕ → Chunk} (payload : �
         go Stray e = w
 
     pub lodged-arrive : (n : ℕ) → base ≤ n → (c : Chunk) (bytes : List ℕ) → c ≡ chunk n → bytes ≡ payload n → length (r .held) ≡ P .places
-        → LodgedOf (turn line line P streams l (arrive c bytes) .lent)
+        → LodgedOf (turn lines P streams l (arrive c bytes) .lent)
     lodged-arrive n lb c bytes e b long =
-        subst (λ (x : Chunk). LodgedOf (turn line line P streams l (arrive x bytes) .lent)) (sym e)
-        (subst (λ (x : List ℕ). LodgedOf (turn line line P streams l (arrive (chunk n) x) .lent)) (sym b) (lodged-chunk n lb long))
+        subst (λ (x : Chunk). LodgedOf (turn lines P streams l (arrive x bytes) .lent)) (sym e)
+        (subst (λ (x : List ℕ). LodgedOf (turn lines P streams l (arrive (chunk n) x) .lent)) (sym b) (lodged-chunk n lb long))
 
-    pub lodged-take : (out : List ℕ) → LodgedOf (turn line line P streams l (take out) .lent)
+    pub lodged-take : (out : List ℕ) → LodgedOf (turn lines P streams l (take out) .lent)
     unfolding taken took
-    lodged-take out = go (chosen line P (r .held) (r .next) (r .keeping .point .0))
+    lodged-take out = go (chosen lines P (r .held) (r .next) (r .keeping .point .0))
       where
         go : (c : Choice) → Lodged P payload (l .area) (tookBy line (r .held) (r .next) (length out) c .held)
         go none = w
@@ -252,18 +252,18 @@ module _ {P : Profile} {base streams : ℕ} {chunk : ℕ → Chunk} (payload : �
             fits true = w
             fits false = lodged-emptied P payload (l .area) is (r .held) w
 
-    pub lodged-sack : LodgedOf (turn line line P streams l sack .lent)
+    pub lodged-sack : LodgedOf (turn lines P streams l sack .lent)
     unfolding acknowledged told
     lodged-sack = w
 
   pub lodged-from : (h : ℕ) (es : List Event) (l : Lent) {gone : ℕ → ℕ} {least : ℕ} → SoundOf P base chunk (λ n. length (payload n)) (l .receiving) gone least
-      → LodgedOf l → Fair P h base chunk payload streams l es → LodgedOf (finally line line P streams l es)
+      → LodgedOf l → Fair P h base chunk payload streams l es → LodgedOf (finally lines P streams l es)
   unfolding finally
   lodged-from h [] l s w f = w
   lodged-from h (arrive c bytes ∷ es) l s w f =
       let x = f .0 in
-      lodged-from h es (turn line line P streams l (arrive c bytes) .lent) (arrive-sound payload send (l .receiving) s (x .0) (x .1) c bytes (x .2) (x .3))
+      lodged-from h es (turn lines P streams l (arrive c bytes) .lent) (arrive-sound payload send (l .receiving) s (x .0) (x .1) c bytes (x .2) (x .3))
       (lodged-arrive l w (x .0) (x .1) c bytes (x .2) (x .3) (s .held-long)) (f .1)
   lodged-from h (take out ∷ es) l s w f =
-      lodged-from h es (turn line line P streams l (take out) .lent) (taken-sound send (l .receiving) s (length out) .sound) (lodged-take l w out) f
-  lodged-from h (sack ∷ es) l s w f = lodged-from h es (turn line line P streams l sack .lent) (acknowledged-sound (l .receiving) s) (lodged-sack l w) f
+      lodged-from h es (turn lines P streams l (take out) .lent) (taken-sound send (l .receiving) s (length out) .sound) (lodged-take l w out) f
+  lodged-from h (sack ∷ es) l s w f = lodged-from h es (turn lines P streams l sack .lent) (acknowledged-sound (l .receiving) s) (lodged-sack l w) f

@@ -1,6 +1,6 @@
--- What a receiver answers to a sequence of arrivals, takes and acknowledgements, once over two numberings: T of chunks, S of the ordered messages
--- of a stream. `ring (2 ^ 32)` and `ring (2 ^ 16)` give the receiver that the code is; `line` and `line` give the line receiver. Each turn is what
--- the promises of `Receiving::arrive`, `take` and `sack` cite.
+-- What a receiver answers to a sequence of arrivals, takes and acknowledgements, once over the numberings N of chunks and of the ordered
+-- messages of a stream. `circles` give the receiver that the code is; `lines` give the line receiver. Each turn is what the promises of
+-- `Receiving::arrive`, `take` and `sack` cite.
 use Prim.Native.Nat.{ℕ, zero, suc, _+_, _-_, _<_, _≤_}
 use mathlib.Core.Path.{_≡_}
 use mathlib.Core.Bool.{Bool, true, false}
@@ -9,7 +9,7 @@ use lib.ListN.{length, drop}
 use lib.Dec.{eqb, ltb, leb}
 use Rattle.scans.specs.Scan.{pick, count, any}
 use Rattle.numbers.specs.declared.circle.Tsn.{Tsn}
-use Rattle.numbers.specs.Numbering.{Numbering, line, Within}
+use Rattle.numbers.specs.Numbering.{Numbering, Numberings, lines, Within}
 use Rattle.numbers.specs.Profile.{Profile}
 use Rattle.numbers.specs.BlocksLaws.{has, listedIn}
 use Rattle.holding.specs.declared.held.Chunk.{Chunk}
@@ -63,19 +63,19 @@ pub record Turn : Type 0 where
   pub lent : Lent
 
 -- an event, answered by the rules that the code's promises cite
-abbrev pub turn : Numbering → Numbering → Profile → ℕ → Lent → Event → Turn
-turn T S P streams l (arrive c bytes) = record {
-  answer = judges (arrived T P (l .receiving) (asHeld c (length bytes)) streams .verdict);
+abbrev pub turn : Numberings → Profile → ℕ → Lent → Event → Turn
+turn N P streams l (arrive c bytes) = record {
+  answer = judges (arrived N P (l .receiving) (asHeld c (length bytes)) streams .verdict);
   lent = record {
-    receiving = arrived T P (l .receiving) (asHeld c (length bytes)) streams .receiving;
-    area = areaAfter T P (l .receiving) (asHeld c (length bytes)) streams (l .area) bytes;
+    receiving = arrived N P (l .receiving) (asHeld c (length bytes)) streams .receiving;
+    area = areaAfter N P (l .receiving) (asHeld c (length bytes)) streams (l .area) bytes;
   };
 }
-turn T S P streams l (take out) = record {
-  answer = gives (taken T S P (l .receiving) (length out) .answer) (written T P (l .receiving .held) (l .receiving .next) (l .receiving .keeping .point .0) (l .area) out);
-  lent = record { receiving = taken T S P (l .receiving) (length out) .receiving; area = l .area };
+turn N P streams l (take out) = record {
+  answer = gives (taken N P (l .receiving) (length out) .answer) (written N P (l .receiving .held) (l .receiving .next) (l .receiving .keeping .point .0) (l .area) out);
+  lent = record { receiving = taken N P (l .receiving) (length out) .receiving; area = l .area };
 }
-turn T S P streams l sack = record {
+turn N P streams l sack = record {
   answer = tells (acknowledged P (l .receiving) .sack);
   lent = record { receiving = acknowledged P (l .receiving) .receiving; area = l .area };
 }
@@ -85,14 +85,14 @@ abbrev pub start : Numbering → Profile → Tsn → List ℕ → Lent
 start T P t area = record { receiving = fresh T P t; area = area }
 
 -- what a receiver answers to a sequence of events
-unfoldable pub answers : Numbering → Numbering → Profile → ℕ → Lent → List Event → List Answer
-answers T S P streams l [] = []
-answers T S P streams l (e ∷ es) = turn T S P streams l e .answer ∷ answers T S P streams (turn T S P streams l e .lent) es
+unfoldable pub answers : Numberings → Profile → ℕ → Lent → List Event → List Answer
+answers N P streams l [] = []
+answers N P streams l (e ∷ es) = turn N P streams l e .answer ∷ answers N P streams (turn N P streams l e .lent) es
 
 -- and what it then has
-unfoldable pub finally : Numbering → Numbering → Profile → ℕ → Lent → List Event → Lent
-finally T S P streams l [] = l
-finally T S P streams l (e ∷ es) = finally T S P streams (turn T S P streams l e .lent) es
+unfoldable pub finally : Numberings → Profile → ℕ → Lent → List Event → Lent
+finally N P streams l [] = l
+finally N P streams l (e ∷ es) = finally N P streams (turn N P streams l e .lent) es
 
 -- ---- the events and answers of the line, as the circles have them
 
@@ -116,9 +116,9 @@ abbrev pub Fair : Profile → ℕ → ℕ → (ℕ → Chunk) → (ℕ → List 
 Fair P h first chunk payload streams l [] = Unit
 Fair P h first chunk payload streams l (arrive c bytes ∷ es) =
     ((n : ℕ) × (first ≤ n) × (c ≡ chunk n) × (bytes ≡ payload n) × Within h (l .receiving .keeping .point .0) n)
-    × Fair P h first chunk payload streams (turn line line P streams l (arrive c bytes) .lent) es
-Fair P h first chunk payload streams l (take out ∷ es) = Fair P h first chunk payload streams (turn line line P streams l (take out) .lent) es
-Fair P h first chunk payload streams l (sack ∷ es) = Fair P h first chunk payload streams (turn line line P streams l sack .lent) es
+    × Fair P h first chunk payload streams (turn lines P streams l (arrive c bytes) .lent) es
+Fair P h first chunk payload streams l (take out ∷ es) = Fair P h first chunk payload streams (turn lines P streams l (take out) .lent) es
+Fair P h first chunk payload streams l (sack ∷ es) = Fair P h first chunk payload streams (turn lines P streams l sack .lent) es
 
 -- ---- what a run gave
 
@@ -137,15 +137,15 @@ handedBy hs room none = []
 handedBy hs room (one k is) = pick (ltb room (lengthOf hs is)) [] (chunksAt hs is)
 
 -- of the message that the take chooses
-unfoldable pub handed : Numbering → Profile → Receiving → ℕ → List Held
-handed T P r room = handedBy (r .held) room (chosen T P (r .held) (r .next) (r .keeping .point .0))
+unfoldable pub handed : Numberings → Profile → Receiving → ℕ → List Held
+handed N P r room = handedBy (r .held) room (chosen N P (r .held) (r .next) (r .keeping .point .0))
 
 -- the chunks of every take of a run, one list for each
 abbrev pub handedOver : Profile → ℕ → Lent → List Event → List (List Held)
 handedOver P streams l [] = []
-handedOver P streams l (arrive c bytes ∷ es) = handedOver P streams (turn line line P streams l (arrive c bytes) .lent) es
-handedOver P streams l (take out ∷ es) = handed line P (l .receiving) (length out) ∷ handedOver P streams (turn line line P streams l (take out) .lent) es
-handedOver P streams l (sack ∷ es) = handedOver P streams (turn line line P streams l sack .lent) es
+handedOver P streams l (arrive c bytes ∷ es) = handedOver P streams (turn lines P streams l (arrive c bytes) .lent) es
+handedOver P streams l (take out ∷ es) = handed lines P (l .receiving) (length out) ∷ handedOver P streams (turn lines P streams l (take out) .lent) es
+handedOver P streams l (sack ∷ es) = handedOver P streams (turn lines P streams l sack .lent) es
 
 -- all of them in a row
 abbrev pub joinedAll : List (List Held) → List Held

@@ -16,7 +16,7 @@ use Rattle.scans.specs.Each.{All, if-not, clash}
 use Rattle.numbers.specs.declared.circle.Tsn.{Tsn}
 use Rattle.numbers.specs.declared.circle.Ssn.{Ssn}
 use Rattle.numbers.specs.Circle.{ssn0}
-use Rattle.numbers.specs.Numbering.{ring, line, before, Within}
+use Rattle.numbers.specs.Numbering.{line, rings, lines, before, Within}
 use Rattle.numbers.specs.Profile.{Profile}
 use Rattle.numbers.specs.Keeping as keeping
 use Rattle.numbers.specs.KeepingLaws.{told-point}
@@ -60,9 +60,9 @@ module _ (P : Profile) (h k streams : ℕ) where
   M = k + k
 
   abbrev pub Alike : Lent → Event → Type 0
-  Alike l e = turn (ring N) (ring M) P streams (reduceLent N M l) (reduceEvent N M e) ≡ record {
-    answer = reduceAnswer N M (turn line line P streams l e .answer);
-    lent = reduceLent N M (turn line line P streams l e .lent);
+  Alike l e = turn (rings N M) P streams (reduceLent N M l) (reduceEvent N M e) ≡ record {
+    answer = reduceAnswer N M (turn lines P streams l e .answer);
+    lent = reduceLent N M (turn lines P streams l e .lent);
   }
 
   module _ (l : Lent) where
@@ -71,9 +71,9 @@ module _ (P : Profile) (h k streams : ℕ) where
 
     pub arrive-alike : Near h k r → (c : Chunk) (bytes : List ℕ) → Within h (r .keeping .point .0) (c .tsn .0) → Alike l (arrive c bytes)
     arrive-alike near c bytes w =
-        ap (λ (a : Arrival). record { answer = judges (a .verdict); lent = record { receiving = a .receiving; area = areaAfter (ring N) P (reduce N M r) (reduceHeld N M x) streams (l .area) bytes } })
+        ap (λ (a : Arrival). record { answer = judges (a .verdict); lent = record { receiving = a .receiving; area = areaAfter (rings N M) P (reduce N M r) (reduceHeld N M x) streams (l .area) bytes } })
         (arrived-law P h k r near x w streams)
-        ∙ ap (λ (a : List ℕ). record { answer = judges (arrived line P r x streams .verdict); lent = record { receiving = reduce N M (arrived line P r x streams .receiving); area = a } })
+        ∙ ap (λ (a : List ℕ). record { answer = judges (arrived lines P r x streams .verdict); lent = record { receiving = reduce N M (arrived lines P r x streams .receiving); area = a } })
         (area-law P h k r near x w streams (l .area) bytes)
       where
         x : Held
@@ -81,9 +81,9 @@ module _ (P : Profile) (h k streams : ℕ) where
 
     pub take-alike : Near h k r → (out : List ℕ) → Alike l (take out)
     take-alike near out =
-        ap (λ (t : Left). record { answer = gives (t .answer) (written (ring N) P (map (reduceHeld N M) (r .held)) (map (reduceSsn M) (r .next)) (r .keeping .point .0 % N) (l .area) out); lent = record { receiving = t .receiving; area = l .area } })
+        ap (λ (t : Left). record { answer = gives (t .answer) (written (rings N M) P (map (reduceHeld N M) (r .held)) (map (reduceSsn M) (r .next)) (r .keeping .point .0 % N) (l .area) out); lent = record { receiving = t .receiving; area = l .area } })
         (taken-law P h k r near (length out))
-        ∙ ap (λ (o : List ℕ). record { answer = gives (reduceTaken M (taken line line P r (length out) .answer)) o; lent = record { receiving = reduce N M (taken line line P r (length out) .receiving); area = l .area } })
+        ∙ ap (λ (o : List ℕ). record { answer = gives (reduceTaken M (taken lines P r (length out) .answer)) o; lent = record { receiving = reduce N M (taken lines P r (length out) .receiving); area = l .area } })
         (written-law P h k r near (l .area) out)
 
     pub sack-alike : Alike l sack
@@ -93,15 +93,15 @@ module _ (P : Profile) (h k streams : ℕ) where
   -- any sequence: equal answers, and then again the line's record reduced, with the same area
   abbrev pub Agrees : Lent → List Event → Type 0
   Agrees l es =
-      (answers (ring N) (ring M) P streams (reduceLent N M l) (map (reduceEvent N M) es) ≡ map (reduceAnswer N M) (answers line line P streams l es))
-      × (finally (ring N) (ring M) P streams (reduceLent N M l) (map (reduceEvent N M) es) ≡ reduceLent N M (finally line line P streams l es))
+      (answers (rings N M) P streams (reduceLent N M l) (map (reduceEvent N M) es) ≡ map (reduceAnswer N M) (answers lines P streams l es))
+      × (finally (rings N M) P streams (reduceLent N M l) (map (reduceEvent N M) es) ≡ reduceLent N M (finally lines P streams l es))
 
-  then : (l : Lent) (e : Event) (es : List Event) → Alike l e → Agrees (turn line line P streams l e .lent) es → Agrees l (e ∷ es)
+  then : (l : Lent) (e : Event) (es : List Event) → Alike l e → Agrees (turn lines P streams l e .lent) es → Agrees l (e ∷ es)
   unfolding answers finally
   then l e es a b = (
-    ap (λ (t : Turn). t .answer ∷ answers (ring N) (ring M) P streams (t .lent) (map (reduceEvent N M) es)) a
-        ∙ ap (λ (zs : List Answer). reduceAnswer N M (turn line line P streams l e .answer) ∷ zs) (b .0),
-    ap (λ (t : Turn). finally (ring N) (ring M) P streams (t .lent) (map (reduceEvent N M) es)) a ∙ b .1,
+    ap (λ (t : Turn). t .answer ∷ answers (rings N M) P streams (t .lent) (map (reduceEvent N M) es)) a
+        ∙ ap (λ (zs : List Answer). reduceAnswer N M (turn lines P streams l e .answer) ∷ zs) (b .0),
+    ap (λ (t : Turn). finally (rings N M) P streams (t .lent) (map (reduceEvent N M) es)) a ∙ b .1,
   )
 
   none-left : (l : Lent) → Agrees l []
@@ -112,17 +112,17 @@ module _ (P : Profile) (h k streams : ℕ) where
   abbrev pub NearAlong : Lent → List Event → Type 0
   NearAlong l [] = Unit
   NearAlong l (arrive c bytes ∷ es) =
-      Near h k (l .receiving) × Within h (l .receiving .keeping .point .0) (c .tsn .0) × NearAlong (turn line line P streams l (arrive c bytes) .lent) es
-  NearAlong l (take out ∷ es) = Near h k (l .receiving) × NearAlong (turn line line P streams l (take out) .lent) es
-  NearAlong l (sack ∷ es) = NearAlong (turn line line P streams l sack .lent) es
+      Near h k (l .receiving) × Within h (l .receiving .keeping .point .0) (c .tsn .0) × NearAlong (turn lines P streams l (arrive c bytes) .lent) es
+  NearAlong l (take out ∷ es) = Near h k (l .receiving) × NearAlong (turn lines P streams l (take out) .lent) es
+  NearAlong l (sack ∷ es) = NearAlong (turn lines P streams l sack .lent) es
 
   -- then the circle agrees, whatever the chunks are
   pub agree-along : (es : List Event) (l : Lent) → NearAlong l es → Agrees l es
   agree-along [] l w = none-left l
   agree-along (arrive c bytes ∷ es) l w =
-      then l (arrive c bytes) es (arrive-alike l (w .0) c bytes (w .1)) (agree-along es (turn line line P streams l (arrive c bytes) .lent) (w .2))
-  agree-along (take out ∷ es) l w = then l (take out) es (take-alike l (w .0) out) (agree-along es (turn line line P streams l (take out) .lent) (w .1))
-  agree-along (sack ∷ es) l w = then l sack es (sack-alike l) (agree-along es (turn line line P streams l sack .lent) w)
+      then l (arrive c bytes) es (arrive-alike l (w .0) c bytes (w .1)) (agree-along es (turn lines P streams l (arrive c bytes) .lent) (w .2))
+  agree-along (take out ∷ es) l w = then l (take out) es (take-alike l (w .0) out) (agree-along es (turn lines P streams l (take out) .lent) (w .1))
+  agree-along (sack ∷ es) l w = then l sack es (sack-alike l) (agree-along es (turn lines P streams l sack .lent) w)
 
 -- ---- the line receiver is sound
 
@@ -194,10 +194,10 @@ module _ {P : Profile} {base streams : ℕ} {chunk : ℕ → Chunk} (payload : �
 
   pub arrive-sound : {gone : ℕ → ℕ} {least : ℕ} (r : Receiving) → SoundOf P base chunk size r gone least → (n : ℕ) → base ≤ n
       → (c : Chunk) (bytes : List ℕ) → c ≡ chunk n → bytes ≡ payload n
-      → SoundOf P base chunk size (arrived line P r (asHeld c (length bytes)) streams .receiving) gone least
+      → SoundOf P base chunk size (arrived lines P r (asHeld c (length bytes)) streams .receiving) gone least
   arrive-sound {gone} {least} r s n l c bytes e b =
-      subst (λ (x : Chunk). SoundOf P base chunk size (arrived line P r (asHeld x (length bytes)) streams .receiving) gone least) (sym e)
-      (subst (λ (x : List ℕ). SoundOf P base chunk size (arrived line P r (asHeld (chunk n) (length x)) streams .receiving) gone least) (sym b)
+      subst (λ (x : Chunk). SoundOf P base chunk size (arrived lines P r (asHeld x (length bytes)) streams .receiving) gone least) (sym e)
+      (subst (λ (x : List ℕ). SoundOf P base chunk size (arrived lines P r (asHeld (chunk n) (length x)) streams .receiving) gone least) (sym b)
       (arrived-sound send r s n l))
 
   -- under the premises what is held stays near
@@ -208,30 +208,30 @@ module _ {P : Profile} {base streams : ℕ} {chunk : ℕ → Chunk} (payload : �
     near-along (arrive c bytes ∷ es) l s f =
         let x = f .0 in
         let e : c .tsn .0 ≡ x .0 = ap (λ (y : Chunk). y .tsn .0) (x .2) ∙ send .number (x .0) (x .1) in
-        (near send s h k lh lk, omega (arith, x .4), near-along es (turn line line P streams l (arrive c bytes) .lent) (arrive-sound (l .receiving) s (x .0) (x .1) c bytes (x .2) (x .3)) (f .1))
+        (near send s h k lh lk, omega (arith, x .4), near-along es (turn lines P streams l (arrive c bytes) .lent) (arrive-sound (l .receiving) s (x .0) (x .1) c bytes (x .2) (x .3)) (f .1))
     near-along (take out ∷ es) l s f =
-        (near send s h k lh lk, near-along es (turn line line P streams l (take out) .lent) (taken-sound send (l .receiving) s (length out) .sound) f)
-    near-along (sack ∷ es) l s f = near-along es (turn line line P streams l sack .lent) (acknowledged-sound (l .receiving) s) f
+        (near send s h k lh lk, near-along es (turn lines P streams l (take out) .lent) (taken-sound send (l .receiving) s (length out) .sound) f)
+    near-along (sack ∷ es) l s f = near-along es (turn lines P streams l sack .lent) (acknowledged-sound (l .receiving) s) f
 
   -- and no chunk of the sender is answered 21
   arrive-clear : {gone : ℕ → ℕ} {least : ℕ} (r : Receiving) → SoundOf P base chunk size r gone least → (n : ℕ) → base ≤ n
-      → (c : Chunk) (bytes : List ℕ) → c ≡ chunk n → bytes ≡ payload n → arrived line P r (asHeld c (length bytes)) streams .verdict ≡ Clashing → ⊥
+      → (c : Chunk) (bytes : List ℕ) → c ≡ chunk n → bytes ≡ payload n → arrived lines P r (asHeld c (length bytes)) streams .verdict ≡ Clashing → ⊥
   unfolding arrived
   arrive-clear r s n l c bytes e b q =
       not-clashing send r s n l
-      (sym (ap (λ (x : Chunk). verdictOf line P r (asHeld x (length bytes)) streams) e ∙ ap (λ (x : List ℕ). verdictOf line P r (asHeld (chunk n) (length x)) streams) b) ∙ q)
+      (sym (ap (λ (x : Chunk). verdictOf lines P r (asHeld x (length bytes)) streams) e ∙ ap (λ (x : List ℕ). verdictOf lines P r (asHeld (chunk n) (length x)) streams) b) ∙ q)
 
   pub clear-along : (h : ℕ) (es : List Event) (l : Lent) {gone : ℕ → ℕ} {least : ℕ} → SoundOf P base chunk size (l .receiving) gone least
-      → Fair P h base chunk payload streams l es → All (Never Clashing) (answers line line P streams l es)
+      → Fair P h base chunk payload streams l es → All (Never Clashing) (answers lines P streams l es)
   unfolding answers
   clear-along h [] l s f = tt
   clear-along h (arrive c bytes ∷ es) l s f =
       let x = f .0 in (
         arrive-clear (l .receiving) s (x .0) (x .1) c bytes (x .2) (x .3),
-        clear-along h es (turn line line P streams l (arrive c bytes) .lent) (arrive-sound (l .receiving) s (x .0) (x .1) c bytes (x .2) (x .3)) (f .1),
+        clear-along h es (turn lines P streams l (arrive c bytes) .lent) (arrive-sound (l .receiving) s (x .0) (x .1) c bytes (x .2) (x .3)) (f .1),
       )
-  clear-along h (take out ∷ es) l s f = (tt, clear-along h es (turn line line P streams l (take out) .lent) (taken-sound send (l .receiving) s (length out) .sound) f)
-  clear-along h (sack ∷ es) l s f = (tt, clear-along h es (turn line line P streams l sack .lent) (acknowledged-sound (l .receiving) s) f)
+  clear-along h (take out ∷ es) l s f = (tt, clear-along h es (turn lines P streams l (take out) .lent) (taken-sound send (l .receiving) s (length out) .sound) f)
+  clear-along h (sack ∷ es) l s f = (tt, clear-along h es (turn lines P streams l sack .lent) (acknowledged-sound (l .receiving) s) f)
 
 -- an answer is another than a verdict on the circle too
 pub reduced-never : (v : Verdict) (n m : ℕ) (xs : List Answer) → All (Never v) xs → All (Never v) (map (reduceAnswer n m) xs)
@@ -262,9 +262,9 @@ after-next P r c Far = refl
 after-next P r c Clashing = refl
 after-next P r c Stray = refl
 
-arrive-next : (P : Profile) (r : Receiving) (c : Held) (streams : ℕ) → arrived line P r c streams .receiving .next ≡ r .next
+arrive-next : (P : Profile) (r : Receiving) (c : Held) (streams : ℕ) → arrived lines P r c streams .receiving .next ≡ r .next
 unfolding arrived
-arrive-next P r c streams = after-next P r c (verdictOf line P r c streams)
+arrive-next P r c streams = after-next P r c (verdictOf lines P r c streams)
 
 sack-next : (P : Profile) (r : Receiving) → acknowledged P r .receiving .next ≡ r .next
 unfolding acknowledged told
@@ -272,14 +272,14 @@ sack-next P r = refl
 
 module _ {P : Profile} {base streams : ℕ} {chunk : ℕ → Chunk} (payload : ℕ → List ℕ) (send : Sender P base streams chunk) (h : ℕ) where
   abbrev next : Lent → Event → Lent
-  next l e = turn line line P streams l e .lent
+  next l e = turn lines P streams l e .lent
 
   abbrev SoundHere : Lent → (ℕ → ℕ) → ℕ → Type 0
   SoundHere l gone least = SoundOf P base chunk (λ n. length (payload n)) (l .receiving) gone least
 
   -- after any sequence the line receiver is sound
   pub sound-from : (es : List Event) (l : Lent) {gone : ℕ → ℕ} {least : ℕ} → SoundHere l gone least → Fair P h base chunk payload streams l es
-      → (now : ℕ → ℕ) × (low : ℕ) × SoundHere (finally line line P streams l es) now low
+      → (now : ℕ → ℕ) × (low : ℕ) × SoundHere (finally lines P streams l es) now low
   unfolding finally
   sound-from [] l {gone} {least} s f = (gone, least, s)
   sound-from (arrive c bytes ∷ es) l s f =
@@ -289,8 +289,8 @@ module _ {P : Profile} {base streams : ℕ} {chunk : ℕ → Chunk} (payload : �
   sound-from (sack ∷ es) l s f = sound-from es (next l sack) (acknowledged-sound (l .receiving) s) f
 
   pub once-from : (es : List Event) (l : Lent) {gone : ℕ → ℕ} {least : ℕ} → SoundHere l gone least → Fair P h base chunk payload streams l es
-      → (n : ℕ) → gone n + copies (joinedAll (handedOver P streams l es)) n + copies (finally line line P streams l es .receiving .held) n
-      ≡ bit (came base (finally line line P streams l es .receiving .keeping .point .0) (finally line line P streams l es .receiving .keeping .come) n)
+      → (n : ℕ) → gone n + copies (joinedAll (handedOver P streams l es)) n + copies (finally lines P streams l es .receiving .held) n
+      ≡ bit (came base (finally lines P streams l es .receiving .keeping .point .0) (finally lines P streams l es .receiving .keeping .come) n)
   unfolding finally
   once-from [] l s f n = omega (arith, s .once n, copies-nil n)
   once-from (arrive c bytes ∷ es) l s f n =
@@ -299,17 +299,17 @@ module _ {P : Profile} {base streams : ℕ} {chunk : ℕ → Chunk} (payload : �
   once-from (take out ∷ es) l s f n =
       let w = taken-sound send (l .receiving) s (length out) in
       omega
-      (arith, copies-append (handed line P (l .receiving) (length out)) (joinedAll (handedOver P streams (next l (take out)) es)) n, w .more n, once-from es (next l (take out)) (w .sound) f n)
+      (arith, copies-append (handed lines P (l .receiving) (length out)) (joinedAll (handedOver P streams (next l (take out)) es)) n, w .more n, once-from es (next l (take out)) (w .sound) f n)
   once-from (sack ∷ es) l s f n = once-from es (next l sack) (acknowledged-sound (l .receiving) s) f n
 
   abbrev Orderly : ℕ → Lent → List Event → Type 0
   Orderly q l es =
-      orderGiven q (answers line line P streams l es) ≡ upFrom (getD (l .receiving .next) q ssn0 .0) (length (orderGiven q (answers line line P streams l es)))
+      orderGiven q (answers lines P streams l es) ≡ upFrom (getD (l .receiving .next) q ssn0 .0) (length (orderGiven q (answers lines P streams l es)))
 
   -- an event that changes no next expected number
   orderly-as : (q : ℕ) (l m : Lent) (es : List Event) → m .receiving .next ≡ l .receiving .next → Orderly q m es
-      → orderGiven q (answers line line P streams m es) ≡ upFrom (getD (l .receiving .next) q ssn0 .0) (length (orderGiven q (answers line line P streams m es)))
-  orderly-as q l m es e o = o ∙ ap (λ (x : List Ssn). upFrom (getD x q ssn0 .0) (length (orderGiven q (answers line line P streams m es)))) e
+      → orderGiven q (answers lines P streams m es) ≡ upFrom (getD (l .receiving .next) q ssn0 .0) (length (orderGiven q (answers lines P streams m es)))
+  orderly-as q l m es e o = o ∙ ap (λ (x : List Ssn). upFrom (getD x q ssn0 .0) (length (orderGiven q (answers lines P streams m es)))) e
 
   pub order-from : (q : ℕ) (es : List Event) (l : Lent) {gone : ℕ → ℕ} {least : ℕ} → SoundHere l gone least → Fair P h base chunk payload streams l es
       → Orderly q l es
@@ -322,13 +322,13 @@ module _ {P : Profile} {base streams : ℕ} {chunk : ℕ → Chunk} (payload : �
   order-from q (take out ∷ es) l {gone} s f = go (isOrderedIn q (t .answer)) refl (order-from q es (next l (take out)) (w .sound) f)
     where
       t : Left
-      t = taken line line P (l .receiving) (length out)
+      t = taken lines P (l .receiving) (length out)
 
-      w : TakenSound P base chunk (λ n. length (payload n)) gone (l .receiving .next) (handed line P (l .receiving) (length out)) t
+      w : TakenSound P base chunk (λ n. length (payload n)) gone (l .receiving .next) (handed lines P (l .receiving) (length out)) t
       w = taken-sound send (l .receiving) s (length out)
 
       rest : List ℕ
-      rest = orderGiven q (answers line line P streams (next l (take out)) es)
+      rest = orderGiven q (answers lines P streams (next l (take out)) es)
 
       go : (b : Bool) → isOrderedIn q (t .answer) ≡ b → rest ≡ upFrom (getD (t .receiving .next) q ssn0 .0) (length rest)
           → pick b (ssnOf (t .answer) ∷ rest) rest ≡ upFrom (getD (l .receiving .next) q ssn0 .0) (length (pick b (ssnOf (t .answer) ∷ rest) rest))

@@ -12,7 +12,7 @@ use Rattle.scans.specs.Each.{All}
 use Rattle.scans.specs.Upto.{pick-keeps}
 use Rattle.numbers.specs.declared.circle.Distance.the-variants.{Ahead, Behind}
 use Rattle.numbers.specs.declared.circle.Judgement.the-variants.{AtOrBehind, AheadWithin, AheadBeyond}
-use Rattle.numbers.specs.Numbering.{line, far}
+use Rattle.numbers.specs.Numbering.{line, lines, far}
 use Rattle.numbers.specs.Profile.{Profile, isAgreed}
 use Rattle.numbers.specs.Judgement.{judgedBy, judged}
 use Rattle.holding.specs.declared.held.Held.{Held}
@@ -55,7 +55,7 @@ module _ (P : Profile) (r : Receiving) (h : Held) (streams : ℕ) where
   either : (t : Bool) (x y : Verdict) → Other x → Other y → Other (pick t x y)
   either = pick-keeps Other
 
-  verdict-sided : Other (verdictOf line P r h streams)
+  verdict-sided : Other (verdictOf lines P r h streams)
   unfolding verdictOf judgementOf
   verdict-sided =
       either (ltb (h .len) 1) Empty _ (other Empty (omega arith))
@@ -63,17 +63,17 @@ module _ (P : Profile) (r : Receiving) (h : Held) (streams : ℕ) where
       (unmet (isOpposite (judgementOf line P r (h .tsn .0))) Opposite _ (judged-sided (r .keeping .point .0) (P .places - lowOf line r) (h .tsn .0))
       (either (isOld (judgementOf line P r (h .tsn .0))) Duplicate _ (other Duplicate (omega arith))
       (either (isRepeat line (r .keeping) (r .held) (h .tsn .0)) Duplicate _ (other Duplicate (omega arith))
-      (either (isWedged line P (lowOf line r) (r .held) (r .next) (r .keeping .point .0)) Wedged _ (other Wedged (omega arith))
+      (either (isWedged lines P (lowOf line r) (r .held) (r .next) (r .keeping .point .0)) Wedged _ (other Wedged (omega arith))
       (either (isBeyond (judgementOf line P r (h .tsn .0))) Far _ (other Far (omega arith))
       (either (not (isAgreed P (h .stream .0) streams)) Stray _ (other Stray (omega arith))
       (either (isContradicted line (r .held) h) Clashing Kept (other Clashing (omega arith)) (other Kept (omega arith))))))))))
 
 -- ---- every answer
 
-pub all-sided : (P : Profile) (streams : ℕ) (es : List Event) (l : Lent) → All (Never Opposite) (answers line line P streams l es)
+pub all-sided : (P : Profile) (streams : ℕ) (es : List Event) (l : Lent) → All (Never Opposite) (answers lines P streams l es)
 unfolding answers arrived
 all-sided P streams [] l = tt
 all-sided P streams (arrive c bytes ∷ es) l =
-    (verdict-sided P (l .receiving) (asHeld c (length bytes)) streams, all-sided P streams es (turn line line P streams l (arrive c bytes) .lent))
-all-sided P streams (take out ∷ es) l = (tt, all-sided P streams es (turn line line P streams l (take out) .lent))
-all-sided P streams (sack ∷ es) l = (tt, all-sided P streams es (turn line line P streams l sack .lent))
+    (verdict-sided P (l .receiving) (asHeld c (length bytes)) streams, all-sided P streams es (turn lines P streams l (arrive c bytes) .lent))
+all-sided P streams (take out ∷ es) l = (tt, all-sided P streams es (turn lines P streams l (take out) .lent))
+all-sided P streams (sack ∷ es) l = (tt, all-sided P streams es (turn lines P streams l sack .lent))

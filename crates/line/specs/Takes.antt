@@ -18,12 +18,13 @@ use Rattle.scans.specs.Scan.{pick, count, bit-le}
 use Rattle.scans.specs.Each.{All, all-set, clash}
 use Rattle.numbers.specs.declared.circle.Ssn.{Ssn}
 use Rattle.numbers.specs.Circle.{ssn0}
-use Rattle.numbers.specs.Numbering.{line, on}
+use Rattle.numbers.specs.Numbering.{line, lines, on}
 use Rattle.numbers.specs.Profile.{Profile}
 use Rattle.holding.specs.declared.held.Chunk.{Chunk}
 use Rattle.holding.specs.declared.held.Held.{Held}
 use Rattle.holding.specs.Held.{noHeld, asHeld, holds, holds-is, is-held}
-use Rattle.holding.specs.Message.{Run, broken, whole, Choice, none, one, isLeftEnd, isExpected, opens, follow, chosen, chunksAt}
+use Rattle.holding.specs.Message.{Run, broken, whole, Choice, none, one, isLeftEnd, isDueAt, isExpected, opens, follow, chosen, chunksAt}
+use Rattle.holding.specs.DueLaws.{due-line}
 use Rattle.holding.specs.TakingLaws.{emptied-long}
 use Rattle.holding.specs.Taking.{emptied, advanced, firstOf, lengthOf, messageOf, tookBy, took}
 use Rattle.holding.specs.declared.taking.Answer.{Answer}
@@ -68,31 +69,31 @@ beyond a b n = go (decLt a b)
     go (no l) = let m : b < a = omega arith in rw (le-ltb a b (omega arith), le-ltb a (b + 1) (omega arith))
 
 -- what `opens` asks
-opens-is : (P : Profile) (next : List Ssn) (x : Held) → opens P next x ≡ true
+opens-is : (P : Profile) (next : List Ssn) (x : Held) → opens line P next x ≡ true
     → (x .used ≡ true) × (x .begin ≡ true) × (x .unordered ≡ false → x .ssn .0 ≡ getD next (x .stream .0) ssn0 .0)
 unfolding opens isLeftEnd isExpected
 opens-is P next x e = go (x .used) (x .begin) (x .unordered) refl refl refl e
   where
     go : (u b k : Bool) → x .used ≡ u → x .begin ≡ b → x .unordered ≡ k
-        → pick (pick u b false) (pick k true (pick (ltb (x .stream .0) (P .streams)) (eqb (x .ssn .0) (getD next (x .stream .0) ssn0 .0)) false)) false ≡ true
+        → pick (pick u b false) (pick k true (pick (ltb (x .stream .0) (P .streams)) (isDueAt line (getD next (x .stream .0) ssn0 .0) (x .ssn .0)) false)) false ≡ true
         → (x .used ≡ true) × (x .begin ≡ true) × (x .unordered ≡ false → x .ssn .0 ≡ getD next (x .stream .0) ssn0 .0)
     go false b k p q r f = clash f
     go true false k p q r f = clash f
     go true true true p q r f = (p, q, λ z. clash (sym z ∙ r))
     go true true false p q r f = (p, q, λ z. last (ltb (x .stream .0) (P .streams)) f)
       where
-        last : (t : Bool) → pick t (eqb (x .ssn .0) (getD next (x .stream .0) ssn0 .0)) false ≡ true → x .ssn .0 ≡ getD next (x .stream .0) ssn0 .0
-        last true h = eqb-true (x .ssn .0) (getD next (x .stream .0) ssn0 .0) h
+        last : (t : Bool) → pick t (isDueAt line (getD next (x .stream .0) ssn0 .0) (x .ssn .0)) false ≡ true → x .ssn .0 ≡ getD next (x .stream .0) ssn0 .0
+        last true h = eqb-true (x .ssn .0) (getD next (x .stream .0) ssn0 .0) (sym (due-line (getD next (x .stream .0) ssn0 .0) (x .ssn .0)) ∙ h)
         last false h = clash h
 
 opens-so : (P : Profile) (next : List Ssn) (x : Held) → x .used ≡ true → x .begin ≡ true → x .stream .0 < P .streams
-    → (x .unordered ≡ false → x .ssn .0 ≡ getD next (x .stream .0) ssn0 .0) → opens P next x ≡ true
+    → (x .unordered ≡ false → x .ssn .0 ≡ getD next (x .stream .0) ssn0 .0) → opens line P next x ≡ true
 unfolding opens isLeftEnd isExpected
 opens-so P next x p q r f = rw (p, q, lt-ltb (x .stream .0) (P .streams) r) (go (x .unordered) refl)
   where
-    go : (k : Bool) → x .unordered ≡ k → pick k true (eqb (x .ssn .0) (getD next (x .stream .0) ssn0 .0)) ≡ true
+    go : (k : Bool) → x .unordered ≡ k → pick k true (isDueAt line (getD next (x .stream .0) ssn0 .0) (x .ssn .0)) ≡ true
     go true e = refl
-    go false e = eq-eqb (x .ssn .0) (getD next (x .stream .0) ssn0 .0) (f e)
+    go false e = due-line (getD next (x .stream .0) ssn0 .0) (x .ssn .0) ∙ eq-eqb (x .ssn .0) (getD next (x .stream .0) ssn0 .0) (f e)
 
 advanced-all : (next : List Ssn) (h : Held) → h .unordered ≡ true → advanced line next h ≡ next
 unfolding advanced
@@ -160,7 +161,7 @@ module _ {P : Profile} {base streams : ℕ} {chunk : ℕ → Chunk} {size : ℕ 
     is : x ≡ asHeld (chunk least) (size least)
     is = real-at P base streams chunk size send hs (s .real) i least here .1
 
-    pub opens-least : opens P next x ≡ true
+    pub opens-least : opens line P next x ≡ true
     opens-least = rw is (opens-so P next (asHeld (chunk least) (size least)) refl least-begins (agreed-few send least (s .from)) next-is)
       where
         next-is : chunk least .unordered ≡ false → chunk least .ssn .0 ≡ getD next (chunk least .stream .0) ssn0 .0
@@ -456,7 +457,7 @@ module _ {P : Profile} {base streams : ℕ} {chunk : ℕ → Chunk} {size : ℕ 
   abbrev hs : List Held
   hs = r .held
 
-  pub picks : (l : ℕ) (is : List ℕ) → chosen line P hs (r .next) (r .keeping .point .0) ≡ one l is → Picks P base chunk size hs (r .next) is
+  pub picks : (l : ℕ) (is : List ℕ) → chosen lines P hs (r .next) (r .keeping .point .0) ≡ one l is → Picks P base chunk size hs (r .next) is
   unfolding chosen
   picks l is e =
       subst (λ (ks : List ℕ). Picks P base chunk size hs (r .next) ks) (sym (v .1)) (record {
@@ -485,7 +486,7 @@ module _ {P : Profile} {base streams : ℕ} {chunk : ℕ → Chunk} {size : ℕ 
       real = real-at P base streams chunk size send hs (s .real) i f here
 
       opened : (asHeld (chunk f) (size f) .used ≡ true) × (chunk f .begin ≡ true) × (chunk f .unordered ≡ false → chunk f .ssn .0 ≡ getD (r .next) (chunk f .stream .0) ssn0 .0)
-      opened = opens-is P (r .next) (asHeld (chunk f) (size f)) (subst (λ (x : Held). opens P (r .next) x ≡ true) (real .1) (w .2 .0))
+      opened = opens-is P (r .next) (asHeld (chunk f) (size f)) (subst (λ (x : Held). opens line P (r .next) x ≡ true) (real .1) (w .2 .0))
 
       v : (js : List ℕ) × (is ≡ i ∷ js) × Spanning chunk hs f (i ∷ js)
       v = follow-whole P base streams chunk size send hs (s .real) (getD hs i noHeld) (P .places) f i is here (w .2 .1)
@@ -559,11 +560,11 @@ module _ {P : Profile} {base streams : ℕ} {chunk : ℕ → Chunk} {size : ℕ 
     given = λ q z. clash (sym (never q) ∙ z);
   }
 
-  pub taken-sound : (room : ℕ) → TakenSound P base chunk size gone (r .next) (handed line P r room) (taken line line P r room)
+  pub taken-sound : (room : ℕ) → TakenSound P base chunk size gone (r .next) (handed lines P r room) (taken lines P r room)
   unfolding taken took handed
-  taken-sound room = go (chosen line P hs (r .next) (r .keeping .point .0)) refl
+  taken-sound room = go (chosen lines P hs (r .next) (r .keeping .point .0)) refl
     where
-      go : (c : Choice) → chosen line P hs (r .next) (r .keeping .point .0) ≡ c
+      go : (c : Choice) → chosen lines P hs (r .next) (r .keeping .point .0) ≡ c
           → TakenSound P base chunk size gone (r .next) (handedBy hs room c) (takenBy r (tookBy line hs (r .next) room c))
       go none e = taken-none Nothing (λ q. refl)
       go (one l is) e = fits (ltb room (lengthOf hs is))

@@ -13,7 +13,7 @@ use lib.ListN.{length, getD}
 use lib.Dec.{eqb}
 use Rattle.scans.specs.Scan.{pick, tick, bit-le}
 use Rattle.scans.specs.Each.{clash}
-use Rattle.numbers.specs.Numbering.{line}
+use Rattle.numbers.specs.Numbering.{line, lines}
 use Rattle.numbers.specs.Profile.{Profile}
 use Rattle.holding.specs.declared.held.Chunk.{Chunk}
 use Rattle.holding.specs.declared.held.Held.{Held}
@@ -109,7 +109,7 @@ module _ {P : Profile} {base streams : ℕ} {chunk : ℕ → Chunk} {size : ℕ 
                 let u : below hs (suc p) ≤ below hs least + (suc p - least) = rw q at (below-span hs least (suc p - least) single) in
                 omega (arith, none-under, early, end .1, low)
 
-    ready : isOne (chosen line P hs (r .next) p) ≡ true
+    ready : isOne (chosen lines P hs (r .next) p) ≡ true
     unfolding chosen
     ready = run (follow line hs (getD hs (here .0) noHeld) (P .places) (here .0) (getD hs (here .0) noHeld)) refl
       where
@@ -117,17 +117,17 @@ module _ {P : Profile} {base streams : ℕ} {chunk : ℕ → Chunk} {size : ℕ 
         some none t v = absurd v
         some (one l is) t v = refl
 
-        run : (x : Run) → follow line hs (getD hs (here .0) noHeld) (P .places) (here .0) (getD hs (here .0) noHeld) ≡ x → isOne (chosen line P hs (r .next) p) ≡ true
+        run : (x : Run) → follow line hs (getD hs (here .0) noHeld) (P .places) (here .0) (getD hs (here .0) noHeld) ≡ x → isOne (chosen lines P hs (r .next) p) ≡ true
         run (whole js) e =
-            some (chosen line P hs (r .next) p) (getD hs (here .0) noHeld .tsn .0)
+            some (chosen lines P hs (r .next) p) (getD hs (here .0) noHeld .tsn .0)
             (chosen-least P base streams chunk size send hs (s .real) (r .next) p (here .0) js (here .1) (opens-least send s (here .0) (here .2), e))
         run broken e =
             absurd (not-broken (follow-broken P base streams chunk size send hs (s .real) (getD hs (here .0) noHeld) (P .places) least (here .0) (here .2) (of-least send s (here .0) (here .2)) e))
 
-  pub not-wedged : isWedged line P (lowOf line r) (r .held) (r .next) p ≡ false
+  pub not-wedged : isWedged lines P (lowOf line r) (r .held) (r .next) p ≡ false
   unfolding isWedged lowOf
   not-wedged = go (eqb (lowOf line r) (P .places)) refl
     where
-      go : (t : Bool) → eqb (lowOf line r) (P .places) ≡ t → pick t (not (isOne (chosen line P hs (r .next) p))) false ≡ false
+      go : (t : Bool) → eqb (lowOf line r) (P .places) ≡ t → pick t (not (isOne (chosen lines P hs (r .next) p))) false ≡ false
       go false e = refl
       go true e = ap not (ready (sym (low-below send s (r .keeping) refl refl) ∙ eqb-true (lowOf line r) (P .places) e))

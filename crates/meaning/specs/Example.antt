@@ -6,12 +6,12 @@ use mathlib.Core.Bool.{Bool, true, false}
 use mathlib.Core.List.{List, [], _∷_}
 use native.Mathlib.Omega.{arith}
 use lib.ListN.{replicate, length-replicate}
-use Rattle.numbers.specs.Circle.{ssn0}
-use Rattle.numbers.specs.Numbering.{ring, on, key}
+use Rattle.numbers.specs.Circle.{ssn0, onCircle}
+use Rattle.numbers.specs.Numbering.{ring, circles, on, far, key}
 use Rattle.numbers.specs.Profile.{rail}
 use Rattle.holding.specs.declared.held.Held.{Held}
 use Rattle.holding.specs.Held.{noHeld, holds}
-use Rattle.holding.specs.Message.{one, isOfOne, continues, follow, isLeftEnd, isExpected, opens, better, chosen}
+use Rattle.holding.specs.Message.{one, isOfOne, continues, follow, isLeftEnd, isDueAt, isExpected, opens, better, chosen}
 use Rattle.meaning.specs.Meant.{IsFirst, Stored, HeldOn}
 use Rattle.meaning.specs.Given.{AreaFits}
 use Rattle.meaning.specs.MeantLaws.{chosen-first}
@@ -47,9 +47,9 @@ fits = record {
 }
 
 -- the point is two before the end
-chosen-is : chosen (ring (2 ^ 32)) rail places (ssn0 ∷ []) (2 ^ 32 - 2) ≡ one (2 ^ 31 + 1) (3 ∷ 0 ∷ [])
-unfolding chosen better opens isExpected isLeftEnd follow continues isOfOne holds on key
+chosen-is : chosen circles rail places (ssn0 ∷ []) (2 ^ 32 - 2) ≡ one (2 ^ 31 + 1) (3 ∷ 0 ∷ [])
+unfolding chosen better opens isExpected isDueAt isLeftEnd follow continues isOfOne holds on far onCircle key
 chosen-is = refl
 
-pub first-is : IsFirst (ring (2 ^ 32)) rail places (ssn0 ∷ []) (2 ^ 32 - 2) (3 ∷ 0 ∷ [])
-first-is = chosen-first (ring (2 ^ 32)) rail places (ssn0 ∷ []) (2 ^ 32 - 2) stored (2 ^ 31 + 1) (3 ∷ 0 ∷ []) chosen-is
+pub first-is : IsFirst circles rail places (ssn0 ∷ []) (2 ^ 32 - 2) (3 ∷ 0 ∷ [])
+first-is = chosen-first circles rail places (ssn0 ∷ []) (2 ^ 32 - 2) stored (2 ^ 31 + 1) (3 ∷ 0 ∷ []) chosen-is

@@ -11,7 +11,7 @@ use borrow.Author.Tests.{lt-ltb, le-ltb}
 use lib.ListN.{length, drop, getD, length-append, length-drop}
 use lib.Seq.{length-take-le}
 use Rattle.numbers.specs.declared.circle.Ssn.{Ssn}
-use Rattle.numbers.specs.Numbering.{Numbering}
+use Rattle.numbers.specs.Numbering.{Numberings}
 use Rattle.numbers.specs.Profile.{Profile, placeAt}
 use Rattle.octets.specs.Bytes.{laid}
 use Rattle.octets.specs.BytesLaws.{laid-nil, laid-more, laid-is}
@@ -70,31 +70,31 @@ module _ (P : Profile) (hs : List Held) (area : List ℕ) where
 
 -- ---- the answers
 
-module _ (T S : Numbering) (P : Profile) (hs : List Held) (next : List Ssn) (point : ℕ) (area out : List ℕ) (stored : Stored P hs) where
+module _ (N : Numberings) (P : Profile) (hs : List Held) (next : List Ssn) (point : ℕ) (area out : List ℕ) (stored : Stored P hs) where
   -- the answer's number
   abbrev answered : ℕ
-  answered = numberOf (took T S P hs next point (length out) .answer)
+  answered = numberOf (took N P hs next point (length out) .answer)
 
   -- a message is given, and it is the first of those that can be taken
   pub took-gives : AreaFits P hs area → answered ≡ 0
-      → (is : List ℕ) × IsFirst T P hs next point is × GivesMessage S P hs next area out is (took T S P hs next point (length out)) (written T P hs next point area out)
+      → (is : List ℕ) × IsFirst N P hs next point is × GivesMessage (N .ssn) P hs next area out is (took N P hs next point (length out)) (written N P hs next point area out)
   unfolding took written
-  took-gives lent e = go (chosen T P hs next point) refl e
+  took-gives lent e = go (chosen N P hs next point) refl e
     where
-      go : (c : Choice) → chosen T P hs next point ≡ c → numberOf (tookBy S hs next (length out) c .answer) ≡ 0
-          → (is : List ℕ) × IsFirst T P hs next point is × GivesMessage S P hs next area out is (tookBy S hs next (length out) c) (writtenBy P hs area out c)
+      go : (c : Choice) → chosen N P hs next point ≡ c → numberOf (tookBy (N .ssn) hs next (length out) c .answer) ≡ 0
+          → (is : List ℕ) × IsFirst N P hs next point is × GivesMessage (N .ssn) P hs next area out is (tookBy (N .ssn) hs next (length out) c) (writtenBy P hs area out c)
       go none q e = absurd (omega arith)
-      go (one l []) q e = absurd (omega (arith, chosen-taken T P hs next point l [] q .0 .message .some))
+      go (one l []) q e = absurd (omega (arith, chosen-taken N P hs next point l [] q .0 .message .some))
       go (one l (i ∷ is)) q e = side (decLt (length out) (lengthOf hs (i ∷ is))) e
         where
-          f : IsFirst T P hs next point (i ∷ is)
-          f = chosen-first T P hs next point stored l (i ∷ is) q
+          f : IsFirst N P hs next point (i ∷ is)
+          f = chosen-first N P hs next point stored l (i ∷ is) q
 
           lies : All (Lies P hs area) (i ∷ is)
           lies = each-place (Lies P hs area) (i ∷ is) (λ k m. lent-lies P hs area stored lent (getD (i ∷ is) k 0) (f .ready .message .held k m))
 
-          side : Dec (length out < lengthOf hs (i ∷ is)) → numberOf (tookBy S hs next (length out) (one l (i ∷ is)) .answer) ≡ 0
-              → (js : List ℕ) × IsFirst T P hs next point js × GivesMessage S P hs next area out js (tookBy S hs next (length out) (one l (i ∷ is))) (writtenBy P hs area out (one l (i ∷ is)))
+          side : Dec (length out < lengthOf hs (i ∷ is)) → numberOf (tookBy (N .ssn) hs next (length out) (one l (i ∷ is)) .answer) ≡ 0
+              → (js : List ℕ) × IsFirst N P hs next point js × GivesMessage (N .ssn) P hs next area out js (tookBy (N .ssn) hs next (length out) (one l (i ∷ is))) (writtenBy P hs area out (one l (i ∷ is)))
           side (yes m) e = absurd (omega (arith, rw (lt-ltb (length out) (lengthOf hs (i ∷ is)) m) at e))
           side (no m) e =
               let n : lengthOf hs (i ∷ is) ≤ length out = omega arith in
@@ -112,39 +112,39 @@ module _ (T S : Numbering) (P : Profile) (hs : List Held) (next : List Ssn) (poi
               )
 
   -- nothing can be taken
-  pub took-nothing : answered ≡ 17 → (js : List ℕ) → CanBeTaken T P hs next js → ⊥
+  pub took-nothing : answered ≡ 17 → (js : List ℕ) → CanBeTaken N P hs next js → ⊥
   unfolding took
-  took-nothing e = go (chosen T P hs next point) refl e
+  took-nothing e = go (chosen N P hs next point) refl e
     where
-      go : (c : Choice) → chosen T P hs next point ≡ c → numberOf (tookBy S hs next (length out) c .answer) ≡ 17 → (js : List ℕ) → CanBeTaken T P hs next js → ⊥
-      go none q e = chosen-none T P hs next point stored q
+      go : (c : Choice) → chosen N P hs next point ≡ c → numberOf (tookBy (N .ssn) hs next (length out) c .answer) ≡ 17 → (js : List ℕ) → CanBeTaken N P hs next js → ⊥
+      go none q e = chosen-none N P hs next point stored q
       go (one l is) q e = side (decLt (length out) (lengthOf hs is))
         where
-          side : Dec (length out < lengthOf hs is) → (js : List ℕ) → CanBeTaken T P hs next js → ⊥
+          side : Dec (length out < lengthOf hs is) → (js : List ℕ) → CanBeTaken N P hs next js → ⊥
           side (yes m) = absurd (omega (arith, rw (lt-ltb (length out) (lengthOf hs is) m) at e))
           side (no m) = let n : lengthOf hs is ≤ length out = omega arith in absurd (omega (arith, rw (le-ltb (length out) (lengthOf hs is) n) at e))
 
   -- and where nothing can be, that is the answer
-  pub nothing-took : ((js : List ℕ) → CanBeTaken T P hs next js → ⊥) → answered ≡ 17
+  pub nothing-took : ((js : List ℕ) → CanBeTaken N P hs next js → ⊥) → answered ≡ 17
   unfolding took
-  nothing-took f = go (chosen T P hs next point) refl
+  nothing-took f = go (chosen N P hs next point) refl
     where
-      go : (c : Choice) → chosen T P hs next point ≡ c → numberOf (tookBy S hs next (length out) c .answer) ≡ 17
+      go : (c : Choice) → chosen N P hs next point ≡ c → numberOf (tookBy (N .ssn) hs next (length out) c .answer) ≡ 17
       go none q = refl
-      go (one l is) q = absurd (f is (chosen-taken T P hs next point l is q .0))
+      go (one l is) q = absurd (f is (chosen-taken N P hs next point l is q .0))
 
   -- "A take with a short buffer answers 18 with the length needed": that of the first message
   pub took-short : answered ≡ 18
-      → (is : List ℕ) × IsFirst T P hs next point is × (length out < lengthOf hs is) × (took T S P hs next point (length out) .answer ≡ Short (lengthOf hs is))
+      → (is : List ℕ) × IsFirst N P hs next point is × (length out < lengthOf hs is) × (took N P hs next point (length out) .answer ≡ Short (lengthOf hs is))
   unfolding took
-  took-short e = go (chosen T P hs next point) refl e
+  took-short e = go (chosen N P hs next point) refl e
     where
-      go : (c : Choice) → chosen T P hs next point ≡ c → numberOf (tookBy S hs next (length out) c .answer) ≡ 18
-          → (is : List ℕ) × IsFirst T P hs next point is × (length out < lengthOf hs is) × (tookBy S hs next (length out) c .answer ≡ Short (lengthOf hs is))
+      go : (c : Choice) → chosen N P hs next point ≡ c → numberOf (tookBy (N .ssn) hs next (length out) c .answer) ≡ 18
+          → (is : List ℕ) × IsFirst N P hs next point is × (length out < lengthOf hs is) × (tookBy (N .ssn) hs next (length out) c .answer ≡ Short (lengthOf hs is))
       go none q e = absurd (omega arith)
       go (one l is) q e = side (decLt (length out) (lengthOf hs is)) e
         where
-          side : Dec (length out < lengthOf hs is) → numberOf (tookBy S hs next (length out) (one l is) .answer) ≡ 18
-              → (js : List ℕ) × IsFirst T P hs next point js × (length out < lengthOf hs js) × (tookBy S hs next (length out) (one l is) .answer ≡ Short (lengthOf hs js))
-          side (yes m) e = (is, chosen-first T P hs next point stored l is q, m, rw (lt-ltb (length out) (lengthOf hs is) m))
+          side : Dec (length out < lengthOf hs is) → numberOf (tookBy (N .ssn) hs next (length out) (one l is) .answer) ≡ 18
+              → (js : List ℕ) × IsFirst N P hs next point js × (length out < lengthOf hs js) × (tookBy (N .ssn) hs next (length out) (one l is) .answer ≡ Short (lengthOf hs js))
+          side (yes m) e = (is, chosen-first N P hs next point stored l is q, m, rw (lt-ltb (length out) (lengthOf hs is) m))
           side (no m) e = let n : lengthOf hs is ≤ length out = omega arith in absurd (omega (arith, rw (le-ltb (length out) (lengthOf hs is) n) at e))

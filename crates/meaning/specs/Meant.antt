@@ -1,4 +1,5 @@
--- What a message is, which can be taken, and which a take gives, over the numbering T of chunks, with no word of how it is looked for.
+-- What a message is, which can be taken, and which a take gives, over the numberings N: T of chunks, S of the ordered messages of a stream. With no
+-- word of how it is looked for.
 use Prim.Native.Nat.{ℕ, suc, _<_, _≤_}
 use mathlib.Core.Path.{_≡_}
 use mathlib.Core.Bool.{true, false}
@@ -8,13 +9,14 @@ use lib.ListN.{length, getD}
 use lib.Dec.{eqb}
 use Rattle.numbers.specs.declared.circle.Ssn.{Ssn}
 use Rattle.numbers.specs.Circle.{ssn0}
-use Rattle.numbers.specs.Numbering.{Numbering, on, key}
+use Rattle.numbers.specs.Numbering.{Numbering, Numberings, on, key}
 use Rattle.numbers.specs.Profile.{Profile}
 use Rattle.numbers.specs.KeepingRoom.{numbersOf, Distinct}
 use Rattle.numbers.specs.Reach.{On}
 use Rattle.scans.specs.Each.{All}
 use Rattle.holding.specs.declared.held.Held.{Held}
 use Rattle.holding.specs.Held.{noHeld}
+use Rattle.holding.specs.Message.{isDueAt}
 
 -- chunk k of those at the places is, from 0 on
 abbrev pub fragmentAt : List Held → List ℕ → ℕ → Held
@@ -32,23 +34,23 @@ pub record IsMessage (T : Numbering) (hs : List Held) (is : List ℕ) : Type 0 w
   pub one-kind : (k : ℕ) → k < length is → fragmentAt hs is k .unordered ≡ fragmentAt hs is 0 .unordered
   pub one-ssn : fragmentAt hs is 0 .unordered ≡ false → (k : ℕ) → k < length is → fragmentAt hs is k .ssn .0 ≡ fragmentAt hs is 0 .ssn .0
 
--- "its SSN is the next expected" of its stream, which is one of the profile's
-abbrev pub IsNext : Profile → List Ssn → Held → Type 0
-IsNext P next h = (h .stream .0 < P .streams) × (h .ssn .0 ≡ getD next (h .stream .0) ssn0 .0)
+-- "its SSN is the next expected" of its stream, which is one of the profile's (`due-same`: they are equal)
+abbrev pub IsNext : Numbering → Profile → List Ssn → Held → Type 0
+IsNext S P next h = (h .stream .0 < P .streams) × (isDueAt S (getD next (h .stream .0) ssn0 .0) (h .ssn .0) ≡ true)
 
 -- "It can be taken if unordered, or if its SSN is the next expected"
-pub record CanBeTaken (T : Numbering) (P : Profile) (hs : List Held) (next : List Ssn) (is : List ℕ) : Type 0 where
-  pub message : IsMessage T hs is
-  pub due : (fragmentAt hs is 0 .unordered ≡ true) ⊎ IsNext P next (fragmentAt hs is 0)
+pub record CanBeTaken (N : Numberings) (P : Profile) (hs : List Held) (next : List Ssn) (is : List ℕ) : Type 0 where
+  pub message : IsMessage (N .tsn) hs is
+  pub due : (fragmentAt hs is 0 .unordered ≡ true) ⊎ IsNext (N .ssn) P next (fragmentAt hs is 0)
 
 -- what is compared of two messages: "first TSN, minus the point plus 2,147,483,648, modulo 2^32"
 abbrev pub orderOf : Numbering → List Held → ℕ → List ℕ → ℕ
 orderOf T hs point is = key T point (fragmentAt hs is 0 .tsn .0)
 
 -- "A take gives the one whose first TSN, minus the point plus 2,147,483,648, modulo 2^32, is smallest": is comes first of those that can be taken
-pub record IsFirst (T : Numbering) (P : Profile) (hs : List Held) (next : List Ssn) (point : ℕ) (is : List ℕ) : Type 0 where
-  pub ready : CanBeTaken T P hs next is
-  pub least : (js : List ℕ) → CanBeTaken T P hs next js → orderOf T hs point is ≤ orderOf T hs point js
+pub record IsFirst (N : Numberings) (P : Profile) (hs : List Held) (next : List Ssn) (point : ℕ) (is : List ℕ) : Type 0 where
+  pub ready : CanBeTaken N P hs next is
+  pub least : (js : List ℕ) → CanBeTaken N P hs next js → orderOf (N .tsn) hs point is ≤ orderOf (N .tsn) hs point js
 
 -- ---- what the laws need of the places
 

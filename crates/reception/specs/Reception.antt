@@ -3,7 +3,7 @@ use Prim.Native.Nat.{ℕ}
 use mathlib.Core.List.{List, []}
 use Rattle.numbers.specs.declared.keeping.Keeping.{Keeping}
 use Rattle.numbers.specs.Keeping as keeping
-use Rattle.numbers.specs.Numbering.{Numbering}
+use Rattle.numbers.specs.Numbering.{Numberings}
 use Rattle.numbers.specs.Profile.{Profile}
 use Rattle.scans.specs.declared.Found.{Found}
 use Rattle.scans.specs.declared.Found.the-variants.{At, Nothing}
@@ -42,12 +42,12 @@ wordsBy P ws h Stray = ws
 wordsBy P ws h Clashing = ws
 
 -- the words of the places afterwards
-unfoldable pub wordsAfter : Numbering → Profile → Receiving → List ℕ → Held → ℕ → List ℕ
-wordsAfter T P r ws h streams = wordsBy P ws h (verdictOf T P r h streams)
+unfoldable pub wordsAfter : Numberings → Profile → Receiving → List ℕ → Held → ℕ → List ℕ
+wordsAfter N P r ws h streams = wordsBy P ws h (verdictOf N P r h streams)
 
 -- what is told beside the words: the verdict, and number-keeping after it
-unfoldable pub told : Numbering → Profile → Receiving → Held → ℕ → Arrived
-told T P r h streams = record { verdict = verdictOf T P r h streams; keeping = after T P r h (verdictOf T P r h streams) .keeping }
+unfoldable pub told : Numberings → Profile → Receiving → Held → ℕ → Arrived
+told N P r h streams = record { verdict = verdictOf N P r h streams; keeping = after (N .tsn) P r h (verdictOf N P r h streams) .keeping }
 
 -- what a SACK tells, in which the next expected SSNs have no part, and number-keeping after it
 unfoldable pub sacked : Profile → Keeping → List ℕ → Acknowledged

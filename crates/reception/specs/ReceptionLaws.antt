@@ -6,7 +6,7 @@ use native.Mathlib.Omega.{arith}
 use lib.ListN.{length, replicate}
 use Rattle.numbers.specs.declared.circle.Tsn.{Tsn}
 use Rattle.numbers.specs.declared.keeping.Keeping.{Keeping}
-use Rattle.numbers.specs.Numbering.{Numbering, ring}
+use Rattle.numbers.specs.Numbering.{Numbering, Numberings, ring, circles}
 use Rattle.numbers.specs.Profile.{Profile}
 use Rattle.numbers.specs.Keeping.{marked, listed}
 use Rattle.numbers.specs.Keeping as keeping
@@ -60,14 +60,14 @@ module _ (T : Numbering) (P : Profile) (r : Receiving) (h : Held) where
   pub passed-keeping : {k : Keeping} → k ≡ marked T P (r .keeping) (h .tsn .0) → k ≡ after T P r h Stray .keeping
   passed-keeping e = e ∙ ap (λ (q : Receiving). q .keeping) (sym (passed-is T P r (h .tsn .0)))
 
-  module _ (streams : ℕ) (ws area bytes : List ℕ) where
-    pub left-by : {u v : Verdict} → u ≡ verdictOf T P r h streams → u ≡ v → {k : Keeping} {now stored : List ℕ} → k ≡ after T P r h v .keeping
-        → now ≡ wordsBy P ws h v → stored ≡ storedBy P (r .held) area bytes v
-        → (record { verdict = u; keeping = k } ≡ told T P r h streams) × (now ≡ wordsAfter T P r ws h streams) × (stored ≡ areaAfter T P r h streams area bytes)
-    unfolding told wordsAfter
-    left-by {u} {v} p q {k} x y z =
-        let e : verdictOf T P r h streams ≡ v = sym p ∙ q in
-        (ap (λ (t : Verdict). record { verdict = t; keeping = k }) q ∙ rw e (ap (λ (m : Keeping). record { verdict = v; keeping = m }) x), rw e y, by (area-is T P r h streams area bytes) (rw e z))
+module _ (N : Numberings) (P : Profile) (r : Receiving) (h : Held) (streams : ℕ) (ws area bytes : List ℕ) where
+  pub left-by : {u v : Verdict} → u ≡ verdictOf N P r h streams → u ≡ v → {k : Keeping} {now stored : List ℕ} → k ≡ after (N .tsn) P r h v .keeping
+      → now ≡ wordsBy P ws h v → stored ≡ storedBy P (r .held) area bytes v
+      → (record { verdict = u; keeping = k } ≡ told N P r h streams) × (now ≡ wordsAfter N P r ws h streams) × (stored ≡ areaAfter N P r h streams area bytes)
+  unfolding told wordsAfter
+  left-by {u} {v} p q {k} x y z =
+      let e : verdictOf N P r h streams ≡ v = sym p ∙ q in
+      (ap (λ (t : Verdict). record { verdict = t; keeping = k }) q ∙ rw e (ap (λ (m : Keeping). record { verdict = v; keeping = m }) x), rw e y, by (area-is N P r h streams area bytes) (rw e z))
 
 -- ---- what the words show afterwards
 
@@ -78,59 +78,59 @@ pub record Fitting (h : Held) : Type 0 where
   pub ssn : h .ssn .0 < 65536
   pub ppid : h .ppid < 4294967296
 
-module _ (T : Numbering) (P : Profile) (k : Keeping) (ws ns : List ℕ) (h : Held) (streams : ℕ) where
+module _ (N : Numberings) (P : Profile) (k : Keeping) (ws ns : List ℕ) (h : Held) (streams : ℕ) where
   module _ (l : 4 * P .places ≤ length ws) (m : P .payload < 4096) (s : Fitting h) where
-    words-held : heldOf P (wordsAfter T P (seen P k ws ns) ws h streams) ≡ after T P (seen P k ws ns) h (verdictOf T P (seen P k ws ns) h streams) .held
+    words-held : heldOf P (wordsAfter N P (seen P k ws ns) ws h streams) ≡ after (N .tsn) P (seen P k ws ns) h (verdictOf N P (seen P k ws ns) h streams) .held
     unfolding wordsAfter
-    words-held = go (verdictOf T P (seen P k ws ns) h streams) refl
+    words-held = go (verdictOf N P (seen P k ws ns) h streams) refl
       where
-        put : Small h → (f : Found) → heldOf P (wordsKept P ws h f) ≡ keptIn T P (seen P k ws ns) h f .held
-        put q (At i) = held-put P ws i h l q ∙ ap (λ (r : Receiving). r .held) (sym (kept-is T P (seen P k ws ns) i h))
-        put q Nothing = ap (λ (r : Receiving). r .held) (sym (passed-is T P (seen P k ws ns) (h .tsn .0)))
+        put : Small h → (f : Found) → heldOf P (wordsKept P ws h f) ≡ keptIn (N .tsn) P (seen P k ws ns) h f .held
+        put q (At i) = held-put P ws i h l q ∙ ap (λ (r : Receiving). r .held) (sym (kept-is (N .tsn) P (seen P k ws ns) i h))
+        put q Nothing = ap (λ (r : Receiving). r .held) (sym (passed-is (N .tsn) P (seen P k ws ns) (h .tsn .0)))
 
-        small : verdictOf T P (seen P k ws ns) h streams ≡ Kept → Small h
+        small : verdictOf N P (seen P k ws ns) h streams ≡ Kept → Small h
         small e =
-            let f = kept-coming T P (seen P k ws ns) h streams e .0 .fits in
+            let f = kept-coming N P (seen P k ws ns) h streams e .0 .fits in
             record { tsn = s .tsn; stream = s .stream; ssn = s .ssn; ppid = s .ppid; len = omega (arith, f, m) }
 
-        go : (v : Verdict) → verdictOf T P (seen P k ws ns) h streams ≡ v → heldOf P (wordsBy P ws h v) ≡ after T P (seen P k ws ns) h v .held
+        go : (v : Verdict) → verdictOf N P (seen P k ws ns) h streams ≡ v → heldOf P (wordsBy P ws h v) ≡ after (N .tsn) P (seen P k ws ns) h v .held
         go Kept e = put (small e) (findFrom isFree 0 (heldOf P ws))
         go Empty e = refl
         go Long e = refl
         go Opposite e = refl
-        go Duplicate e = ap (λ (r : Receiving). r .held) (sym (noted-is T P (seen P k ws ns) (h .tsn)))
+        go Duplicate e = ap (λ (r : Receiving). r .held) (sym (noted-is (N .tsn) P (seen P k ws ns) (h .tsn)))
         go Wedged e = refl
         go Far e = refl
-        go Stray e = ap (λ (r : Receiving). r .held) (sym (passed-is T P (seen P k ws ns) (h .tsn .0)))
+        go Stray e = ap (λ (r : Receiving). r .held) (sym (passed-is (N .tsn) P (seen P k ws ns) (h .tsn .0)))
         go Clashing e = refl
 
-    next-same : (v : Verdict) → ssnsOf P ns ≡ after T P (seen P k ws ns) h v .next
+    next-same : (v : Verdict) → ssnsOf P ns ≡ after (N .tsn) P (seen P k ws ns) h v .next
     next-same Kept = go (findFrom isFree 0 (heldOf P ws))
       where
-        go : (f : Found) → ssnsOf P ns ≡ keptIn T P (seen P k ws ns) h f .next
-        go (At i) = ap (λ (r : Receiving). r .next) (sym (kept-is T P (seen P k ws ns) i h))
-        go Nothing = ap (λ (r : Receiving). r .next) (sym (passed-is T P (seen P k ws ns) (h .tsn .0)))
+        go : (f : Found) → ssnsOf P ns ≡ keptIn (N .tsn) P (seen P k ws ns) h f .next
+        go (At i) = ap (λ (r : Receiving). r .next) (sym (kept-is (N .tsn) P (seen P k ws ns) i h))
+        go Nothing = ap (λ (r : Receiving). r .next) (sym (passed-is (N .tsn) P (seen P k ws ns) (h .tsn .0)))
     next-same Empty = refl
     next-same Long = refl
     next-same Opposite = refl
-    next-same Duplicate = ap (λ (r : Receiving). r .next) (sym (noted-is T P (seen P k ws ns) (h .tsn)))
+    next-same Duplicate = ap (λ (r : Receiving). r .next) (sym (noted-is (N .tsn) P (seen P k ws ns) (h .tsn)))
     next-same Wedged = refl
     next-same Far = refl
-    next-same Stray = ap (λ (r : Receiving). r .next) (sym (passed-is T P (seen P k ws ns) (h .tsn .0)))
+    next-same Stray = ap (λ (r : Receiving). r .next) (sym (passed-is (N .tsn) P (seen P k ws ns) (h .tsn .0)))
     next-same Clashing = refl
 
     -- an arrival: the verdict, and the record that the words show, are those of `arrived`
-    pub words-arrived : _≡_ {A = Arrival} (record { verdict = told T P (seen P k ws ns) h streams .verdict; receiving = seen P (told T P (seen P k ws ns) h streams .keeping) (wordsAfter T P (seen P k ws ns) ws h streams) ns })
-        (arrived T P (seen P k ws ns) h streams)
+    pub words-arrived : _≡_ {A = Arrival} (record { verdict = told N P (seen P k ws ns) h streams .verdict; receiving = seen P (told N P (seen P k ws ns) h streams .keeping) (wordsAfter N P (seen P k ws ns) ws h streams) ns })
+        (arrived N P (seen P k ws ns) h streams)
     unfolding told
     words-arrived =
-        (λ p. record { verdict = verdictOf T P (seen P k ws ns) h streams; receiving = record { keeping = after T P (seen P k ws ns) h (verdictOf T P (seen P k ws ns) h streams) .keeping; held = words-held p; next = next-same (verdictOf T P (seen P k ws ns) h streams) p } })
-        ∙ sym (arrived-is T P (seen P k ws ns) h streams)
+        (λ p. record { verdict = verdictOf N P (seen P k ws ns) h streams; receiving = record { keeping = after (N .tsn) P (seen P k ws ns) h (verdictOf N P (seen P k ws ns) h streams) .keeping; held = words-held p; next = next-same (verdictOf N P (seen P k ws ns) h streams) p } })
+        ∙ sym (arrived-is N P (seen P k ws ns) h streams)
 
 -- the table stays as long as it was
-pub after-long : (T : Numbering) (P : Profile) (r : Receiving) (ws : List ℕ) (h : Held) (streams : ℕ) → length (wordsAfter T P r ws h streams) ≡ length ws
+pub after-long : (N : Numberings) (P : Profile) (r : Receiving) (ws : List ℕ) (h : Held) (streams : ℕ) → length (wordsAfter N P r ws h streams) ≡ length ws
 unfolding wordsAfter
-after-long T P r ws h streams = go (verdictOf T P r h streams)
+after-long N P r ws h streams = go (verdictOf N P r h streams)
   where
     put : (f : Found) → length (wordsKept P ws h f) ≡ length ws
     put (At i) = put-long P ws i h
@@ -148,12 +148,12 @@ after-long T P r ws h streams = go (verdictOf T P r h streams)
     go Clashing = refl
 
 -- a take: the answer, and the record that the words show, are those of `taken`
-pub words-taken : (T : Numbering) (P : Profile) (k : Keeping) (ws ns : List ℕ) (room : ℕ) → 4 * P .places ≤ length ws → P .streams ≤ length ns
-    → _≡_ {A = Taken} (record { answer = took T (ring (2 ^ 16)) P (heldOf P ws) (ssnsOf P ns) (k .point .0) room .answer; receiving = seen P k (wordsTaken T P ws ns (k .point .0) room) (ssnsTaken T (ring (2 ^ 16)) P ws ns (k .point .0) room) })
-    (taken T (ring (2 ^ 16)) P (seen P k ws ns) room)
-words-taken T P k ws ns room l m =
-    (λ p. record { answer = took T (ring (2 ^ 16)) P (heldOf P ws) (ssnsOf P ns) (k .point .0) room .answer; receiving = record { keeping = k; held = words-took T P ws ns (k .point .0) room l p; next = ssns-took T P ws ns (k .point .0) room m p } })
-    ∙ sym (taken-is T (ring (2 ^ 16)) P (seen P k ws ns) room)
+pub words-taken : (P : Profile) (k : Keeping) (ws ns : List ℕ) (room : ℕ) → 4 * P .places ≤ length ws → P .streams ≤ length ns
+    → _≡_ {A = Taken} (record { answer = took circles P (heldOf P ws) (ssnsOf P ns) (k .point .0) room .answer; receiving = seen P k (wordsTaken circles P ws ns (k .point .0) room) (ssnsTaken circles P ws ns (k .point .0) room) })
+    (taken circles P (seen P k ws ns) room)
+words-taken P k ws ns room l m =
+    (λ p. record { answer = took circles P (heldOf P ws) (ssnsOf P ns) (k .point .0) room .answer; receiving = record { keeping = k; held = words-took P ws ns (k .point .0) room l p; next = ssns-took P ws ns (k .point .0) room m p } })
+    ∙ sym (taken-is circles P (seen P k ws ns) room)
 
 -- what a SACK tells, by its parts
 pub sacked-is : (P : Profile) (k : Keeping) (ws : List ℕ)

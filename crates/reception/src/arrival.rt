@@ -13,7 +13,7 @@ use taking::choosing;
 ghost use mathlib.Core.Path.{_≡_};
 ghost use Prim.Native.Nat.{_^_, _<_, _≤_};
 ghost use lib.ListN.{length};
-ghost use Rattle.numbers.specs.Numbering.{ring};
+ghost use Rattle.numbers.specs.Numbering.{ring, circles};
 ghost use Rattle.numbers.specs.Profile.{rail};
 ghost use Rattle.numbers.specs.Keeping.{marked};
 ghost use Rattle.scans.specs.Scan.{findFrom};
@@ -75,7 +75,7 @@ fn is_wedged(
     next: &[u16; Rail::STREAMS],
     point: Tsn,
 ) -> bool
-    ensures { λ y. ⌜ y ≡ isWedged (ring (2 ^ 32)) rail low (heldOf rail (now (words .entry))) (ssnsOf rail (now (next .entry))) (point .0) ⌝ }
+    ensures { λ y. ⌜ y ≡ isWedged circles rail low (heldOf rail (now (words .entry))) (ssnsOf rail (now (next .entry))) (point .0) ⌝ }
 {
     if low == Rail::PLACES {
         return !choosing::can_take(words, next, point);
@@ -94,7 +94,7 @@ fn judge(
     streams: u16,
 ) -> Verdict
     requires { ⌜ Looked (ring (2 ^ 32)) rail keeping (heldOf rail (now words)) c w ⌝ }
-    ensures { λ v. ⌜ v ≡ verdictOf (ring (2 ^ 32)) rail (seen rail keeping (now (words .entry)) (now (next .entry))) (asHeld c len) streams ⌝ }
+    ensures { λ v. ⌜ v ≡ verdictOf circles rail (seen rail keeping (now (words .entry)) (now (next .entry))) (asHeld c len) streams ⌝ }
 {
     if len < 1 {
         return Verdict::Empty;
@@ -164,7 +164,7 @@ pub fn arrive(
     payload: &[u8],
     streams: u16,
 ) -> Arrived
-    ensures { λ a. ⌜ (a ≡ told (ring (2 ^ 32)) rail (seen rail keeping (now (words .entry)) (now (next .entry))) (asHeld c (length (now (payload .entry)))) streams) × (now (words .exit) ≡ wordsAfter (ring (2 ^ 32)) rail (seen rail keeping (now (words .entry)) (now (next .entry))) (now (words .entry)) (asHeld c (length (now (payload .entry)))) streams) × (now (area .exit) ≡ areaAfter (ring (2 ^ 32)) rail (seen rail keeping (now (words .entry)) (now (next .entry))) (asHeld c (length (now (payload .entry)))) streams (now (area .entry)) (now (payload .entry))) ⌝ }
+    ensures { λ a. ⌜ (a ≡ told circles rail (seen rail keeping (now (words .entry)) (now (next .entry))) (asHeld c (length (now (payload .entry)))) streams) × (now (words .exit) ≡ wordsAfter circles rail (seen rail keeping (now (words .entry)) (now (next .entry))) (now (words .entry)) (asHeld c (length (now (payload .entry)))) streams) × (now (area .exit) ≡ areaAfter circles rail (seen rail keeping (now (words .entry)) (now (next .entry))) (asHeld c (length (now (payload .entry)))) streams (now (area .entry)) (now (payload .entry))) ⌝ }
 {
     let tsn = c.tsn;
     let w = look_for(keeping, words, c);

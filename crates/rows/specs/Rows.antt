@@ -1,10 +1,10 @@
 -- One chunk over a head and the words of its tables: what the row of the state table that it meets leaves. The rules are those of `steps`, over the head alone (`bare`) and the answer of the side that the chunk is for.
-use Prim.Native.Nat.{ℕ, _^_}
+use Prim.Native.Nat.{ℕ}
 use mathlib.Core.Bool.{Bool, true, false}
 use mathlib.Core.List.{List, []}
 use lib.ListN.{length, replicate}
 use Rattle.scans.specs.Scan.{pick}
-use Rattle.numbers.specs.Numbering.{ring}
+use Rattle.numbers.specs.Numbering.{circles}
 use Rattle.numbers.specs.Profile.{rail}
 use Rattle.octets.specs.Writing.{wroteBytes}
 use Rattle.path.specs.Sizes.{railSizes}
@@ -51,10 +51,10 @@ use Rattle.rows.specs.Stepped.{steppedIn}
 
 -- the receiver's answer, and the words of the held chunks then
 unfoldable pub heardData : Receiving → ℕ → List ℕ → Arrived
-heardData r streams s = receiver.told (ring (2 ^ 32)) rail r (asHeld (chunkOf s) (length (payloadOf s))) streams
+heardData r streams s = receiver.told circles rail r (asHeld (chunkOf s) (length (payloadOf s))) streams
 
 unfoldable pub heldHeard : Receiving → ℕ → List ℕ → List ℕ → List ℕ
-heldHeard r streams held s = receiver.wordsAfter (ring (2 ^ 32)) rail r held (asHeld (chunkOf s) (length (payloadOf s))) streams
+heldHeard r streams held s = receiver.wordsAfter circles rail r held (asHeld (chunkOf s) (length (payloadOf s))) streams
 
 -- an answer as `steps` has it, with the words beside it
 abbrev pub arrivalWith : Arrived → List ℕ → List ℕ → Arrival

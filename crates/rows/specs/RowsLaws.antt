@@ -1,5 +1,5 @@
 -- What a row tells with its reply, or with none; what all that is lent is then; and that it stays as long as it was. Assumes nothing.
-use Prim.Native.Nat.{ℕ, _≤_, _^_}
+use Prim.Native.Nat.{ℕ, _≤_}
 use mathlib.Core.Path.{_≡_, refl, sym, ap, _∙_}
 use mathlib.Core.Bool.{Bool, true, false}
 use mathlib.Core.List.{List, []}
@@ -7,7 +7,7 @@ use lib.ListN.{length, replicate, length-replicate}
 use lib.Dec.{ltb}
 use borrow.Author.Tests.{ltb-true, ltb-false}
 use Rattle.scans.specs.Upto.{pick-keeps}
-use Rattle.numbers.specs.Numbering.{ring}
+use Rattle.numbers.specs.Numbering.{circles}
 use Rattle.numbers.specs.Profile.{rail}
 use Rattle.octets.specs.Bytes.{u8}
 use Rattle.octets.specs.Writing.{wroteBytes, Wrote, bothFitting}
@@ -200,7 +200,7 @@ kept-long false s cs e = e
 module _ (h : Head) (held next places nextOut kept area s : List ℕ) (w : Sized held next places nextOut kept) where
   data-long : length (heldBy h held next s) ≡ 512
   unfolding heldHeard
-  data-long = after-long (ring (2 ^ 32)) rail _ held _ _ ∙ w .held
+  data-long = after-long circles rail _ held _ _ ∙ w .held
 
   with-held : {ws : List ℕ} → length ws ≡ 512 → Sized ws next places nextOut kept
   with-held e = record { held = e; next = w .next; places = w .places; nextOut = w .nextOut; kept = w .kept }

@@ -10,7 +10,7 @@ use lib.ListN.{length, replicate}
 use Rattle.scans.specs.Scan.{pick}
 use Rattle.scans.specs.Each.{All}
 use Rattle.numbers.specs.declared.circle.Tsn.{Tsn}
-use Rattle.numbers.specs.Numbering.{ring}
+use Rattle.numbers.specs.Numbering.{ring, circles}
 use Rattle.numbers.specs.Profile.{rail}
 use Rattle.path.specs.Sizes.{Sizes, railSizes}
 use Rattle.octets.specs.Writing.{wroteBytes}
@@ -188,7 +188,7 @@ module _ (h : Head) (held next places nextOut kept s : List ℕ) where
     arrived-so : arrival ≡ arrivalOf now s
     unfolding heardData heldHeard arrivalIn
     arrived-so =
-        words-arrived (ring (2 ^ 32)) rail (h .keeping) held next (asHeld (chunkOf s) (length (payloadOf s))) (h .ends .«streams_in») (omega (arith, l)) (omega arith) f
+        words-arrived circles rail (h .keeping) held next (asHeld (chunkOf s) (length (payloadOf s))) (h .ends .«streams_in») (omega (arith, l)) (omega arith) f
 
     data-shows : tabled (heldBy h held next s) next places nextOut kept (readDataBy h held next s) ≡ readData now s
     unfolding readDataBy readData dataRead

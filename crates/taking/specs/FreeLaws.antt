@@ -8,7 +8,7 @@ use borrow.Author.Tests.{ltb-false}
 use lib.ListN.{getD}
 use lib.Dec.{ltb}
 use Rattle.numbers.specs.declared.circle.Ssn.{Ssn}
-use Rattle.numbers.specs.Numbering.{Numbering}
+use Rattle.numbers.specs.Numbering.{Numberings}
 use Rattle.numbers.specs.Profile.{Profile}
 use Rattle.scans.specs.Scan.{pick, Counting, count-yes}
 use Rattle.scans.specs.Each.{clash}
@@ -86,8 +86,8 @@ count-free hs {m} {i} {c} w l e =
         subst (λ (x : ℕ). Counting isFree hs m (k + 1) x) z (count-yes v noHeld (omega arith) (ap not u))
 
 -- none of them is the first chunk of a message
-pub choose-free : (T : Numbering) (P : Profile) (hs : List Held) (next : List Ssn) (point : ℕ) {m i : ℕ} {best : Best} → Choosing T P hs next point m i best → i + 8 ≤ m
-    → freeFor hs i 8 ≡ true → Choosing T P hs next point m (i + 8) best
-choose-free T P hs next point {m} {i} {best} w l e =
-    over-free (λ (k : ℕ). Choosing T P hs next point m k best) hs 8 i e
-    (λ k a b u v. choose-worse T P hs next point v (omega arith) (free-not-better T P next point best (getD hs k noHeld) u)) w
+pub choose-free : (N : Numberings) (P : Profile) (hs : List Held) (next : List Ssn) (point : ℕ) {m i : ℕ} {best : Best} → Choosing N P hs next point m i best → i + 8 ≤ m
+    → freeFor hs i 8 ≡ true → Choosing N P hs next point m (i + 8) best
+choose-free N P hs next point {m} {i} {best} w l e =
+    over-free (λ (k : ℕ). Choosing N P hs next point m k best) hs 8 i e
+    (λ k a b u v. choose-worse N P hs next point v (omega arith) (free-not-better N P next point best (getD hs k noHeld) u)) w

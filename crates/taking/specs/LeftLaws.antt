@@ -6,7 +6,7 @@ use mathlib.Core.List.{List}
 use native.Mathlib.Omega.{arith}
 use lib.Dec.{ltb}
 use Rattle.scans.specs.Scan.{pick}
-use Rattle.numbers.specs.Numbering.{Numbering}
+use Rattle.numbers.specs.Numbering.{Numberings}
 use Rattle.numbers.specs.Profile.{Profile}
 use Rattle.holding.specs.declared.taking.Took.{Took}
 use Rattle.holding.specs.Message.{Choice, none, one, chunksAt, chosen}
@@ -15,16 +15,16 @@ use Rattle.tables.specs.Held.{heldOf}
 use Rattle.tables.specs.Ssns.{ssnsOf}
 use Rattle.taking.specs.Taking.{wordsEmptied, ssnsAdvanced, wordsBy, ssnsBy, wordsTaken, ssnsTaken}
 
-pub words-left : (T S : Numbering) (P : Profile) (ws ns : List ℕ) (point room : ℕ) → 0 < numberOf (took T S P (heldOf P ws) (ssnsOf P ns) point room .answer)
-    → (wordsTaken T P ws ns point room ≡ ws) × (ssnsTaken T S P ws ns point room ≡ ns)
+pub words-left : (N : Numberings) (P : Profile) (ws ns : List ℕ) (point room : ℕ) → 0 < numberOf (took N P (heldOf P ws) (ssnsOf P ns) point room .answer)
+    → (wordsTaken N P ws ns point room ≡ ws) × (ssnsTaken N P ws ns point room ≡ ns)
 unfolding took wordsTaken ssnsTaken
-words-left T S P ws ns point room h = go (chosen T P (heldOf P ws) (ssnsOf P ns) point) h
+words-left N P ws ns point room h = go (chosen N P (heldOf P ws) (ssnsOf P ns) point) h
   where
-    go : (c : Choice) → 0 < numberOf (tookBy S (heldOf P ws) (ssnsOf P ns) room c .answer) → (wordsBy P ws room c ≡ ws) × (ssnsBy S P ws ns room c ≡ ns)
+    go : (c : Choice) → 0 < numberOf (tookBy (N .ssn) (heldOf P ws) (ssnsOf P ns) room c .answer) → (wordsBy P ws room c ≡ ws) × (ssnsBy (N .ssn) P ws ns room c ≡ ns)
     go none h = (refl, refl)
     go (one k is) h = side (ltb room (lengthOf (heldOf P ws) is)) _ _ refl h
       where
         side : (t : Bool) (x y : Took) → numberOf (y .answer) ≡ 0 → 0 < numberOf (pick t x y .answer)
-            → (pick t ws (wordsEmptied P ws is) ≡ ws) × (pick t ns (ssnsAdvanced S P ns (firstOf (chunksAt (heldOf P ws) is))) ≡ ns)
+            → (pick t ws (wordsEmptied P ws is) ≡ ws) × (pick t ns (ssnsAdvanced (N .ssn) P ns (firstOf (chunksAt (heldOf P ws) is))) ≡ ns)
         side true x y z h = (refl, refl)
         side false x y z h = absurd (omega arith)

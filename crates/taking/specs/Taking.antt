@@ -5,7 +5,7 @@ use mathlib.Core.List.{List, [], _∷_}
 use lib.ListN.{getD, take}
 use lib.Dec.{ltb}
 use Rattle.numbers.specs.Circle.{ssn0}
-use Rattle.numbers.specs.Numbering.{Numbering, on}
+use Rattle.numbers.specs.Numbering.{Numbering, Numberings, on}
 use Rattle.numbers.specs.Profile.{Profile}
 use Rattle.scans.specs.Scan.{pick}
 use Rattle.holding.specs.declared.held.Held.{Held}
@@ -43,8 +43,8 @@ ssnsBy S P ws ns room none = ns
 ssnsBy S P ws ns room (one k is) = pick (ltb room (lengthOf (heldOf P ws) is)) ns (ssnsAdvanced S P ns (firstOf (chunksAt (heldOf P ws) is)))
 
 -- the same, of the message that the take gives
-unfoldable pub wordsTaken : Numbering → Profile → List ℕ → List ℕ → ℕ → ℕ → List ℕ
-wordsTaken T P ws ns point room = wordsBy P ws room (chosen T P (heldOf P ws) (ssnsOf P ns) point)
+unfoldable pub wordsTaken : Numberings → Profile → List ℕ → List ℕ → ℕ → ℕ → List ℕ
+wordsTaken N P ws ns point room = wordsBy P ws room (chosen N P (heldOf P ws) (ssnsOf P ns) point)
 
-unfoldable pub ssnsTaken : Numbering → Numbering → Profile → List ℕ → List ℕ → ℕ → ℕ → List ℕ
-ssnsTaken T S P ws ns point room = ssnsBy S P ws ns room (chosen T P (heldOf P ws) (ssnsOf P ns) point)
+unfoldable pub ssnsTaken : Numberings → Profile → List ℕ → List ℕ → ℕ → ℕ → List ℕ
+ssnsTaken N P ws ns point room = ssnsBy (N .ssn) P ws ns room (chosen N P (heldOf P ws) (ssnsOf P ns) point)

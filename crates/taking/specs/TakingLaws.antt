@@ -11,7 +11,7 @@ use lib.Dec.{ltb}
 use lib.Seq.{getD-take, length-take-le, take-suc-set}
 use Rattle.numbers.specs.declared.circle.Ssn.{Ssn}
 use Rattle.numbers.specs.Circle.{ssn0}
-use Rattle.numbers.specs.Numbering.{Numbering, ring, on}
+use Rattle.numbers.specs.Numbering.{Numbering, Numberings, ring, circles, on}
 use Rattle.numbers.specs.Profile.{Profile}
 use Rattle.numbers.specs.Reach.{on-On}
 use Rattle.octets.specs.Bytes.{laid}
@@ -107,9 +107,9 @@ module _ {P : Profile} {ws list : List ℕ} {n : ℕ} {now : List ℕ} {j : ℕ}
 -- ---- what a take finds
 
 -- the places is, of which the first is `place`, are the choice
-pub record Given (T : Numbering) (P : Profile) (hs : List Held) (next : List Ssn) (point place : ℕ) (is : List ℕ) : Type 0 where
+pub record Given (N : Numberings) (P : Profile) (hs : List Held) (next : List Ssn) (point place : ℕ) (is : List ℕ) : Type 0 where
   pub rank : ℕ
-  pub choice : chosen T P hs next point ≡ one rank is
+  pub choice : chosen N P hs next point ≡ one rank is
   pub others : List ℕ
   pub leads : is ≡ place ∷ others
 
@@ -120,81 +120,81 @@ run-is at n is e = go (ltb n 1) e
     go true q = let z : _≡_ {A = ℕ} 0 1 = cc in absurd (omega arith)
     go false q = cc
 
-module _ (T : Numbering) (P : Profile) (ws ns : List ℕ) (point : ℕ) {best : Best} (b : best ≡ bestOf (chosen T P (heldOf P ws) (ssnsOf P ns) point))
+module _ (N : Numberings) (P : Profile) (ws ns : List ℕ) (point : ℕ) {best : Best} (b : best ≡ bestOf (chosen N P (heldOf P ws) (ssnsOf P ns) point))
     (s : best .some ≡ true) where
-  found-one : (k : ℕ) × (is : List ℕ) × (chosen T P (heldOf P ws) (ssnsOf P ns) point ≡ one k is)
-  found-one = go (chosen T P (heldOf P ws) (ssnsOf P ns) point) refl
+  found-one : (k : ℕ) × (is : List ℕ) × (chosen N P (heldOf P ws) (ssnsOf P ns) point ≡ one k is)
+  found-one = go (chosen N P (heldOf P ws) (ssnsOf P ns) point) refl
     where
-      go : (c : Choice) → chosen T P (heldOf P ws) (ssnsOf P ns) point ≡ c → (k : ℕ) × (is : List ℕ) × (chosen T P (heldOf P ws) (ssnsOf P ns) point ≡ one k is)
+      go : (c : Choice) → chosen N P (heldOf P ws) (ssnsOf P ns) point ≡ c → (k : ℕ) × (is : List ℕ) × (chosen N P (heldOf P ws) (ssnsOf P ns) point ≡ one k is)
       go none e = clash (sym (ap (λ (x : Best). x .some) (b ∙ ap bestOf e)) ∙ s)
       go (one k is) e = (k, is, e)
 
   -- the place of the choice is one
   pub place-there : best .place < P .places
-  place-there = omega (arith, held-long P ws, place-within T P (heldOf P ws) (ssnsOf P ns) point b s)
+  place-there = omega (arith, held-long P ws, place-within N P (heldOf P ws) (ssnsOf P ns) point b s)
 
   pub given-at : {at : List ℕ} {n : ℕ} (h : Held) → h ≡ getD (heldOf P ws) (best .place) noHeld
-      → Noted at n (follow T (heldOf P ws) h (P .places) (best .place) h) → Given T P (heldOf P ws) (ssnsOf P ns) point (best .place) (take n at)
+      → Noted at n (follow (N .tsn) (heldOf P ws) h (P .places) (best .place) h) → Given N P (heldOf P ws) (ssnsOf P ns) point (best .place) (take n at)
   given-at {at} {n} h e g =
       let f = found-one in
-      let w = rw (f .2) at (chosen-run T P (heldOf P ws) (ssnsOf P ns) point) in
-      let v = subst (Heads (w .0)) (w .2) (follow-heads T (heldOf P ws) (getD (heldOf P ws) (w .0) noHeld) (P .places) (w .0) (getD (heldOf P ws) (w .0) noHeld)) in
+      let w = rw (f .2) at (chosen-run N P (heldOf P ws) (ssnsOf P ns) point) in
+      let v = subst (Heads (w .0)) (w .2) (follow-heads (N .tsn) (heldOf P ws) (getD (heldOf P ws) (w .0) noHeld) (P .places) (w .0) (getD (heldOf P ws) (w .0) noHeld)) in
       let q : best .place ≡ w .0 = ap (λ (x : Best). x .place) (b ∙ ap bestOf (f .2)) ∙ ap headOf (v .1) in
-      let r : runAt at n ≡ whole (f .1) = g .run ∙ (ap (λ (x : Held). follow T (heldOf P ws) x (P .places) (best .place) x) e ∙ (ap (λ (i : ℕ). follow T (heldOf P ws) (getD (heldOf P ws) i noHeld) (P .places) i (getD (heldOf P ws) i noHeld)) q ∙ w .2)) in
+      let r : runAt at n ≡ whole (f .1) = g .run ∙ (ap (λ (x : Held). follow (N .tsn) (heldOf P ws) x (P .places) (best .place) x) e ∙ (ap (λ (i : ℕ). follow (N .tsn) (heldOf P ws) (getD (heldOf P ws) i noHeld) (P .places) i (getD (heldOf P ws) i noHeld)) q ∙ w .2)) in
       let z : take n at ≡ f .1 = run-is at n (f .1) r in
       record { rank = f .0; choice = f .2 ∙ ap (one (f .0)) (sym z); others = v .0; leads = z ∙ (v .1 ∙ ap (λ (i : ℕ). i ∷ v .0) (sym q)) }
 
 -- ---- what a take leaves of the words, what it answers, and what it writes
 
-module _ {T : Numbering} {P : Profile} (ws ns : List ℕ) {point place : ℕ} {is : List ℕ} (w : Given T P (heldOf P ws) (ssnsOf P ns) point place is)
+module _ {N : Numberings} {P : Profile} (ws ns : List ℕ) {point place : ℕ} {is : List ℕ} (w : Given N P (heldOf P ws) (ssnsOf P ns) point place is)
     {n : ℕ} (e : n ≡ lengthOf (heldOf P ws) is) where
   first-is : firstOf (chunksAt (heldOf P ws) is) ≡ getD (heldOf P ws) place noHeld
   first-is = ap (λ (js : List ℕ). firstOf (chunksAt (heldOf P ws) js)) (w .leads)
 
-  pub words-short : (room : ℕ) → room < n → ws ≡ wordsTaken T P ws ns point room
+  pub words-short : (room : ℕ) → room < n → ws ≡ wordsTaken N P ws ns point room
   unfolding wordsTaken
   words-short room h = rw (w .choice, ← e, lt-ltb room n h)
 
-  pub words-all : (room : ℕ) {then : List ℕ} → n ≤ room → then ≡ wordsEmptied P ws is → then ≡ wordsTaken T P ws ns point room
+  pub words-all : (room : ℕ) {then : List ℕ} → n ≤ room → then ≡ wordsEmptied P ws is → then ≡ wordsTaken N P ws ns point room
   unfolding wordsTaken
   words-all room h q = rw (w .choice, ← e, le-ltb room n h) q
 
-  pub ssns-short : (S : Numbering) (room : ℕ) → room < n → ns ≡ ssnsTaken T S P ws ns point room
+  pub ssns-short : (room : ℕ) → room < n → ns ≡ ssnsTaken N P ws ns point room
   unfolding ssnsTaken
-  ssns-short S room h = rw (w .choice, ← e, lt-ltb room n h)
+  ssns-short room h = rw (w .choice, ← e, lt-ltb room n h)
 
-  pub ssns-all : (S : Numbering) (room : ℕ) {then : List ℕ} → n ≤ room → then ≡ ssnsAdvanced S P ns (getD (heldOf P ws) place noHeld)
-      → then ≡ ssnsTaken T S P ws ns point room
+  pub ssns-all : (room : ℕ) {then : List ℕ} → n ≤ room → then ≡ ssnsAdvanced (N .ssn) P ns (getD (heldOf P ws) place noHeld)
+      → then ≡ ssnsTaken N P ws ns point room
   unfolding ssnsTaken
-  ssns-all S room h q = rw (w .choice, ← e, le-ltb room n h, first-is) q
+  ssns-all room h q = rw (w .choice, ← e, le-ltb room n h, first-is) q
 
-  pub answer-short : (S : Numbering) (room : ℕ) → room < n → Short n ≡ took T S P (heldOf P ws) (ssnsOf P ns) point room .answer
-  answer-short S room h = rw (took-is T S P (heldOf P ws) (ssnsOf P ns) point room, w .choice, ← e, lt-ltb room n h)
+  pub answer-short : (room : ℕ) → room < n → Short n ≡ took N P (heldOf P ws) (ssnsOf P ns) point room .answer
+  answer-short room h = rw (took-is N P (heldOf P ws) (ssnsOf P ns) point room, w .choice, ← e, lt-ltb room n h)
 
-  pub answer-all : (S : Numbering) (room : ℕ) → n ≤ room
-      → Taken (messageOf n (getD (heldOf P ws) place noHeld)) ≡ took T S P (heldOf P ws) (ssnsOf P ns) point room .answer
-  answer-all S room h = rw (took-is T S P (heldOf P ws) (ssnsOf P ns) point room, w .choice, ← e, le-ltb room n h, first-is)
+  pub answer-all : (room : ℕ) → n ≤ room
+      → Taken (messageOf n (getD (heldOf P ws) place noHeld)) ≡ took N P (heldOf P ws) (ssnsOf P ns) point room .answer
+  answer-all room h = rw (took-is N P (heldOf P ws) (ssnsOf P ns) point room, w .choice, ← e, le-ltb room n h, first-is)
 
-  pub written-short : (area out : List ℕ) → length out < n → out ≡ written T P (heldOf P ws) (ssnsOf P ns) point area out
+  pub written-short : (area out : List ℕ) → length out < n → out ≡ written N P (heldOf P ws) (ssnsOf P ns) point area out
   unfolding written
   written-short area out h = rw (w .choice, ← e, lt-ltb (length out) n h)
 
   pub written-all : (area out : List ℕ) {filled : List ℕ} → n ≤ length out → filled ≡ copied P area (heldOf P ws) out 0 is
-      → filled ≡ written T P (heldOf P ws) (ssnsOf P ns) point area out
+      → filled ≡ written N P (heldOf P ws) (ssnsOf P ns) point area out
   unfolding written
   written-all area out h q = rw (w .choice, ← e, le-ltb (length out) n h) q
 
-module _ (T : Numbering) (P : Profile) (ws ns : List ℕ) (point : ℕ) (e : chosen T P (heldOf P ws) (ssnsOf P ns) point ≡ none) where
-  pub words-none : (room : ℕ) → ws ≡ wordsTaken T P ws ns point room
+module _ (N : Numberings) (P : Profile) (ws ns : List ℕ) (point : ℕ) (e : chosen N P (heldOf P ws) (ssnsOf P ns) point ≡ none) where
+  pub words-none : (room : ℕ) → ws ≡ wordsTaken N P ws ns point room
   unfolding wordsTaken
   words-none room = rw e
 
-  pub ssns-none : (S : Numbering) (room : ℕ) → ns ≡ ssnsTaken T S P ws ns point room
+  pub ssns-none : (room : ℕ) → ns ≡ ssnsTaken N P ws ns point room
   unfolding ssnsTaken
-  ssns-none S room = rw e
+  ssns-none room = rw e
 
-  pub answer-none : (S : Numbering) (room : ℕ) → Answer.Nothing ≡ took T S P (heldOf P ws) (ssnsOf P ns) point room .answer
-  answer-none S room = ap (λ (t : Took). t .answer) (took-none T P (heldOf P ws) (ssnsOf P ns) point e S room)
+  pub answer-none : (room : ℕ) → Answer.Nothing ≡ took N P (heldOf P ws) (ssnsOf P ns) point room .answer
+  answer-none room = ap (λ (t : Took). t .answer) (took-none N P (heldOf P ws) (ssnsOf P ns) point e room)
 
 -- ---- the words then show what a take leaves
 
@@ -220,11 +220,11 @@ advanced-shows P ns h l = go (h .unordered) ∙ sym (advanced-is (ring (2 ^ 16))
     go true = refl
     go false = ssn-put P ns (h .stream .0) x l (on-On (ring (2 ^ 16)) (getD (ssnsOf P ns) (h .stream .0) ssn0 .0) 1 (ssn-small P ns (h .stream .0)))
 
-module _ (T : Numbering) (P : Profile) (ws ns : List ℕ) (point room : ℕ) where
+module _ (P : Profile) (ws ns : List ℕ) (point room : ℕ) where
   pub words-took : 4 * P .places ≤ length ws
-      → heldOf P (wordsTaken T P ws ns point room) ≡ took T (ring (2 ^ 16)) P (heldOf P ws) (ssnsOf P ns) point room .held
+      → heldOf P (wordsTaken circles P ws ns point room) ≡ took circles P (heldOf P ws) (ssnsOf P ns) point room .held
   unfolding wordsTaken
-  words-took l = go (chosen T P (heldOf P ws) (ssnsOf P ns) point) ∙ ap (λ (t : Took). t .held) (sym (took-is T (ring (2 ^ 16)) P (heldOf P ws) (ssnsOf P ns) point room))
+  words-took l = go (chosen circles P (heldOf P ws) (ssnsOf P ns) point) ∙ ap (λ (t : Took). t .held) (sym (took-is circles P (heldOf P ws) (ssnsOf P ns) point room))
     where
       go : (c : Choice) → heldOf P (wordsBy P ws room c) ≡ tookBy (ring (2 ^ 16)) (heldOf P ws) (ssnsOf P ns) room c .held
       go none = refl
@@ -236,9 +236,9 @@ module _ (T : Numbering) (P : Profile) (ws ns : List ℕ) (point room : ℕ) whe
           side false = emptied-shows P ws is l
 
   pub ssns-took : P .streams ≤ length ns
-      → ssnsOf P (ssnsTaken T (ring (2 ^ 16)) P ws ns point room) ≡ took T (ring (2 ^ 16)) P (heldOf P ws) (ssnsOf P ns) point room .next
+      → ssnsOf P (ssnsTaken circles P ws ns point room) ≡ took circles P (heldOf P ws) (ssnsOf P ns) point room .next
   unfolding ssnsTaken
-  ssns-took l = go (chosen T P (heldOf P ws) (ssnsOf P ns) point) ∙ ap (λ (t : Took). t .next) (sym (took-is T (ring (2 ^ 16)) P (heldOf P ws) (ssnsOf P ns) point room))
+  ssns-took l = go (chosen circles P (heldOf P ws) (ssnsOf P ns) point) ∙ ap (λ (t : Took). t .next) (sym (took-is circles P (heldOf P ws) (ssnsOf P ns) point room))
     where
       go : (c : Choice) → ssnsOf P (ssnsBy (ring (2 ^ 16)) P ws ns room c) ≡ tookBy (ring (2 ^ 16)) (heldOf P ws) (ssnsOf P ns) room c .next
       go none = refl
@@ -259,10 +259,10 @@ advanced-words S P ns h = go (h .unordered)
     go true = refl
     go false = ssn-put-long P ns (h .stream .0) (record { 0 = on S (getD (ssnsOf P ns) (h .stream .0) ssn0 .0) 1 })
 
-module _ (T : Numbering) (P : Profile) (ws ns : List ℕ) (point room : ℕ) where
-  pub words-long : length (wordsTaken T P ws ns point room) ≡ length ws
+module _ (N : Numberings) (P : Profile) (ws ns : List ℕ) (point room : ℕ) where
+  pub words-long : length (wordsTaken N P ws ns point room) ≡ length ws
   unfolding wordsTaken
-  words-long = go (chosen T P (heldOf P ws) (ssnsOf P ns) point)
+  words-long = go (chosen N P (heldOf P ws) (ssnsOf P ns) point)
     where
       go : (c : Choice) → length (wordsBy P ws room c) ≡ length ws
       go none = refl
@@ -272,14 +272,14 @@ module _ (T : Numbering) (P : Profile) (ws ns : List ℕ) (point room : ℕ) whe
           side true = refl
           side false = emptied-words P ws is
 
-  pub ssns-long : (S : Numbering) → length (ssnsTaken T S P ws ns point room) ≡ length ns
+  pub ssns-long : length (ssnsTaken N P ws ns point room) ≡ length ns
   unfolding ssnsTaken
-  ssns-long S = go (chosen T P (heldOf P ws) (ssnsOf P ns) point)
+  ssns-long = go (chosen N P (heldOf P ws) (ssnsOf P ns) point)
     where
-      go : (c : Choice) → length (ssnsBy S P ws ns room c) ≡ length ns
+      go : (c : Choice) → length (ssnsBy (N .ssn) P ws ns room c) ≡ length ns
       go none = refl
       go (one k is) = side (ltb room (lengthOf (heldOf P ws) is))
         where
-          side : (t : Bool) → length (pick t ns (ssnsAdvanced S P ns (firstOf (chunksAt (heldOf P ws) is)))) ≡ length ns
+          side : (t : Bool) → length (pick t ns (ssnsAdvanced (N .ssn) P ns (firstOf (chunksAt (heldOf P ws) is)))) ≡ length ns
           side true = refl
-          side false = advanced-words S P ns (firstOf (chunksAt (heldOf P ws) is))
+          side false = advanced-words (N .ssn) P ns (firstOf (chunksAt (heldOf P ws) is))

@@ -9,7 +9,7 @@ use tables::ssns;
 ghost use mathlib.Core.Path.{_≡_};
 ghost use Prim.Native.Nat.{_^_, _<_, _≤_};
 ghost use lib.ListN.{getD, length};
-ghost use Rattle.numbers.specs.Numbering.{ring};
+ghost use Rattle.numbers.specs.Numbering.{ring, circles};
 ghost use Rattle.numbers.specs.Profile.{rail};
 ghost use mathlib.Core.Bool.{false};
 ghost use lib.Dec.{ltb};
@@ -124,7 +124,7 @@ pub(crate) fn gather(
 
 // Whether the chunk's message is unordered, or the next expected of its stream.
 fn is_expected(next: &[u16; Rail::STREAMS], h: Held) -> bool
-    ensures { λ y. ⌜ y ≡ isExpected rail (ssnsOf rail (now (next .entry))) h ⌝ }
+    ensures { λ y. ⌜ y ≡ isExpected (ring (2 ^ 16)) rail (ssnsOf rail (now (next .entry))) h ⌝ }
 {
     if h.unordered {
         return true;
@@ -139,7 +139,7 @@ fn is_expected(next: &[u16; Rail::STREAMS], h: Held) -> bool
 
 // Whether a message that can be taken may begin with the chunk.
 fn is_open(next: &[u16; Rail::STREAMS], h: Held) -> bool
-    ensures { λ y. ⌜ y ≡ opens rail (ssnsOf rail (now (next .entry))) h ⌝ }
+    ensures { λ y. ⌜ y ≡ opens (ring (2 ^ 16)) rail (ssnsOf rail (now (next .entry))) h ⌝ }
 {
     if message::is_left_end(h) {
         return is_expected(next, h);
@@ -149,7 +149,7 @@ fn is_open(next: &[u16; Rail::STREAMS], h: Held) -> bool
 
 // Whether a message that can be taken may begin with the chunk, and would be better than the best so far.
 fn is_better(next: &[u16; Rail::STREAMS], point: Tsn, best: Best, h: Held) -> bool
-    ensures { λ y. ⌜ y ≡ isBetter (ring (2 ^ 32)) rail (ssnsOf rail (now (next .entry))) (point .0) best h ⌝ }
+    ensures { λ y. ⌜ y ≡ isBetter circles rail (ssnsOf rail (now (next .entry))) (point .0) best h ⌝ }
 {
     if is_open(next, h) {
         if best.some {
@@ -193,7 +193,7 @@ pub(crate) fn choose_by(
     at: &mut [u8; Rail::PLACES],
 ) -> Best
     requires { ⌜ length (now at) ≡ 128 ⌝ }
-    ensures { λ b. ⌜ (b ≡ bestOf (chosen (ring (2 ^ 32)) rail (heldOf rail (now (words .entry))) (ssnsOf rail (now (next .entry))) (point .0))) × (length (now (at .exit)) ≡ 128) ⌝ }
+    ensures { λ b. ⌜ (b ≡ bestOf (chosen circles rail (heldOf rail (now (words .entry))) (ssnsOf rail (now (next .entry))) (point .0))) × (length (now (at .exit)) ≡ 128) ⌝ }
 {
     let mut best = Best {
         some: false,
@@ -219,7 +219,7 @@ pub(crate) fn choose_by(
 
 // The message that a take gives, if there is one.
 pub fn choose(words: &[u32; held::WORDS], next: &[u16; Rail::STREAMS], point: Tsn) -> Best
-    ensures { λ b. ⌜ b ≡ bestOf (chosen (ring (2 ^ 32)) rail (heldOf rail (now (words .entry))) (ssnsOf rail (now (next .entry))) (point .0)) ⌝ }
+    ensures { λ b. ⌜ b ≡ bestOf (chosen circles rail (heldOf rail (now (words .entry))) (ssnsOf rail (now (next .entry))) (point .0)) ⌝ }
 {
     let mut at = [0u8; Rail::PLACES];
     choose_by(words, next, point, &mut at)
@@ -227,7 +227,7 @@ pub fn choose(words: &[u32; held::WORDS], next: &[u16; Rail::STREAMS], point: Ts
 
 // Whether a message can be taken.
 pub fn can_take(words: &[u32; held::WORDS], next: &[u16; Rail::STREAMS], point: Tsn) -> bool
-    ensures { λ y. ⌜ y ≡ isOne (chosen (ring (2 ^ 32)) rail (heldOf rail (now (words .entry))) (ssnsOf rail (now (next .entry))) (point .0)) ⌝ }
+    ensures { λ y. ⌜ y ≡ isOne (chosen circles rail (heldOf rail (now (words .entry))) (ssnsOf rail (now (next .entry))) (point .0)) ⌝ }
 {
     let best = choose(words, next, point);
     best.some

@@ -10,7 +10,7 @@ use tables::ssns;
 ghost use mathlib.Core.Path.{_≡_};
 ghost use Prim.Native.Nat.{_^_, _<_, _≤_};
 ghost use lib.ListN.{length, take};
-ghost use Rattle.numbers.specs.Numbering.{ring};
+ghost use Rattle.numbers.specs.Numbering.{ring, circles};
 ghost use Rattle.numbers.specs.Profile.{rail};
 ghost use Rattle.octets.specs.Bytes.{laid};
 ghost use Rattle.holding.specs.Taking.{lengthOf, payloadAt, copied, took, written};
@@ -108,7 +108,7 @@ pub fn take(
     area: &[u8],
     out: &mut [u8],
 ) -> Answer
-    ensures { λ r. ⌜ (r ≡ took (ring (2 ^ 32)) (ring (2 ^ 16)) rail (heldOf rail (now (words .entry))) (ssnsOf rail (now (next .entry))) (point .0) (length (now (out .entry))) .answer) × (now (words .exit) ≡ wordsTaken (ring (2 ^ 32)) rail (now (words .entry)) (now (next .entry)) (point .0) (length (now (out .entry)))) × (now (next .exit) ≡ ssnsTaken (ring (2 ^ 32)) (ring (2 ^ 16)) rail (now (words .entry)) (now (next .entry)) (point .0) (length (now (out .entry)))) × (now (out .exit) ≡ written (ring (2 ^ 32)) rail (heldOf rail (now (words .entry))) (ssnsOf rail (now (next .entry))) (point .0) (now (area .entry)) (now (out .entry))) ⌝ }
+    ensures { λ r. ⌜ (r ≡ took circles rail (heldOf rail (now (words .entry))) (ssnsOf rail (now (next .entry))) (point .0) (length (now (out .entry))) .answer) × (now (words .exit) ≡ wordsTaken circles rail (now (words .entry)) (now (next .entry)) (point .0) (length (now (out .entry)))) × (now (next .exit) ≡ ssnsTaken circles rail (now (words .entry)) (now (next .entry)) (point .0) (length (now (out .entry)))) × (now (out .exit) ≡ written circles rail (heldOf rail (now (words .entry))) (ssnsOf rail (now (next .entry))) (point .0) (now (area .entry)) (now (out .entry))) ⌝ }
 {
     let mut list = [0u8; Rail::PLACES];
     let best = choosing::choose_by(words, next, point, &mut list);

@@ -3,7 +3,7 @@ use mathlib.Core.Path.{_≡_, sym, ap, _∙_}
 use native.Mathlib.Omega.{arith}
 use borrow.Author.Needs.{needs}
 use lib.ListN.{length}
-use Rattle.numbers.specs.Numbering.{ring}
+use Rattle.numbers.specs.Numbering.{circles}
 use Rattle.numbers.specs.Profile.{rail}
 use Rattle.holding.specs.MessageLaws.{isBetter, tried, Choosing, choose-start, choose-better, choose-worse, choose-end}
 use Rattle.tables.specs.Held.{heldOf}
@@ -20,7 +20,7 @@ use Rattle.taking.proofs.choosing.is_better.Reads as is-better-reads
 use Rattle.taking.proofs.choosing.try_at.Reads as try-at-reads
 
 abbrev Inv-loop : tie.InvT-loop
-Inv-loop words next point at₀ best₀ i₀ at best i = Choosing (ring (2 ^ 32)) rail (heldOf rail words) (ssnsOf rail next) (point .0) 128 i best × (length at ≡ 128)
+Inv-loop words next point at₀ best₀ i₀ at best i = Choosing circles rail (heldOf rail words) (ssnsOf rail next) (point .0) 128 i best × (length at ≡ 128)
 
 abbrev μ-loop : tie.MeasureT-loop
 μ-loop words next point at₀ best₀ i₀ at best i = 128 - i

@@ -1,6 +1,6 @@
 use Prim.Native.Nat.{_^_}
 use mathlib.Core.Path.{ap, _∙_}
-use Rattle.numbers.specs.Numbering.{ring}
+use Rattle.numbers.specs.Numbering.{circles}
 use Rattle.numbers.specs.Profile.{rail}
 use Rattle.holding.specs.declared.held.Held.{Held}
 use Rattle.holding.specs.Taking.{messageOf}
@@ -31,7 +31,7 @@ held-at-requires c κs = search needs
 
 -- src/giving.rt:112:13
 gather-requires : tie.Need-gather-requires
-gather-requires c κs = (place-there (ring (2 ^ 32)) rail _ _ _ (c .before .before .before .before .before .choose-by .ensures .0) (c .before .before .before .before .if1 .taken), c .before .before .before .before .before .choose-by .ensures .1)
+gather-requires c κs = (place-there circles rail _ _ _ (c .before .before .before .before .before .choose-by .ensures .0) (c .before .before .before .before .if1 .taken), c .before .before .before .before .before .choose-by .ensures .1)
 
 -- src/giving.rt:113:13
 length-of-requires : tie.Need-length-of-requires
@@ -39,7 +39,7 @@ length-of-requires c κs = search needs
 
 -- src/giving.rt:115:13
 returns : tie.Need-returns
-returns c = let w = given-at (ring (2 ^ 32)) rail _ _ _ (c .before .before .before .before .before .before .before .before .before .before .choose-by .ensures .0) (c .before .before .before .before .before .before .before .before .before .if1 .taken) _ (c .before .before .before .before .before .before .before .held-at .ensures) (c .before .before .before .before .gather .ensures) in (answer-short _ _ w (c .before .length-of .ensures) _ _ (c .if2 .taken), words-short _ _ w (c .before .length-of .ensures) _ (c .if2 .taken), ssns-short _ _ w (c .before .length-of .ensures) _ _ (c .if2 .taken), written-short _ _ w (c .before .length-of .ensures) _ _ (c .if2 .taken))
+returns c = let w = given-at circles rail _ _ _ (c .before .before .before .before .before .before .before .before .before .before .choose-by .ensures .0) (c .before .before .before .before .before .before .before .before .before .if1 .taken) _ (c .before .before .before .before .before .before .before .held-at .ensures) (c .before .before .before .before .gather .ensures) in (answer-short _ _ w (c .before .length-of .ensures) _ (c .if2 .taken), words-short _ _ w (c .before .length-of .ensures) _ (c .if2 .taken), ssns-short _ _ w (c .before .length-of .ensures) _ (c .if2 .taken), written-short _ _ w (c .before .length-of .ensures) _ _ (c .if2 .taken))
 
 -- src/giving.rt:117:9
 copy-out-requires : tie.Need-copy-out-requires
@@ -59,11 +59,11 @@ same-length c = search needs
 
 -- src/giving.rt:129:9
 returns-2 : tie.Need-returns-2
-returns-2 c = let w = given-at (ring (2 ^ 32)) rail _ _ _ (c .before .before .before .before .before .before .before .before .before .before .before .before .before .before .before .before .before .before .before .before .before .before .before .choose-by .ensures .0) (c .before .before .before .before .before .before .before .before .before .before .before .before .before .before .before .before .before .before .before .before .before .before .if1 .taken) _ (c .before .before .before .before .before .before .before .before .before .before .before .before .before .before .before .before .before .before .before .before .held-at .ensures) (c .before .before .before .before .before .before .before .before .before .before .before .before .before .before .before .before .before .gather .ensures) in (ap (λ (h : Held). Taken (messageOf (c .before .before .before .before .before .before .before .before .before .before .before .before .before .before .length-of .result) h)) (c .before .before .before .before .before .before .before .before .before .before .before .before .before .before .before .before .before .before .before .before .held-at .ensures) ∙ answer-all _ _ w (c .before .before .before .before .before .before .before .before .before .before .before .before .before .before .length-of .ensures) _ _ (c .before .before .before .before .before .before .before .before .before .before .before .before .before .if2 .left), words-all _ _ w (c .before .before .before .before .before .before .before .before .before .before .before .before .before .before .length-of .ensures) _ (c .before .before .before .before .before .before .before .before .before .before .before .before .before .if2 .left) (c .before .before .before .before .empty .ensures), ssns-all _ _ w (c .before .before .before .before .before .before .before .before .before .before .before .before .before .before .length-of .ensures) _ _ (c .before .before .before .before .before .before .before .before .before .before .before .before .before .if2 .left) (c .before .before .advance .ensures ∙ ap (ssnsAdvanced _ _ _) (c .before .before .before .before .before .before .before .before .before .before .before .before .before .before .before .before .before .before .before .before .held-at .ensures)), written-all _ _ w (c .before .before .before .before .before .before .before .before .before .before .before .before .before .before .length-of .ensures) _ _ (c .before .before .before .before .before .before .before .before .before .before .before .before .before .if2 .left) (c .before .before .before .before .before .before .before .before .before .copy-out .ensures))
+returns-2 c = let w = given-at circles rail _ _ _ (c .before .before .before .before .before .before .before .before .before .before .before .before .before .before .before .before .before .before .before .before .before .before .before .choose-by .ensures .0) (c .before .before .before .before .before .before .before .before .before .before .before .before .before .before .before .before .before .before .before .before .before .before .if1 .taken) _ (c .before .before .before .before .before .before .before .before .before .before .before .before .before .before .before .before .before .before .before .before .held-at .ensures) (c .before .before .before .before .before .before .before .before .before .before .before .before .before .before .before .before .before .gather .ensures) in (ap (λ (h : Held). Taken (messageOf (c .before .before .before .before .before .before .before .before .before .before .before .before .before .before .length-of .result) h)) (c .before .before .before .before .before .before .before .before .before .before .before .before .before .before .before .before .before .before .before .before .held-at .ensures) ∙ answer-all _ _ w (c .before .before .before .before .before .before .before .before .before .before .before .before .before .before .length-of .ensures) _ (c .before .before .before .before .before .before .before .before .before .before .before .before .before .if2 .left), words-all _ _ w (c .before .before .before .before .before .before .before .before .before .before .before .before .before .before .length-of .ensures) _ (c .before .before .before .before .before .before .before .before .before .before .before .before .before .if2 .left) (c .before .before .before .before .empty .ensures), ssns-all _ _ w (c .before .before .before .before .before .before .before .before .before .before .before .before .before .before .length-of .ensures) _ (c .before .before .before .before .before .before .before .before .before .before .before .before .before .if2 .left) (c .before .before .advance .ensures ∙ ap (ssnsAdvanced _ _ _) (c .before .before .before .before .before .before .before .before .before .before .before .before .before .before .before .before .before .before .before .before .held-at .ensures)), written-all _ _ w (c .before .before .before .before .before .before .before .before .before .before .before .before .before .before .length-of .ensures) _ _ (c .before .before .before .before .before .before .before .before .before .before .before .before .before .if2 .left) (c .before .before .before .before .before .before .before .before .before .copy-out .ensures))
 
 -- src/giving.rt:98:1
 returns-3 : tie.Need-returns-3
-returns-3 c = let e = found-none _ _ _ _ _ (c .before .choose-by .ensures .0) (c .if1 .left) in (answer-none _ _ _ _ _ e _ _, words-none _ _ _ _ _ e _, ssns-none _ _ _ _ _ e _ _, written-none _ _ _ _ _ e _ _)
+returns-3 c = let e = found-none _ _ _ _ _ (c .before .choose-by .ensures .0) (c .if1 .left) in (answer-none _ _ _ _ _ e _, words-none _ _ _ _ _ e _, ssns-none _ _ _ _ _ e _, written-none _ _ _ _ _ e _ _)
 
 pub take-spec : {M : Type 1} → statement M
 take-spec =
