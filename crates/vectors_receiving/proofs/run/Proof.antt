@@ -27,7 +27,7 @@ line-after-requires : tie.Need-line-after-requires Inv-loop μ-loop
 line-after-requires c κs = search needs
 
 loop-less : tie.Need-loop-less Inv-loop μ-loop
-loop-less c = let h = c .before .before .before .before .loop-test .taken in let l = c .line-after .ensures h in omega (arith, h, l)
+loop-less c = let h = c .before .before .before .before .loop-test .taken in let l = c .line-after .ensures .1 h in omega (arith, h, l)
 
 loop-again : tie.Need-loop-again Inv-loop μ-loop
 loop-again c = tt
