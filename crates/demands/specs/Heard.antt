@@ -1,0 +1,206 @@
+-- What a call asks of the receiving side: the line's events, what is refused before that side is asked, and fresh starts.
+use Prim.Native.Nat.{ℕ, _-_, _^_}
+use mathlib.Core.Bool.{Bool, true, false}
+use mathlib.Core.List.{List, [], _∷_, _++_}
+use lib.Dec.{eqb}
+use lib.ListN.{length}
+use Rattle.scans.specs.Scan.{pick}
+use Rattle.scans.specs.Upto.{smaller}
+use Rattle.numbers.specs.declared.circle.Tsn.{Tsn}
+use Rattle.numbers.specs.Numbering.{Numbering, ring}
+use Rattle.numbers.specs.Profile.{rail}
+use Rattle.octets.specs.Walk.{overItems}
+use Rattle.packets.specs.Header.{headerOf}
+use Rattle.chunks.specs.Frame.{partFrom}
+use Rattle.chunks.specs.InitChunk.{initOf}
+use Rattle.parameters.specs.Parameter.{valueOf, isThere, COOKIE, NAME}
+use Rattle.holding.specs.declared.taking.Answer.{Answer as Taking}
+use Rattle.holding.specs.declared.taking.Answer.the-variants.{Taken, Nothing, Short}
+use Rattle.delivery.specs.Arrival.{numberOf}
+use Rattle.line.specs.Runs.{Event as LineEvent, arrive, take, sack, Answer, judges, gives, tells, Lent, turn, start}
+use Rattle.states.specs.declared.call.Call.the-variants as call
+use Rattle.states.specs.declared.rows.Row.{Row}
+use Rattle.states.specs.declared.rows.Row.the-variants.{Refused, ReadData, ReadLateData, AnswerInit, TakeInitAck, ReadSack, ReadSackPending, ReadSackReceived, EchoHeartbeat, ClearTries, BecomeClosed, ReadShutdown, CrossShutdown, RepeatShutdownAck, ReflectComplete, SendComplete, PassError, ReadError, ReadEcho, BecomeEstablished, BecomeComplete, PassUnknown, TellUnknown}
+use Rattle.association.specs.declared.ends.Association.{Association}
+use Rattle.steps.specs.declared.chunk.Beside.{Beside}
+use Rattle.steps.specs.declared.lent.Lent as lending
+use Rattle.steps.specs.declared.lent.Echoed.{Echoed}
+use Rattle.steps.specs.declared.lent.Echoed.the-variants.{Bad, Stale, Good}
+use Rattle.steps.specs.Lent.{heeded}
+use Rattle.steps.specs.Opening.{isPoor, isOdd}
+use Rattle.steps.specs.Carrying.{chunkOf, payloadOf}
+use Rattle.steps.specs.Steps.{rowMet}
+use Rattle.arriving.specs.Walked.{Turn, begun, besideAt, turned}
+use Rattle.arriving.specs.Arrival as arrival
+use Rattle.calls.specs.Answer.{isShortOut, barred}
+use Rattle.calls.specs.Opening.{associating}
+use Rattle.calls.specs.Messages.{takeBar}
+use Rattle.calls.specs.Acknowledging as acknowledging
+use Rattle.events.specs.declared.event.Event.{Event}
+use Rattle.events.specs.declared.event.Event.the-variants.{Packet, Associate, HandIn, Transmit, Take, Acknowledge, T1, T2, T3, Shutdown, Abort, ErrorStream, ErrorStale, Heartbeat, Sample, Unknown}
+use Rattle.events.specs.Happening.{Buffers}
+use Rattle.demands.specs.Told.{Told, judged, took, untaken, sacked, isData}
+
+pub data Heard : Type 0 where
+  -- the receiving side is asked: by a DATA that the state reads, by a take, for a SACK
+  asks : LineEvent → Heard
+  -- a DATA arrives that the state does not read: 7
+  not-read : Heard
+  -- a take into this output, or a SACK, is refused before that side is asked: 1, 18, 7
+  take-barred : ℕ → List ℕ → Heard
+  sack-barred : ℕ → Heard
+  -- a fresh start, for a peer's initial TSN, with so many streams agreed
+  begins : Tsn → ℕ → Heard
+
+-- ---- of one chunk
+
+-- "after our own INIT, the INIT ACK sets its point"
+abbrev pub ackStart : List ℕ → List Heard
+ackStart s =
+    pick (isPoor (initOf s)) []
+    (pick (isOdd (valueOf COOKIE 4 s .len)) [] (pick (isThere NAME s) [] (begins (initOf s .tsn) (smaller 128 (initOf s .outs)) ∷ [])))
+
+-- "A good echo … starts from a fresh record"
+abbrev pub wordStart : Echoed → List Heard
+wordStart (Good m) = begins (m .«peer_tsn») (m .«streams_in») ∷ []
+wordStart (Stale m) = []
+wordStart Bad = []
+
+abbrev pub echoStart : Echoed → List ℕ → List Heard
+echoStart e s = pick (isOdd (partFrom 4 s .len)) [] (wordStart e)
+
+-- a DATA, as the receiving side gets it
+abbrev pub arrives : List ℕ → Heard
+arrives s = asks (arrive (chunkOf s) (payloadOf s))
+
+-- by the row of the state table that it meets
+abbrev pub rowHeard : Beside → List ℕ → Row → List Heard
+rowHeard b s Refused = pick (isData s) (not-read ∷ []) []
+rowHeard b s ReadData = arrives s ∷ []
+rowHeard b s ReadLateData = arrives s ∷ []
+rowHeard b s TakeInitAck = ackStart s
+rowHeard b s ReadEcho = echoStart (b .echoed) s
+rowHeard b s AnswerInit = []
+rowHeard b s BecomeEstablished = []
+rowHeard b s ReadSack = []
+rowHeard b s ReadSackPending = []
+rowHeard b s ReadSackReceived = []
+rowHeard b s EchoHeartbeat = []
+rowHeard b s ClearTries = []
+rowHeard b s BecomeClosed = []
+rowHeard b s PassError = []
+rowHeard b s ReadError = []
+rowHeard b s ReadShutdown = []
+rowHeard b s CrossShutdown = []
+rowHeard b s RepeatShutdownAck = []
+rowHeard b s ReflectComplete = []
+rowHeard b s SendComplete = []
+rowHeard b s BecomeComplete = []
+rowHeard b s (PassUnknown h) = []
+rowHeard b s (TellUnknown h) = []
+
+unfoldable pub chunkHeard : Association → Beside → List ℕ → List Heard
+chunkHeard a b s = rowHeard b s (rowMet a b s)
+
+-- ---- of the chunks of a packet
+
+-- the walk over them, and what is heard so far
+pub record Hearing : Type 0 where
+  pub walking : Turn
+  pub heard : List Heard
+
+-- the chunk at the head of s; one that is left unread asks nothing
+unfoldable pub listened : Beside → List ℕ → List ℕ → Hearing → List ℕ → Hearing
+listened b cookie packet h s = record {
+  walking = turned (length packet - length s) b cookie s (h .walking);
+  heard = h .heard ++ pick (h .walking .walked .unread) [] (chunkHeard (h .walking .walked .association) (besideAt (length packet - length s) b) s);
+}
+
+-- every chunk of a packet that is let in
+unfoldable pub listenedOver : Association → List ℕ → List ℕ → lending.Lent → List ℕ → Echoed → Hearing
+listenedOver a area packet lent cookie e =
+    overItems (listened (record { first = true; source = headerOf packet .source; lent = lent; echoed = e }) cookie packet)
+    (record { walking = begun a area; heard = [] }) packet 12
+
+-- ---- of one call
+
+unfoldable pub heardOf : Association → Event → Buffers → List Heard
+heardOf a (Packet l e) b =
+    pick (eqb (arrival.numberOf a (b .received) (b .input) e (b .out)) 0)
+    (listenedOver a (b .received) (b .input) l (b .cookie) (heeded e) .heard)
+    []
+heardOf a Take b = pick (eqb (takeBar a (b .received)) 0) (asks (take (b .out))) (take-barred (takeBar a (b .received)) (b .out)) ∷ []
+heardOf a Acknowledge b =
+    pick (eqb (barred a (isShortOut (b .out)) call.Acknowledge) 0) (asks sack) (sack-barred (barred a (isShortOut (b .out)) call.Acknowledge)) ∷ []
+-- "our own INIT, starts from a fresh record"
+heardOf a (Associate tag tsn port streams) b =
+    pick (eqb (associating a tag tsn port streams (b .out) .number) 0) (begins (record { 0 = 1 }) 128 ∷ []) []
+heardOf a (HandIn stream unordered ppid) b = []
+heardOf a Transmit b = []
+heardOf a T1 b = []
+heardOf a T2 b = []
+heardOf a T3 b = []
+heardOf a Shutdown b = []
+heardOf a (Abort why) b = []
+heardOf a (ErrorStream stream) b = []
+heardOf a (ErrorStale port tag late) b = []
+heardOf a (Heartbeat x y) b = []
+heardOf a (Sample ms) b = []
+heardOf a Unknown b = []
+
+-- ---- what it does to the receiving side, once over two numberings, and what is told of it
+
+-- that side, its area, and how many streams the peer may use
+pub record Side : Type 0 where
+  pub lent : Lent
+  pub streams : ℕ
+
+abbrev pub sideOf : Association → List ℕ → Side
+sideOf a area = record { lent = record { receiving = a .receiving; area = area }; streams = a .ends .«streams_in» }
+
+abbrev pub onward : Numbering → Numbering → Side → Heard → Side
+onward T S k (asks e) = record { lent = turn T S rail (k .streams) (k .lent) e .lent; streams = k .streams }
+onward T S k not-read = k
+onward T S k (take-barred n out) = k
+onward T S k (sack-barred n) = k
+onward T S k (begins t n) = record { lent = start T rail t (k .lent .area); streams = n }
+
+-- the output that an event lends
+abbrev pub lentBy : LineEvent → List ℕ
+lentBy (arrive c bytes) = []
+lentBy (take out) = out
+lentBy sack = []
+
+-- 0 with the message; 17; 18 with the length needed
+abbrev pub takenAs : List ℕ → Taking → List ℕ → Told
+takenAs lent (Taken m) now = took lent m now
+takenAs lent Nothing now = untaken 17 0 now
+takenAs lent (Short n) now = untaken 18 n now
+
+abbrev pub toldBy : List ℕ → Answer → Told
+toldBy lent (judges v) = judged (numberOf v)
+toldBy lent (gives t now) = takenAs lent t now
+toldBy lent (tells s) = sacked 0 (acknowledging.chunkOf s)
+
+abbrev pub said : Numbering → Numbering → Side → Heard → List Told
+said T S k (asks e) = toldBy (lentBy e) (turn T S rail (k .streams) (k .lent) e .answer) ∷ []
+said T S k not-read = judged 7 ∷ []
+said T S k (take-barred n out) = untaken n 0 out ∷ []
+said T S k (sack-barred n) = sacked n acknowledging.noSack ∷ []
+said T S k (begins t n) = []
+
+-- of all that is heard
+unfoldable pub goesOn : Numbering → Numbering → Side → List Heard → Side
+goesOn T S k [] = k
+goesOn T S k (h ∷ hs) = goesOn T S (onward T S k h) hs
+
+unfoldable pub saidOn : Numbering → Numbering → Side → List Heard → List Told
+saidOn T S k [] = []
+saidOn T S k (h ∷ hs) = said T S k h ++ saidOn T S (onward T S k h) hs
+
+-- on our circles
+abbrev pub circleGoes : Side → List Heard → Side
+circleGoes = goesOn (ring (2 ^ 32)) (ring (2 ^ 16))
+
+abbrev pub circleSaid : Side → List Heard → List Told
+circleSaid = saidOn (ring (2 ^ 32)) (ring (2 ^ 16))

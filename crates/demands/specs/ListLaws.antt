@@ -1,0 +1,41 @@
+-- What is heard in two parts: the second goes on from where the first has led. Assumes nothing.
+use Prim.Native.Nat.{ℕ}
+use mathlib.Core.Path.{_≡_, refl, sym, ap, _∙_}
+use mathlib.Core.Bool.{Bool, true, false}
+use mathlib.Core.List.{List, [], _∷_, _++_, append-assoc}
+use Rattle.scans.specs.Scan.{pick}
+use Rattle.numbers.specs.Numbering.{Numbering}
+use Rattle.arriving.specs.declared.verdict.Verdict.{Verdict}
+use Rattle.demands.specs.Told.{Told, judged, isOfData, toldData}
+use Rattle.demands.specs.Heard.{Heard, Side, onward, said, goesOn, saidOn}
+
+module _ (T S : Numbering) where
+  pub goes-none : (k : Side) → goesOn T S k [] ≡ k
+  unfolding goesOn
+  goes-none k = refl
+
+  pub said-none : (k : Side) → saidOn T S k [] ≡ []
+  unfolding saidOn
+  said-none k = refl
+
+  pub goes-append : (hs gs : List Heard) (k : Side) → goesOn T S k (hs ++ gs) ≡ goesOn T S (goesOn T S k hs) gs
+  unfolding goesOn
+  goes-append [] gs k = refl
+  goes-append (h ∷ hs) gs k = goes-append hs gs (onward T S k h)
+
+  pub said-append : (hs gs : List Heard) (k : Side) → saidOn T S k (hs ++ gs) ≡ saidOn T S k hs ++ saidOn T S (goesOn T S k hs) gs
+  unfolding saidOn goesOn
+  said-append [] gs k = refl
+  said-append (h ∷ hs) gs k =
+      ap (λ (ts : List Told). said T S k h ++ ts) (said-append hs gs (onward T S k h))
+      ∙ sym (append-assoc (said T S k h) (saidOn T S (onward T S k h) hs) (saidOn T S (goesOn T S (onward T S k h) hs) gs))
+
+pub told-append : (packet : List ℕ) (vs ws : List Verdict) → toldData packet (vs ++ ws) ≡ toldData packet vs ++ toldData packet ws
+unfolding toldData
+told-append packet [] ws = refl
+told-append packet (v ∷ vs) ws = go (isOfData packet v) (told-append packet vs ws)
+  where
+    go : (t : Bool) → toldData packet (vs ++ ws) ≡ toldData packet vs ++ toldData packet ws
+        → pick t (judged (v .number) ∷ toldData packet (vs ++ ws)) (toldData packet (vs ++ ws)) ≡ pick t (judged (v .number) ∷ toldData packet vs) (toldData packet vs) ++ toldData packet ws
+    go true e = ap (λ (ts : List Told). judged (v .number) ∷ ts) e
+    go false e = e
