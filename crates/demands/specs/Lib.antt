@@ -6,3 +6,5 @@ pub mod ListLaws
 pub mod ChunkLaws
 pub mod PacketLaws
 pub mod CallLaws
+pub mod LineLaws
+pub mod Demand3Laws

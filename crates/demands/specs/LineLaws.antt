@@ -1,0 +1,131 @@
+-- A stretch, on any numberings: of what is heard, what reaches the receiving side is a run of the receiver, and the rest is told between its answers.
+-- Assumes nothing.
+use Prim.Native.Nat.{ℕ, _^_}
+use mathlib.Core.Path.{_≡_, refl, ap, _∙_}
+use mathlib.Core.List.{List, [], _∷_, map}
+use lib.ListN.{length}
+use Rattle.scans.specs.Each.{All}
+use Rattle.numbers.specs.Numbering.{Numbering}
+use Rattle.numbers.specs.Profile.{rail}
+use Rattle.holding.specs.declared.taking.Answer.{Answer as Taking}
+use Rattle.holding.specs.declared.taking.Answer.the-variants.{Taken, Nothing, Short}
+use Rattle.delivery.specs.Receiving.{taken}
+use Rattle.line.specs.Runs.{Event as LineEvent, arrive, take, sack, turn, finally, reduceEvent}
+use Rattle.line.specs.Reduce.{reduceTaken}
+use Rattle.line.specs.Demand as demand
+use Rattle.line.specs.Demand.{Seen, number, gave, seen, over, reduceSeen, Given, givenBy, given}
+use Rattle.calls.specs.Acknowledging.{chunkOf, noSack}
+use Rattle.demands.specs.Told.{Told, judged, untaken, sacked, givenIn}
+use Rattle.demands.specs.Heard.{Heard, asks, not-read, take-barred, sack-barred, begins, Side, onward, takenAs, toldBy, goesOn, saidOn}
+use Rattle.demands.specs.Stretch.{reduceHeard, reduceTold, Stays, eventsIn}
+
+-- what is told of what the receiver's host sees
+abbrev shown : Seen → Told
+shown (number n) = judged n
+shown (gave out t now) = takenAs out t now
+shown (demand.told s) = sacked 0 (chunkOf s)
+
+-- with what is told of the rest
+unfoldable pub woven : List Heard → List Seen → List Told
+woven [] zs = []
+woven (asks e ∷ hs) [] = []
+woven (asks e ∷ hs) (z ∷ zs) = shown z ∷ woven hs zs
+woven (not-read ∷ hs) zs = judged 7 ∷ woven hs zs
+woven (take-barred n out ∷ hs) zs = untaken n 0 out ∷ woven hs zs
+woven (sack-barred n ∷ hs) zs = sacked n noSack ∷ woven hs zs
+woven (begins t n ∷ hs) zs = woven hs zs
+
+taken-given : (lent : List ℕ) (x : Taking) (now : List ℕ) (ts : List Told) (gs : List Given) → givenIn ts ≡ gs → givenIn (takenAs lent x now ∷ ts) ≡ givenBy lent x now gs
+unfolding givenIn
+taken-given lent (Taken m) now ts gs e = ap (λ (xs : List Given). record { lent = lent; message = m; output = now } ∷ xs) e
+taken-given lent Nothing now ts gs e = e
+taken-given lent (Short n) now ts gs e = e
+
+module _ (T S : Numbering) where
+  pub said-woven : (hs : List Heard) → All Stays hs → (k : Side) → saidOn T S k hs ≡ woven hs (seen (over T S rail) (k .streams) (k .lent) (eventsIn hs))
+  unfolding saidOn eventsIn seen woven
+  said-woven [] w k = refl
+  said-woven (asks (arrive c bytes) ∷ hs) w k = ap (λ (ts : List Told). toldBy [] (turn T S rail (k .streams) (k .lent) (arrive c bytes) .answer) ∷ ts) (said-woven hs (w .1) (onward T S k (asks (arrive c bytes))))
+  said-woven (asks (take out) ∷ hs) w k = ap (λ (ts : List Told). toldBy out (turn T S rail (k .streams) (k .lent) (take out) .answer) ∷ ts) (said-woven hs (w .1) (onward T S k (asks (take out))))
+  said-woven (asks sack ∷ hs) w k = ap (λ (ts : List Told). toldBy [] (turn T S rail (k .streams) (k .lent) sack .answer) ∷ ts) (said-woven hs (w .1) (onward T S k (asks sack)))
+  said-woven (not-read ∷ hs) w k = ap (λ (ts : List Told). judged 7 ∷ ts) (said-woven hs (w .1) k)
+  said-woven (take-barred n out ∷ hs) w k = ap (λ (ts : List Told). untaken n 0 out ∷ ts) (said-woven hs (w .1) k)
+  said-woven (sack-barred n ∷ hs) w k = ap (λ (ts : List Told). sacked n noSack ∷ ts) (said-woven hs (w .1) k)
+  said-woven (begins t n ∷ hs) w k = absurd (w .0)
+
+  pub goes-finally : (hs : List Heard) → All Stays hs → (k : Side) → goesOn T S k hs ≡ record { lent = finally T S rail (k .streams) (k .lent) (eventsIn hs); streams = k .streams }
+  unfolding goesOn eventsIn finally
+  goes-finally [] w k = refl
+  goes-finally (asks e ∷ hs) w k = goes-finally hs (w .1) (onward T S k (asks e))
+  goes-finally (not-read ∷ hs) w k = goes-finally hs (w .1) k
+  goes-finally (take-barred n out ∷ hs) w k = goes-finally hs (w .1) k
+  goes-finally (sack-barred n ∷ hs) w k = goes-finally hs (w .1) k
+  goes-finally (begins t n ∷ hs) w k = absurd (w .0)
+
+  pub goes-after : (hs : List Heard) → All Stays hs → (k : Side) → goesOn T S k hs ≡ record { lent = demand.after (over T S rail) (k .streams) (k .lent) (eventsIn hs); streams = k .streams }
+  unfolding goesOn eventsIn demand.after
+  goes-after [] w k = refl
+  goes-after (asks (arrive c bytes) ∷ hs) w k = goes-after hs (w .1) (onward T S k (asks (arrive c bytes)))
+  goes-after (asks (take out) ∷ hs) w k = goes-after hs (w .1) (onward T S k (asks (take out)))
+  goes-after (asks sack ∷ hs) w k = goes-after hs (w .1) (onward T S k (asks sack))
+  goes-after (not-read ∷ hs) w k = goes-after hs (w .1) k
+  goes-after (take-barred n out ∷ hs) w k = goes-after hs (w .1) k
+  goes-after (sack-barred n ∷ hs) w k = goes-after hs (w .1) k
+  goes-after (begins t n ∷ hs) w k = absurd (w .0)
+
+  pub said-given : (hs : List Heard) → All Stays hs → (k : Side) → givenIn (saidOn T S k hs) ≡ given (seen (over T S rail) (k .streams) (k .lent) (eventsIn hs))
+  unfolding saidOn eventsIn seen givenIn
+  said-given [] w k = refl
+  said-given (asks (arrive c bytes) ∷ hs) w k = said-given hs (w .1) (onward T S k (asks (arrive c bytes)))
+  said-given (asks (take out) ∷ hs) w k =
+      taken-given out (taken T S rail (k .lent .receiving) (length out) .answer) _ (saidOn T S (onward T S k (asks (take out))) hs) _ (said-given hs (w .1) (onward T S k (asks (take out))))
+  said-given (asks sack ∷ hs) w k = said-given hs (w .1) (onward T S k (asks sack))
+  said-given (not-read ∷ hs) w k = said-given hs (w .1) k
+  said-given (take-barred n out ∷ hs) w k = said-given hs (w .1) k
+  said-given (sack-barred n ∷ hs) w k = said-given hs (w .1) k
+  said-given (begins t n ∷ hs) w k = absurd (w .0)
+
+-- ---- brought back onto the circles
+
+abbrev TSNs : ℕ
+TSNs = 2 ^ 32
+
+abbrev SSNs : ℕ
+SSNs = 2 ^ 16
+
+shown-taken : (lent : List ℕ) (x : Taking) (now : List ℕ) → takenAs lent (reduceTaken SSNs x) now ≡ reduceTold TSNs SSNs (takenAs lent x now)
+shown-taken lent (Taken m) now = refl
+shown-taken lent Nothing now = refl
+shown-taken lent (Short n) now = refl
+
+shown-reduced : (z : Seen) → shown (reduceSeen TSNs SSNs z) ≡ reduceTold TSNs SSNs (shown z)
+shown-reduced (number n) = refl
+shown-reduced (gave out t now) = shown-taken out t now
+shown-reduced (demand.told s) = refl
+
+pub woven-reduced : (hs : List Heard) (zs : List Seen) → woven (map (reduceHeard TSNs SSNs) hs) (map (reduceSeen TSNs SSNs) zs) ≡ map (reduceTold TSNs SSNs) (woven hs zs)
+unfolding woven
+woven-reduced [] zs = refl
+woven-reduced (asks e ∷ hs) [] = refl
+woven-reduced (asks e ∷ hs) (z ∷ zs) = λ i. shown-reduced z i ∷ woven-reduced hs zs i
+woven-reduced (not-read ∷ hs) zs = ap (λ (ts : List Told). judged 7 ∷ ts) (woven-reduced hs zs)
+woven-reduced (take-barred n out ∷ hs) zs = ap (λ (ts : List Told). untaken n 0 out ∷ ts) (woven-reduced hs zs)
+woven-reduced (sack-barred n ∷ hs) zs = ap (λ (ts : List Told). sacked n noSack ∷ ts) (woven-reduced hs zs)
+woven-reduced (begins t n ∷ hs) zs = woven-reduced hs zs
+
+pub events-reduced : (hs : List Heard) → eventsIn (map (reduceHeard TSNs SSNs) hs) ≡ map (reduceEvent TSNs SSNs) (eventsIn hs)
+unfolding eventsIn
+events-reduced [] = refl
+events-reduced (asks e ∷ hs) = ap (λ (es : List LineEvent). reduceEvent TSNs SSNs e ∷ es) (events-reduced hs)
+events-reduced (not-read ∷ hs) = events-reduced hs
+events-reduced (take-barred n out ∷ hs) = events-reduced hs
+events-reduced (sack-barred n ∷ hs) = events-reduced hs
+events-reduced (begins t n ∷ hs) = events-reduced hs
+
+pub stays-reduced : (hs : List Heard) → All Stays hs → All Stays (map (reduceHeard TSNs SSNs) hs)
+stays-reduced [] w = tt
+stays-reduced (asks e ∷ hs) w = (tt, stays-reduced hs (w .1))
+stays-reduced (not-read ∷ hs) w = (tt, stays-reduced hs (w .1))
+stays-reduced (take-barred n out ∷ hs) w = (tt, stays-reduced hs (w .1))
+stays-reduced (sack-barred n ∷ hs) w = (tt, stays-reduced hs (w .1))
+stays-reduced (begins t n ∷ hs) w = absurd (w .0)
