@@ -1,6 +1,6 @@
 -- DEMAND 3 FOR THE HOST'S OWN CALLS, at the rail's numbers: whatever it calls, from a fresh start up to the next one, it is told of what it receives just
 -- what the host of the line receiver is told on the same chunks, brought back onto the circles. `Demand3Laws` proves it of every stretch (`demand-3`).
-use Prim.Native.Nat.{ℕ, suc, _^_, _<_, _≤_}
+use Prim.Native.Nat.{ℕ, suc, _+_, _^_, _<_, _≤_}
 use mathlib.Core.Path.{_≡_}
 use mathlib.Core.List.{map}
 use lib.ListN.{length}
@@ -8,7 +8,7 @@ use Rattle.numbers.specs.Numbering.{line}
 use Rattle.numbers.specs.Profile.{rail}
 use Rattle.delivery.specs.Receiving.{lowOf}
 use Rattle.line.specs.Reduce.{reduceChunk}
-use Rattle.line.specs.Demand.{ours, first, Messages, Holds}
+use Rattle.line.specs.Demand.{ours, Messages, Holds}
 use Rattle.demands.specs.Told.{givenIn}
 use Rattle.demands.specs.Stretch.{Stretch, reduceTold, reduceSide, lineSide, lineTold, hostSide, hostTold}
 
@@ -18,8 +18,8 @@ pub record Demand3 (c : Stretch) : Type 0 where
   -- the receiving record, with what stands in the area
   pub left : hostSide c ≡ reduceSide (2 ^ 32) (2 ^ 16) (lineSide c)
   -- so the messages that the host got are different ones of the sender, each with its bytes, those of a stream in order without a gap
-  pub messages : 65536 ≤ length (c .user .area) → Messages (2 ^ 16) (first (c .user)) (c .user .chunk) (c .user .payload) (givenIn (hostTold c))
+  pub messages : 65536 ≤ length (c .area) → Messages (2 ^ 16) (c .initial + 2 ^ 32) (c .chunk) (c .payload) (givenIn (hostTold c))
   -- and the chunk next after the point, of 1 to 512 bytes, would now be held, unless what is held at or below the point fills the places
-  pub progress : (j : ℕ) → j ≡ suc (lineSide c .lent .receiving .keeping .point .0) → 1 ≤ length (c .user .payload j) → length (c .user .payload j) ≤ 512
+  pub progress : (j : ℕ) → j ≡ suc (lineSide c .lent .receiving .keeping .point .0) → 1 ≤ length (c .payload j) → length (c .payload j) ≤ 512
       → lowOf line (lineSide c .lent .receiving) < 128
-      → Holds rail ours (c .user .streams) (hostSide c .lent) (reduceChunk (2 ^ 32) (2 ^ 16) (c .user .chunk j)) (c .user .payload j)
+      → Holds rail ours (c .streams) (hostSide c .lent) (reduceChunk (2 ^ 32) (2 ^ 16) (c .chunk j)) (c .payload j)

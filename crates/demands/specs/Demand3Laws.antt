@@ -1,5 +1,5 @@
 -- Demand 3 holds of the host's own calls. Assumes nothing.
-use Prim.Native.Nat.{ℕ, suc, _^_, _<_, _≤_}
+use Prim.Native.Nat.{ℕ, suc, _+_, _^_, _<_, _≤_}
 use mathlib.Core.Path.{_≡_, refl, sym, ap, _∙_, subst}
 use mathlib.Core.List.{List, [], _∷_, _++_, map}
 use lib.ListN.{length, drop}
@@ -11,43 +11,63 @@ use Rattle.line.specs.Reduce.{reduceChunk}
 use Rattle.line.specs.Runs.{Event as LineEvent, Lent, start, finally, reduceEvent, reduceLent}
 use Rattle.line.specs.Agreement.{rail-agrees}
 use Rattle.line.specs.Demand as demand
-use Rattle.line.specs.Demand.{Seen, seen, onLine, ours, reduceSeen, Premises, first, lineSeen, lineAfter, hostSeen, hostAfter, Given, given, Messages, Holds}
+use Rattle.line.specs.Demand.{Seen, seen, ours, Premises, lineSeen, lineAfter, hostSeen, hostAfter, given, Messages, Holds}
 use Rattle.line.specs.DemandLaws as receiver
 use Rattle.demands.specs.Told.{Told, givenIn}
 use Rattle.demands.specs.Heard.{Heard, Side, goesOn, saidOn, circleGoes, circleSaid}
-use Rattle.demands.specs.Stretch.{Stretch, afterAll, toldIn, heardIn, sideIn, reduceHeard, reduceTold, reduceSide, Stays, eventsIn, lineStart, lineSide, lineTold, hostSide, hostTold}
+use Rattle.demands.specs.Stretch.{Stretch, heardIn, sideIn, reduceTold, reduceSide, lineStart, lineHeard, lineSide, lineTold, hostSide, hostTold}
 use Rattle.demands.specs.Demand3.{Demand3}
 use Rattle.demands.specs.ListLaws.{goes-append, said-append}
 use Rattle.demands.specs.CallLaws.{calls-go, calls-tell}
-use Rattle.demands.specs.LineLaws.{woven, said-woven, goes-finally, goes-after, said-given, woven-reduced, events-reduced, stays-reduced}
+use Rattle.demands.specs.LineLaws.{Stays, eventsIn, reduceHeard, woven, said-woven, goes-finally, goes-after, said-given, woven-reduced, events-reduced, stays-reduced, lined-reduced, lined-stays, lined-fair}
 
 drop-behind : {A : Type 0} (xs ys : List A) → drop (length xs) (xs ++ ys) ≡ ys
 drop-behind [] ys = refl
 drop-behind (x ∷ xs) ys = drop-behind xs ys
 
 module _ (c : Stretch) where
-  abbrev u : Premises rail (2 ^ 31)
-  u = c .user
+  -- what is asked since the fresh start, on the line and on the circles
+  abbrev there : List Heard
+  there = lineHeard c
 
-  -- what is asked since the fresh start, and how it begins
+  there-stays : All Stays there
+  there-stays = lined-stays (c .initial + 2 ^ 32) (c .chunk) (c .payload) (c .since) (lineStart c) (c .fair)
+
   abbrev here : List Heard
-  here = map (reduceHeard (2 ^ 32) (2 ^ 16)) (c .since)
+  here = map (reduceHeard (2 ^ 32) (2 ^ 16)) there
+
+  asked-here : heardIn (c .host) (c .calls) ≡ c .before ++ here
+  asked-here = c .asked ∙ ap (λ (hs : List Heard). c .before ++ hs) (lined-reduced (c .initial + 2 ^ 32) (c .chunk) (c .payload) (c .since) (lineStart c) (c .fair))
+
+  -- the premises of the receiver's own demand
+  abbrev u : Premises rail (2 ^ 31)
+  u = record {
+    initial = c .initial;
+    small = c .small;
+    streams = c .streams;
+    area = c .area;
+    chunk = c .chunk;
+    payload = c .payload;
+    honest = c .honest;
+    events = eventsIn there;
+    fair = lined-fair (c .initial + 2 ^ 32) (c .chunk) (c .payload) (c .since) (lineStart c) (c .fair);
+  }
 
   abbrev begun : Side
   begun = record { lent = start (ring (2 ^ 32)) rail (record { 0 = u .initial }) (u .area); streams = u .streams }
 
   here-stays : All Stays here
-  here-stays = stays-reduced (c .since) (c .one-life)
+  here-stays = stays-reduced there there-stays
 
   here-reached : eventsIn here ≡ map (reduceEvent (2 ^ 32) (2 ^ 16)) (u .events)
-  here-reached = events-reduced (c .since) ∙ ap (map (reduceEvent (2 ^ 32) (2 ^ 16))) (c .reached)
+  here-reached = events-reduced there
 
   -- ---- the host's calls are the receiver's
 
   side-is : hostSide c ≡ circleGoes begun here
   side-is =
       calls-go (c .calls) (c .host)
-      ∙ (ap (circleGoes (sideIn (c .host))) (c .asked)
+      ∙ (ap (circleGoes (sideIn (c .host))) asked-here
       ∙ (goes-append (ring (2 ^ 32)) (ring (2 ^ 16)) (c .before) here (sideIn (c .host)) ∙ ap (λ (k : Side). circleGoes k here) (c .fresh)))
 
   told-is : hostTold c ≡ circleSaid begun here
@@ -55,7 +75,7 @@ module _ (c : Stretch) where
       let x : List Told = circleSaid (sideIn (c .host)) (c .before) in
       ap (drop (length x))
       (calls-tell (c .calls) (c .host)
-      ∙ (ap (circleSaid (sideIn (c .host))) (c .asked) ∙ said-append (ring (2 ^ 32)) (ring (2 ^ 16)) (c .before) here (sideIn (c .host))))
+      ∙ (ap (circleSaid (sideIn (c .host))) asked-here ∙ said-append (ring (2 ^ 32)) (ring (2 ^ 16)) (c .before) here (sideIn (c .host))))
       ∙ (drop-behind x (circleSaid (circleGoes (sideIn (c .host)) (c .before)) here) ∙ ap (λ (k : Side). circleSaid k here) (c .fresh))
 
   -- ---- and the receiver's are the line's
@@ -66,17 +86,15 @@ module _ (c : Stretch) where
   seen-is : seen ours (u .streams) (begun .lent) (eventsIn here) ≡ ourSeen
   seen-is = ap (seen ours (u .streams) (begun .lent)) here-reached
 
-  line-told : lineTold c ≡ woven (c .since) (lineSeen u)
-  line-told =
-      said-woven line line (c .since) (c .one-life) (lineStart c)
-      ∙ ap (λ (es : List LineEvent). woven (c .since) (seen (onLine rail) (u .streams) (lineStart c .lent) es)) (c .reached)
+  line-told : lineTold c ≡ woven there (lineSeen u)
+  line-told = said-woven line line there there-stays (lineStart c)
 
   tells : hostTold c ≡ map (reduceTold (2 ^ 32) (2 ^ 16)) (lineTold c)
   tells =
       told-is
       ∙ (said-woven (ring (2 ^ 32)) (ring (2 ^ 16)) here here-stays begun
       ∙ (ap (woven here) (seen-is ∙ receiver.demand-3 .agrees u)
-      ∙ (woven-reduced (c .since) (lineSeen u) ∙ ap (map (reduceTold (2 ^ 32) (2 ^ 16))) (sym line-told))))
+      ∙ (woven-reduced there (lineSeen u) ∙ ap (map (reduceTold (2 ^ 32) (2 ^ 16))) (sym line-told))))
 
   leaves : hostSide c ≡ reduceSide (2 ^ 32) (2 ^ 16) (lineSide c)
   leaves =
@@ -90,9 +108,7 @@ module _ (c : Stretch) where
       side l = record { lent = l; streams = u .streams }
 
       line-left : lineSide c ≡ side (finally line line rail (u .streams) (lineStart c .lent) (u .events))
-      line-left =
-          goes-finally line line (c .since) (c .one-life) (lineStart c)
-          ∙ ap (λ (es : List LineEvent). side (finally line line rail (u .streams) (lineStart c .lent) es)) (c .reached)
+      line-left = goes-finally line line there there-stays (lineStart c)
 
   gives : givenIn (hostTold c) ≡ given ourSeen
   gives = ap givenIn told-is ∙ (said-given (ring (2 ^ 32)) (ring (2 ^ 16)) here here-stays begun ∙ ap given seen-is)
@@ -105,16 +121,14 @@ module _ (c : Stretch) where
       ∙ ap (demand.after ours (u .streams) (begun .lent)) here-reached
 
   line-after : lineSide c .lent ≡ lineAfter u
-  line-after =
-      ap (λ (k : Side). k .lent) (goes-after line line (c .since) (c .one-life) (lineStart c))
-      ∙ ap (demand.after (onLine rail) (u .streams) (lineStart c .lent)) (c .reached)
+  line-after = ap (λ (k : Side). k .lent) (goes-after line line there there-stays (lineStart c))
 
   -- DEMAND 3
   pub demand-3 : Demand3 c
   demand-3 = record {
     told = tells;
     left = leaves;
-    messages = λ long. subst (Messages (2 ^ 16) (first u) (u .chunk) (u .payload)) (sym gives) (receiver.demand-3 .messages u long);
+    messages = λ long. subst (Messages (2 ^ 16) (c .initial + 2 ^ 32) (u .chunk) (u .payload)) (sym gives) (receiver.demand-3 .messages u long);
     progress = λ j next some fits room.
         subst (λ (l : Lent). Holds rail ours (u .streams) l (reduceChunk (2 ^ 32) (2 ^ 16) (u .chunk j)) (u .payload j)) (sym host-after)
         (receiver.demand-3 .progress u j (next ∙ ap (λ (l : Lent). suc (l .receiving .keeping .point .0)) line-after) some fits

@@ -5,19 +5,38 @@ use mathlib.Core.Path.{_≡_, refl, ap, _∙_}
 use mathlib.Core.List.{List, [], _∷_, map}
 use lib.ListN.{length}
 use Rattle.scans.specs.Each.{All}
-use Rattle.numbers.specs.Numbering.{Numbering}
+use Rattle.numbers.specs.Numbering.{Numbering, line}
 use Rattle.numbers.specs.Profile.{rail}
+use Rattle.numbers.specs.KeepingLine.{reduceTsn}
+use Rattle.holding.specs.declared.held.Chunk.{Chunk}
 use Rattle.holding.specs.declared.taking.Answer.{Answer as Taking}
 use Rattle.holding.specs.declared.taking.Answer.the-variants.{Taken, Nothing, Short}
 use Rattle.delivery.specs.Receiving.{taken}
-use Rattle.line.specs.Runs.{Event as LineEvent, arrive, take, sack, turn, finally, reduceEvent}
+use Rattle.line.specs.Runs.{Event as LineEvent, arrive, take, sack, turn, finally, reduceEvent, Fair}
 use Rattle.line.specs.Reduce.{reduceTaken}
 use Rattle.line.specs.Demand as demand
 use Rattle.line.specs.Demand.{Seen, number, gave, seen, over, reduceSeen, Given, givenBy, given}
 use Rattle.calls.specs.Acknowledging.{chunkOf, noSack}
 use Rattle.demands.specs.Told.{Told, judged, untaken, sacked, givenIn}
 use Rattle.demands.specs.Heard.{Heard, asks, not-read, take-barred, sack-barred, begins, Side, onward, takenAs, toldBy, goesOn, saidOn}
-use Rattle.demands.specs.Stretch.{reduceHeard, reduceTold, Stays, eventsIn}
+use Rattle.demands.specs.Stretch.{reduceTold, Fairly, onLine}
+
+-- no fresh start
+abbrev pub Stays : Heard → Type 0
+Stays (asks e) = Unit
+Stays not-read = Unit
+Stays (take-barred n out) = Unit
+Stays (sack-barred n) = Unit
+Stays (begins t n) = ⊥
+
+-- what reaches the receiving side
+unfoldable pub eventsIn : List Heard → List LineEvent
+eventsIn [] = []
+eventsIn (asks e ∷ hs) = e ∷ eventsIn hs
+eventsIn (not-read ∷ hs) = eventsIn hs
+eventsIn (take-barred n out ∷ hs) = eventsIn hs
+eventsIn (sack-barred n ∷ hs) = eventsIn hs
+eventsIn (begins t n ∷ hs) = eventsIn hs
 
 -- what is told of what the receiver's host sees
 abbrev shown : Seen → Told
@@ -93,6 +112,14 @@ TSNs = 2 ^ 32
 abbrev SSNs : ℕ
 SSNs = 2 ^ 16
 
+-- of the line's, as the circles of n and m have it
+abbrev pub reduceHeard : ℕ → ℕ → Heard → Heard
+reduceHeard n m (asks e) = asks (reduceEvent n m e)
+reduceHeard n m not-read = not-read
+reduceHeard n m (take-barred k out) = take-barred k out
+reduceHeard n m (sack-barred k) = sack-barred k
+reduceHeard n m (begins t k) = begins (reduceTsn n t) k
+
 shown-taken : (lent : List ℕ) (x : Taking) (now : List ℕ) → takenAs lent (reduceTaken SSNs x) now ≡ reduceTold TSNs SSNs (takenAs lent x now)
 shown-taken lent (Taken m) now = refl
 shown-taken lent Nothing now = refl
@@ -129,3 +156,43 @@ stays-reduced (not-read ∷ hs) w = (tt, stays-reduced hs (w .1))
 stays-reduced (take-barred n out ∷ hs) w = (tt, stays-reduced hs (w .1))
 stays-reduced (sack-barred n ∷ hs) w = (tt, stays-reduced hs (w .1))
 stays-reduced (begins t n ∷ hs) w = absurd (w .0)
+
+-- ---- what arrives is a fair run of the line
+
+module _ (first : ℕ) (chunk : ℕ → Chunk) (payload : ℕ → List ℕ) where
+  abbrev lined : (k : Side) (hs : List Heard) → Fairly first chunk payload k hs → List Heard
+  lined = onLine first chunk payload
+
+  pub lined-reduced : (hs : List Heard) (k : Side) (f : Fairly first chunk payload k hs) → hs ≡ map (reduceHeard TSNs SSNs) (lined k hs f)
+  lined-reduced [] k f = refl
+  lined-reduced (asks (arrive c bytes) ∷ hs) k f =
+      λ i. asks (arrive (f .0 .same i) (f .0 .whole i)) ∷ lined-reduced hs (onward line line k (asks (arrive (chunk (f .0 .number)) (payload (f .0 .number))))) (f .1) i
+  lined-reduced (asks (take out) ∷ hs) k f = ap (λ (gs : List Heard). asks (take out) ∷ gs) (lined-reduced hs (onward line line k (asks (take out))) f)
+  lined-reduced (asks sack ∷ hs) k f = ap (λ (gs : List Heard). asks sack ∷ gs) (lined-reduced hs (onward line line k (asks sack)) f)
+  lined-reduced (not-read ∷ hs) k f = ap (λ (gs : List Heard). not-read ∷ gs) (lined-reduced hs k f)
+  lined-reduced (take-barred n out ∷ hs) k f = ap (λ (gs : List Heard). take-barred n out ∷ gs) (lined-reduced hs k f)
+  lined-reduced (sack-barred n ∷ hs) k f = ap (λ (gs : List Heard). sack-barred n ∷ gs) (lined-reduced hs k f)
+  lined-reduced (begins t n ∷ hs) k f = absurd f
+
+  pub lined-stays : (hs : List Heard) (k : Side) (f : Fairly first chunk payload k hs) → All Stays (lined k hs f)
+  lined-stays [] k f = tt
+  lined-stays (asks (arrive c bytes) ∷ hs) k f = (tt, lined-stays hs (onward line line k (asks (arrive (chunk (f .0 .number)) (payload (f .0 .number))))) (f .1))
+  lined-stays (asks (take out) ∷ hs) k f = (tt, lined-stays hs (onward line line k (asks (take out))) f)
+  lined-stays (asks sack ∷ hs) k f = (tt, lined-stays hs (onward line line k (asks sack)) f)
+  lined-stays (not-read ∷ hs) k f = (tt, lined-stays hs k f)
+  lined-stays (take-barred n out ∷ hs) k f = (tt, lined-stays hs k f)
+  lined-stays (sack-barred n ∷ hs) k f = (tt, lined-stays hs k f)
+  lined-stays (begins t n ∷ hs) k f = absurd f
+
+  pub lined-fair : (hs : List Heard) (k : Side) (f : Fairly first chunk payload k hs) → Fair rail (2 ^ 31) first chunk payload (k .streams) (k .lent) (eventsIn (lined k hs f))
+  unfolding eventsIn
+  lined-fair [] k f = tt
+  lined-fair (asks (arrive c bytes) ∷ hs) k f =
+      let x = f .0 in
+      ((x .number, x .from, refl, refl, x .near), lined-fair hs (onward line line k (asks (arrive (chunk (x .number)) (payload (x .number))))) (f .1))
+  lined-fair (asks (take out) ∷ hs) k f = lined-fair hs (onward line line k (asks (take out))) f
+  lined-fair (asks sack ∷ hs) k f = lined-fair hs (onward line line k (asks sack)) f
+  lined-fair (not-read ∷ hs) k f = lined-fair hs k f
+  lined-fair (take-barred n out ∷ hs) k f = lined-fair hs k f
+  lined-fair (sack-barred n ∷ hs) k f = lined-fair hs k f
+  lined-fair (begins t n ∷ hs) k f = absurd f

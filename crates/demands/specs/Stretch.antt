@@ -1,21 +1,21 @@
 -- The calls of a host, and the stretch of them from a fresh start up to the next one.
-use Prim.Native.Nat.{ℕ, _+_, _^_}
+use Prim.Native.Nat.{ℕ, _+_, _^_, _<_, _≤_}
 use mathlib.Core.Path.{_≡_}
 use mathlib.Core.List.{List, [], _∷_, _++_, map}
 use lib.ListN.{length, drop}
-use Rattle.scans.specs.Each.{All}
-use Rattle.numbers.specs.Numbering.{ring, line}
+use Rattle.numbers.specs.Numbering.{ring, line, Within}
 use Rattle.numbers.specs.Profile.{rail}
 use Rattle.numbers.specs.KeepingLine.{reduceTsn}
 use Rattle.chunks.specs.declared.sack.Sack.{Sack}
-use Rattle.line.specs.Reduce.{reduceMessage}
-use Rattle.line.specs.Runs.{Event as LineEvent, start, reduceEvent, reduceLent}
-use Rattle.line.specs.Demand.{Premises, first}
+use Rattle.holding.specs.declared.held.Chunk.{Chunk}
+use Rattle.line.specs.Reduce.{reduceChunk, reduceMessage}
+use Rattle.line.specs.Runs.{arrive, take, sack, Lent, start, reduceLent}
+use Rattle.line.specs.Sender.{Sender}
 use Rattle.association.specs.declared.ends.Association.{Association}
 use Rattle.events.specs.declared.event.Event.{Event}
 use Rattle.events.specs.Happening.{Buffers, Left, happened}
 use Rattle.demands.specs.Told.{Told, judged, took, untaken, sacked, toldOf}
-use Rattle.demands.specs.Heard.{Heard, asks, not-read, take-barred, sack-barred, begins, heardOf, Side, sideOf, goesOn, saidOn, circleGoes, circleSaid}
+use Rattle.demands.specs.Heard.{Heard, asks, not-read, take-barred, sack-barred, begins, heardOf, Side, sideOf, onward, goesOn, saidOn, circleGoes, circleSaid}
 
 -- ---- the calls of a host
 
@@ -59,13 +59,6 @@ sideIn h = sideOf (h .association) (h .area)
 
 -- ---- what the line has, as the circles of n and m have it
 
-abbrev pub reduceHeard : ℕ → ℕ → Heard → Heard
-reduceHeard n m (asks e) = asks (reduceEvent n m e)
-reduceHeard n m not-read = not-read
-reduceHeard n m (take-barred k out) = take-barred k out
-reduceHeard n m (sack-barred k) = sack-barred k
-reduceHeard n m (begins t k) = begins (reduceTsn n t) k
-
 abbrev pub reduceValues : ℕ → Sack → Sack
 reduceValues n s = record { point = reduceTsn n (s .point); window = s .window; blocks = s .blocks; dups = map (reduceTsn n) (s .dups); listed = s .listed }
 
@@ -80,52 +73,79 @@ reduceSide n m k = record { lent = reduceLent n m (k .lent); streams = k .stream
 
 -- ---- a stretch
 
--- no fresh start
-abbrev pub Stays : Heard → Type 0
-Stays (asks e) = Unit
-Stays not-read = Unit
-Stays (take-barred n out) = Unit
-Stays (sack-barred n) = Unit
-Stays (begins t n) = ⊥
+-- a DATA that arrives is the sender's, unchanged: its chunk of some number, from the first on, with its payload; and it lies less than 2,147,483,648 from
+-- the point of the line receiver
+pub record IsSent (first : ℕ) (chunk : ℕ → Chunk) (payload : ℕ → List ℕ) (l : Lent) (c : Chunk) (bytes : List ℕ) : Type 0 where
+  pub number : ℕ
+  pub from : first ≤ number
+  pub same : c ≡ reduceChunk (2 ^ 32) (2 ^ 16) (chunk number)
+  pub whole : bytes ≡ payload number
+  pub near : Within (2 ^ 31) (l .receiving .keeping .point .0) number
 
--- what reaches the receiving side
-unfoldable pub eventsIn : List Heard → List LineEvent
-eventsIn [] = []
-eventsIn (asks e ∷ hs) = e ∷ eventsIn hs
-eventsIn (not-read ∷ hs) = eventsIn hs
-eventsIn (take-barred n out ∷ hs) = eventsIn hs
-eventsIn (sack-barred n ∷ hs) = eventsIn hs
-eventsIn (begins t n ∷ hs) = eventsIn hs
+-- so is every one that the state reads, and there is no fresh start; k is the line receiver as it comes to them
+abbrev pub Fairly : ℕ → (ℕ → Chunk) → (ℕ → List ℕ) → Side → List Heard → Type 0
+Fairly first chunk payload k [] = Unit
+Fairly first chunk payload k (asks (arrive c bytes) ∷ hs) =
+    (x : IsSent first chunk payload (k .lent) c bytes) × Fairly first chunk payload (onward line line k (asks (arrive (chunk (x .number)) (payload (x .number))))) hs
+Fairly first chunk payload k (asks (take out) ∷ hs) = Fairly first chunk payload (onward line line k (asks (take out))) hs
+Fairly first chunk payload k (asks sack ∷ hs) = Fairly first chunk payload (onward line line k (asks sack)) hs
+Fairly first chunk payload k (not-read ∷ hs) = Fairly first chunk payload k hs
+Fairly first chunk payload k (take-barred n out ∷ hs) = Fairly first chunk payload k hs
+Fairly first chunk payload k (sack-barred n ∷ hs) = Fairly first chunk payload k hs
+Fairly first chunk payload k (begins t n ∷ hs) = ⊥
+
+-- what is asked, as the line has it: the same chunks, with their numbers on the line
+abbrev pub onLine : (first : ℕ) (chunk : ℕ → Chunk) (payload : ℕ → List ℕ) (k : Side) (hs : List Heard) → Fairly first chunk payload k hs → List Heard
+onLine first chunk payload k [] f = []
+onLine first chunk payload k (asks (arrive c bytes) ∷ hs) f =
+    asks (arrive (chunk (f .0 .number)) (payload (f .0 .number)))
+    ∷ onLine first chunk payload (onward line line k (asks (arrive (chunk (f .0 .number)) (payload (f .0 .number))))) hs (f .1)
+onLine first chunk payload k (asks (take out) ∷ hs) f = asks (take out) ∷ onLine first chunk payload (onward line line k (asks (take out))) hs f
+onLine first chunk payload k (asks sack ∷ hs) f = asks sack ∷ onLine first chunk payload (onward line line k (asks sack)) hs f
+onLine first chunk payload k (not-read ∷ hs) f = not-read ∷ onLine first chunk payload k hs f
+onLine first chunk payload k (take-barred n out ∷ hs) f = take-barred n out ∷ onLine first chunk payload k hs f
+onLine first chunk payload k (sack-barred n ∷ hs) f = sack-barred n ∷ onLine first chunk payload k hs f
+onLine first chunk payload k (begins t n ∷ hs) f = []
+
+-- the line receiver for an initial TSN: on the line its first number is one turn further, so that there is one before it
+abbrev pub begunLine : ℕ → ℕ → List ℕ → Side
+begunLine initial streams area = record { lent = start line rail (record { 0 = initial + 2 ^ 32 }) area; streams = streams }
 
 pub record Stretch : Type 0 where
-  -- any record, area and calls
+  -- any record, lent area and calls
   pub host : Host
   pub calls : List Call
-  -- the user's premises: an initial TSN, agreed streams, an honest sender, and what reaches the receiving side, each chunk that arrives being the sender's,
-  -- unchanged, and less than 2,147,483,648 from the point
-  pub user : Premises rail (2 ^ 31)
-  -- what the calls ask up to a fresh start for that TSN and those streams; nothing, where the record is fresh already
+  -- what they ask of the receiving side, up to a fresh start and from there on; nothing before it, where the record is fresh already
   pub before : List Heard
-  pub fresh : circleGoes (sideIn host) before ≡ record { lent = start (ring (2 ^ 32)) rail (record { 0 = user .initial }) (user .area); streams = user .streams }
-  -- and what they ask from there on, as the line has it, with no other fresh start
   pub since : List Heard
-  pub one-life : All Stays since
-  pub asked : heardIn host calls ≡ before ++ map (reduceHeard (2 ^ 32) (2 ^ 16)) since
-  pub reached : eventsIn since ≡ user .events
+  pub asked : heardIn host calls ≡ before ++ since
+  -- the fresh start: any initial TSN, agreed streams and area
+  pub initial : ℕ
+  pub small : initial < 2 ^ 32
+  pub streams : ℕ
+  pub area : List ℕ
+  pub fresh : circleGoes (sideIn host) before ≡ record { lent = start (ring (2 ^ 32)) rail (record { 0 = initial }) area; streams = streams }
+  -- the user's premises: an honest sender, and of the packets that arrive, that each DATA which is read is the sender's and near
+  pub chunk : ℕ → Chunk
+  pub payload : ℕ → List ℕ
+  pub honest : Sender rail (initial + 2 ^ 32) streams chunk
+  pub fair : Fairly (initial + 2 ^ 32) chunk payload (begunLine initial streams area) since
 
 module _ (c : Stretch) where
-  -- the line receiver as it begins, and after the stretch
+  -- the line receiver as it begins, what it is asked, what it has then, and what its host is told
   abbrev pub lineStart : Side
-  lineStart = record { lent = start line rail (record { 0 = first (c .user) }) (c .user .area); streams = c .user .streams }
+  lineStart = begunLine (c .initial) (c .streams) (c .area)
+
+  abbrev pub lineHeard : List Heard
+  lineHeard = onLine (c .initial + 2 ^ 32) (c .chunk) (c .payload) lineStart (c .since) (c .fair)
 
   abbrev pub lineSide : Side
-  lineSide = goesOn line line lineStart (c .since)
+  lineSide = goesOn line line lineStart lineHeard
 
-  -- what its host is told
   abbrev pub lineTold : List Told
-  lineTold = saidOn line line lineStart (c .since)
+  lineTold = saidOn line line lineStart lineHeard
 
-  -- the receiving side of our host after its calls, and what it is told since the fresh start
+  -- the receiving side of our host after its calls, and what the host is told since the fresh start
   abbrev pub hostSide : Side
   hostSide = sideIn (afterAll (c .host) (c .calls))
 
