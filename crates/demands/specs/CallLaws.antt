@@ -43,7 +43,7 @@ use Rattle.calls.specs.Timers.{backedOff, triedTo, expiring, expiringThird, sam
 use Rattle.calls.specs.Closing.{shutting, aborting}
 use Rattle.calls.specs.Telling.{tellingStream, staleRefusal, tellingStale, beating}
 use Rattle.events.specs.declared.event.Event.{Event}
-use Rattle.events.specs.declared.event.Event.the-variants.{Packet, Associate, HandIn, Transmit, Take, Acknowledge, T1, T2, T3, Shutdown, Abort, ErrorStream, ErrorStale, Heartbeat, Sample, Unknown}
+use Rattle.events.specs.declared.event.Event.the-variants.{Associate, HandIn, Take, Acknowledge, Shutdown, Abort, Heartbeat, Sample}
 use Rattle.events.specs.Told.{ofAcknowledged, ofDelivered}
 use Rattle.events.specs.Happening.{Buffers, Left, leaving, planned, tellingAny, halves, happened}
 use Rattle.events.specs.HappenedLaws.{any-keeps, Each, each-event}

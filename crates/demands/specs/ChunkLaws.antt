@@ -1,7 +1,7 @@
 -- One chunk: a DATA that the state reads is an arrival, one that it does not is answered 7, and every other chunk leaves the receiving side as it was or
 -- starts it afresh. Assumes nothing.
-use Prim.Native.Nat.{ℕ, _^_, _/_}
-use mathlib.Core.Path.{_≡_, refl, sym, ap, _∙_}
+use Prim.Native.Nat.{ℕ, _/_}
+use mathlib.Core.Path.{_≡_, refl, sym, ap}
 use mathlib.Core.Bool.{Bool, true, false}
 use mathlib.Core.List.{List, [], _∷_}
 use lib.Dec.{eqb}
@@ -10,8 +10,6 @@ use Rattle.scans.specs.Scan.{pick}
 use Rattle.scans.specs.Each.{clash}
 use Rattle.scans.specs.Upto.{pick-keeps}
 use Rattle.octets.specs.Bytes.{u8}
-use Rattle.numbers.specs.Numbering.{ring}
-use Rattle.numbers.specs.Profile.{rail}
 use Rattle.chunks.specs.declared.kind.Handling.{Handling}
 use Rattle.chunks.specs.declared.kind.Handling.the-variants.{Stop, StopAndReport, Skip, SkipAndReport}
 use Rattle.chunks.specs.declared.kind.Kind.{Kind}
@@ -32,7 +30,6 @@ use Rattle.states.specs.declared.rows.Row.the-variants.{Refused, ReadData, Read
 use Rattle.states.specs.Rows.{cells, rowOf}
 use Rattle.states.specs.RowsLaws.{each-state}
 use Rattle.association.specs.declared.ends.Association.{Association}
-use Rattle.association.specs.Fresh.{withReceiving}
 use Rattle.steps.specs.declared.chunk.Beside.{Beside}
 use Rattle.steps.specs.declared.lent.Echoed.{Echoed}
 use Rattle.steps.specs.declared.lent.Echoed.the-variants.{Bad, Stale, Good}
@@ -43,8 +40,8 @@ use Rattle.steps.specs.Closing.{heardShutdown, readError, readShutdown, answerS
 use Rattle.steps.specs.Unknown.{passUnknown, tellUnknown}
 use Rattle.steps.specs.Steps.{rowStep, rowArea, rowMet, stepOf, areaOf}
 use Rattle.arriving.specs.Verdict.{fateCode}
-use Rattle.demands.specs.Told.{Told, judged, isData}
-use Rattle.demands.specs.Heard.{Heard, not-read, ackStart, wordStart, echoStart, arrives, rowHeard, chunkHeard, Side, sideOf, goesOn, saidOn, circleGoes, circleSaid}
+use Rattle.demands.specs.Told.{judged, isData}
+use Rattle.demands.specs.Heard.{Heard, not-read, ackStart, echoStart, arrives, rowHeard, chunkHeard, Side, sideOf, goesOn, saidOn, circleGoes, circleSaid}
 
 -- what two tests of one kind choose
 pub pick-both : {A B : Type 0} (Q : A → B → Type 0) (t : Bool) (x y : A) (u v : B) → Q x u → Q y v → Q (pick t x y) (pick t u v)
@@ -336,9 +333,6 @@ module _ (room : ℕ) (a : Association) (b : Beside) (cookie area s : List ℕ) 
   -- of any other nothing is told
   abbrev Silent : List Heard → Type 0
   Silent hs = circleSaid now hs ≡ []
-
-  silent-start : (hs : List Heard) → circleSaid now hs ≡ [] → Silent hs
-  silent-start hs e = e
 
   ack-silent : Silent (ackStart s)
   unfolding saidOn

@@ -1,5 +1,5 @@
 -- Demand 3 holds of the host's own calls. Assumes nothing.
-use Prim.Native.Nat.{ℕ, suc, _+_, _^_, _<_, _≤_}
+use Prim.Native.Nat.{suc, _+_, _^_, _<_}
 use mathlib.Core.Path.{_≡_, refl, sym, ap, _∙_, subst}
 use mathlib.Core.List.{List, [], _∷_, _++_, map}
 use lib.ListN.{length, drop}
@@ -8,13 +8,13 @@ use Rattle.numbers.specs.Numbering.{ring, line}
 use Rattle.numbers.specs.Profile.{rail}
 use Rattle.delivery.specs.Receiving.{lowOf}
 use Rattle.line.specs.Reduce.{reduceChunk}
-use Rattle.line.specs.Runs.{Event as LineEvent, Lent, start, finally, reduceEvent, reduceLent}
+use Rattle.line.specs.Runs.{Event as LineEvent, Lent, start, finally, reduceEvent}
 use Rattle.line.specs.Agreement.{rail-agrees}
 use Rattle.line.specs.Demand as demand
 use Rattle.line.specs.Demand.{Seen, seen, ours, Premises, lineSeen, lineAfter, hostSeen, hostAfter, given, Messages, Holds}
 use Rattle.line.specs.DemandLaws as receiver
 use Rattle.demands.specs.Told.{Told, givenIn}
-use Rattle.demands.specs.Heard.{Heard, Side, goesOn, saidOn, circleGoes, circleSaid}
+use Rattle.demands.specs.Heard.{Heard, Side, circleGoes, circleSaid}
 use Rattle.demands.specs.Stretch.{Stretch, heardIn, sideIn, reduceTold, reduceSide, lineStart, lineHeard, lineSide, lineTold, hostSide, hostTold}
 use Rattle.demands.specs.Demand3.{Demand3}
 use Rattle.demands.specs.ListLaws.{goes-append, said-append}

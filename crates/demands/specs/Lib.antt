@@ -10,3 +10,4 @@ pub mod PacketLaws
 pub mod CallLaws
 pub mod LineLaws
 pub mod Demand3Laws
+pub mod Example

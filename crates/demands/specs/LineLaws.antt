@@ -1,7 +1,7 @@
 -- A stretch, on any numberings: of what is heard, what reaches the receiving side is a run of the receiver, and the rest is told between its answers.
 -- Assumes nothing.
 use Prim.Native.Nat.{ℕ, _^_}
-use mathlib.Core.Path.{_≡_, refl, ap, _∙_}
+use mathlib.Core.Path.{_≡_, refl, ap}
 use mathlib.Core.List.{List, [], _∷_, map}
 use lib.ListN.{length}
 use Rattle.scans.specs.Each.{All}

@@ -7,7 +7,7 @@ use mathlib.Core.List.{List, [], _∷_, _++_}
 use native.Mathlib.Decide.{decLt}
 use native.Mathlib.Omega.{arith}
 use borrow.Author.Tests.{lt-ltb, eqb-true}
-use lib.Dec.{ltb, eqb}
+use lib.Dec.{eqb}
 use lib.ListN.{length, take, drop, set, length-drop, length-set, length-replicate}
 use lib.Seq.{take-suc-set}
 use Rattle.scans.specs.Scan.{pick}
@@ -23,8 +23,7 @@ use Rattle.steps.specs.declared.chunk.Beside.{Beside}
 use Rattle.steps.specs.declared.lent.Lent.{Lent}
 use Rattle.steps.specs.declared.lent.Echoed.{Echoed}
 use Rattle.steps.specs.declared.verdict.Done.{Done}
-use Rattle.steps.specs.declared.verdict.Fate.{Fate}
-use Rattle.steps.specs.Verdict.{Step, numberOf, doneWith}
+use Rattle.steps.specs.Verdict.{numberOf, doneWith}
 use Rattle.steps.specs.Lent.{heeded}
 use Rattle.arriving.specs.declared.verdict.Verdict.{Verdict}
 use Rattle.arriving.specs.declared.walk.Walked.{Walked}
