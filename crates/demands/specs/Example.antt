@@ -44,10 +44,10 @@ use Rattle.arriving.specs.Tags.{arePorts, ruleOpen, ruleFor, headNumber}
 use Rattle.arriving.specs.Walked.{begun}
 use Rattle.arriving.specs.Arrival.{lentNumber, packetNumber, numberOf}
 use Rattle.events.specs.declared.event.Event.the-variants.{Packet}
-use Rattle.demands.specs.Told.{judged as toldNumber}
+use Rattle.demands.specs.News.{numbered}
 use Rattle.demands.specs.Heard.{Heard, asks, chunkHeard, listened, listenedOver, heardOf, goesOn, saidOn, circleGoes}
 use Rattle.demands.specs.Stretch.{Host, Call, heardIn, sideIn, begunLine, Stretch, hostTold}
-use Rattle.demands.specs.Demand3Laws.{demand-3}
+use Rattle.demands.specs.HostDemandLaws.{host-demand-3}
 
 -- from port 5000 to ours, 5001, with our tag, 1; a DATA with B and E, its payload of two bytes
 abbrev packet : List ℕ
@@ -112,8 +112,8 @@ module _ (area out : List ℕ) (long : 65536 ≤ length area) (room : 1472 ≤ l
   unfolding goesOn
   fresh-yet = refl
 
-  pub arrives : Stretch
-  arrives = record {
+  pub one-arrives : Stretch
+  one-arrives = record {
     host = host;
     calls = call ∷ [];
     before = [];
@@ -131,6 +131,6 @@ module _ (area out : List ℕ) (long : 65536 ≤ length area) (room : 1472 ≤ l
   }
 
   -- what the host of the line receiver is told, and so ours
-  pub told-here : hostTold arrives ≡ toldNumber 0 ∷ []
-  unfolding arrives saidOn fresh keeping.fresh before on far judged keeping.offsetOf keeping.isCome holds isLow lowOf arrival.isRepeat arrival.isWedged arrival.judgementOf contradicts contradictsNext clashes isContradicted arrival.verdictOf arrival.arrived
-  told-here = demand-3 arrives .told
+  pub told-here : hostTold one-arrives ≡ numbered 0 ∷ []
+  unfolding one-arrives saidOn fresh keeping.fresh before on far judged keeping.offsetOf keeping.isCome holds isLow lowOf arrival.isRepeat arrival.isWedged arrival.judgementOf contradicts contradictsNext clashes isContradicted arrival.verdictOf arrival.arrived
+  told-here = host-demand-3 one-arrives .told

@@ -39,7 +39,7 @@ use Rattle.calls.specs.Acknowledging as acknowledging
 use Rattle.events.specs.declared.event.Event.{Event}
 use Rattle.events.specs.declared.event.Event.the-variants.{Packet, Associate, HandIn, Transmit, Take, Acknowledge, T1, T2, T3, Shutdown, Abort, ErrorStream, ErrorStale, Heartbeat, Sample, Unknown}
 use Rattle.events.specs.Happening.{Buffers}
-use Rattle.demands.specs.Told.{Told, judged, took, untaken, sacked, isData}
+use Rattle.demands.specs.News.{News, numbered, took, untaken, sacked, isData}
 
 pub data Heard : Type 0 where
   -- the receiving side is asked: by a DATA that the state reads, by a take, for a SACK
@@ -158,12 +158,12 @@ pub record Side : Type 0 where
 abbrev pub sideOf : Association → List ℕ → Side
 sideOf a area = record { lent = record { receiving = a .receiving; area = area }; streams = a .ends .«streams_in» }
 
-abbrev pub onward : Numbering → Numbering → Side → Heard → Side
-onward T S k (asks e) = record { lent = turn T S rail (k .streams) (k .lent) e .lent; streams = k .streams }
-onward T S k not-read = k
-onward T S k (take-barred n out) = k
-onward T S k (sack-barred n) = k
-onward T S k (begins t n) = record { lent = start T rail t (k .lent .area); streams = n }
+abbrev pub sideBy : Numbering → Numbering → Side → Heard → Side
+sideBy T S k (asks e) = record { lent = turn T S rail (k .streams) (k .lent) e .lent; streams = k .streams }
+sideBy T S k not-read = k
+sideBy T S k (take-barred n out) = k
+sideBy T S k (sack-barred n) = k
+sideBy T S k (begins t n) = record { lent = start T rail t (k .lent .area); streams = n }
 
 -- the output that an event lends
 abbrev pub lentBy : LineEvent → List ℕ
@@ -172,35 +172,35 @@ lentBy (take out) = out
 lentBy sack = []
 
 -- 0 with the message; 17; 18 with the length needed
-abbrev pub takenAs : List ℕ → Taking → List ℕ → Told
+abbrev pub takenAs : List ℕ → Taking → List ℕ → News
 takenAs lent (Taken m) now = took lent m now
 takenAs lent Nothing now = untaken 17 0 now
 takenAs lent (Short n) now = untaken 18 n now
 
-abbrev pub toldBy : List ℕ → Answer → Told
-toldBy lent (judges v) = judged (numberOf v)
-toldBy lent (gives t now) = takenAs lent t now
-toldBy lent (tells s) = sacked 0 (acknowledging.chunkOf s)
+abbrev pub newsBy : List ℕ → Answer → News
+newsBy lent (judges v) = numbered (numberOf v)
+newsBy lent (gives t now) = takenAs lent t now
+newsBy lent (tells s) = sacked 0 (acknowledging.chunkOf s)
 
-abbrev pub said : Numbering → Numbering → Side → Heard → List Told
-said T S k (asks e) = toldBy (lentBy e) (turn T S rail (k .streams) (k .lent) e .answer) ∷ []
-said T S k not-read = judged 7 ∷ []
-said T S k (take-barred n out) = untaken n 0 out ∷ []
-said T S k (sack-barred n) = sacked n acknowledging.noSack ∷ []
-said T S k (begins t n) = []
+abbrev pub saidOf : Numbering → Numbering → Side → Heard → List News
+saidOf T S k (asks e) = newsBy (lentBy e) (turn T S rail (k .streams) (k .lent) e .answer) ∷ []
+saidOf T S k not-read = numbered 7 ∷ []
+saidOf T S k (take-barred n out) = untaken n 0 out ∷ []
+saidOf T S k (sack-barred n) = sacked n acknowledging.noSack ∷ []
+saidOf T S k (begins t n) = []
 
 -- of all that is heard
 unfoldable pub goesOn : Numbering → Numbering → Side → List Heard → Side
 goesOn T S k [] = k
-goesOn T S k (h ∷ hs) = goesOn T S (onward T S k h) hs
+goesOn T S k (h ∷ hs) = goesOn T S (sideBy T S k h) hs
 
-unfoldable pub saidOn : Numbering → Numbering → Side → List Heard → List Told
+unfoldable pub saidOn : Numbering → Numbering → Side → List Heard → List News
 saidOn T S k [] = []
-saidOn T S k (h ∷ hs) = said T S k h ++ saidOn T S (onward T S k h) hs
+saidOn T S k (h ∷ hs) = saidOf T S k h ++ saidOn T S (sideBy T S k h) hs
 
 -- on our circles
 abbrev pub circleGoes : Side → List Heard → Side
 circleGoes = goesOn (ring (2 ^ 32)) (ring (2 ^ 16))
 
-abbrev pub circleSaid : Side → List Heard → List Told
+abbrev pub circleSaid : Side → List Heard → List News
 circleSaid = saidOn (ring (2 ^ 32)) (ring (2 ^ 16))

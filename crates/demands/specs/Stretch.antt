@@ -14,8 +14,8 @@ use Rattle.line.specs.Sender.{Sender}
 use Rattle.association.specs.declared.ends.Association.{Association}
 use Rattle.events.specs.declared.event.Event.{Event}
 use Rattle.events.specs.Happening.{Buffers, Left, happened}
-use Rattle.demands.specs.Told.{Told, judged, took, untaken, sacked, toldOf}
-use Rattle.demands.specs.Heard.{Heard, asks, not-read, take-barred, sack-barred, begins, heardOf, Side, sideOf, onward, goesOn, saidOn, circleGoes, circleSaid}
+use Rattle.demands.specs.News.{News, numbered, took, untaken, sacked, newsOf}
+use Rattle.demands.specs.Heard.{Heard, asks, not-read, take-barred, sack-barred, begins, heardOf, Side, sideOf, sideBy, goesOn, saidOn, circleGoes, circleSaid}
 
 -- ---- the calls of a host
 
@@ -35,24 +35,24 @@ pub record Call : Type 0 where
 abbrev pub buffersOf : List ℕ → Call → Buffers
 buffersOf area c = record { received = area; sent = c .sent; input = c .input; cookie = c .cookie; out = c .out }
 
-abbrev pub leftBy : Host → Call → Left
-leftBy h c = happened (h .association) (c .event) (buffersOf (h .area) c)
+abbrev pub leftByCall : Host → Call → Left
+leftByCall h c = happened (h .association) (c .event) (buffersOf (h .area) c)
 
-abbrev pub after : Host → Call → Host
-after h c = record { association = leftBy h c .ran .association; area = leftBy h c .received }
+abbrev pub afterCall : Host → Call → Host
+afterCall h c = record { association = leftByCall h c .ran .association; area = leftByCall h c .received }
 
 -- what it keeps after all of them, what it is told, and what they ask of the receiving side
 unfoldable pub afterAll : Host → List Call → Host
 afterAll h [] = h
-afterAll h (c ∷ cs) = afterAll (after h c) cs
+afterAll h (c ∷ cs) = afterAll (afterCall h c) cs
 
-unfoldable pub toldIn : Host → List Call → List Told
+unfoldable pub toldIn : Host → List Call → List News
 toldIn h [] = []
-toldIn h (c ∷ cs) = toldOf (c .event) (buffersOf (h .area) c) (leftBy h c) ++ toldIn (after h c) cs
+toldIn h (c ∷ cs) = newsOf (c .event) (buffersOf (h .area) c) (leftByCall h c) ++ toldIn (afterCall h c) cs
 
 unfoldable pub heardIn : Host → List Call → List Heard
 heardIn h [] = []
-heardIn h (c ∷ cs) = heardOf (h .association) (c .event) (buffersOf (h .area) c) ++ heardIn (after h c) cs
+heardIn h (c ∷ cs) = heardOf (h .association) (c .event) (buffersOf (h .area) c) ++ heardIn (afterCall h c) cs
 
 abbrev pub sideIn : Host → Side
 sideIn h = sideOf (h .association) (h .area)
@@ -62,11 +62,11 @@ sideIn h = sideOf (h .association) (h .area)
 abbrev pub reduceValues : ℕ → Sack → Sack
 reduceValues n s = record { point = reduceTsn n (s .point); window = s .window; blocks = s .blocks; dups = map (reduceTsn n) (s .dups); listed = s .listed }
 
-abbrev pub reduceTold : ℕ → ℕ → Told → Told
-reduceTold n m (judged k) = judged k
-reduceTold n m (took lent x now) = took lent (reduceMessage m x) now
-reduceTold n m (untaken k len now) = untaken k len now
-reduceTold n m (sacked k s) = sacked k (reduceValues n s)
+abbrev pub reduceNews : ℕ → ℕ → News → News
+reduceNews n m (numbered k) = numbered k
+reduceNews n m (took lent x now) = took lent (reduceMessage m x) now
+reduceNews n m (untaken k len now) = untaken k len now
+reduceNews n m (sacked k s) = sacked k (reduceValues n s)
 
 abbrev pub reduceSide : ℕ → ℕ → Side → Side
 reduceSide n m k = record { lent = reduceLent n m (k .lent); streams = k .streams }
@@ -86,26 +86,26 @@ pub record IsSent (first : ℕ) (chunk : ℕ → Chunk) (payload : ℕ → List 
 abbrev pub Fairly : ℕ → (ℕ → Chunk) → (ℕ → List ℕ) → Side → List Heard → Type 0
 Fairly first chunk payload k [] = Unit
 Fairly first chunk payload k (asks (arrive c bytes) ∷ hs) =
-    (x : IsSent first chunk payload (k .lent) c bytes) × Fairly first chunk payload (onward line line k (asks (arrive (chunk (x .number)) (payload (x .number))))) hs
-Fairly first chunk payload k (asks (take out) ∷ hs) = Fairly first chunk payload (onward line line k (asks (take out))) hs
-Fairly first chunk payload k (asks sack ∷ hs) = Fairly first chunk payload (onward line line k (asks sack)) hs
+    (x : IsSent first chunk payload (k .lent) c bytes) × Fairly first chunk payload (sideBy line line k (asks (arrive (chunk (x .number)) (payload (x .number))))) hs
+Fairly first chunk payload k (asks (take out) ∷ hs) = Fairly first chunk payload (sideBy line line k (asks (take out))) hs
+Fairly first chunk payload k (asks sack ∷ hs) = Fairly first chunk payload (sideBy line line k (asks sack)) hs
 Fairly first chunk payload k (not-read ∷ hs) = Fairly first chunk payload k hs
 Fairly first chunk payload k (take-barred n out ∷ hs) = Fairly first chunk payload k hs
 Fairly first chunk payload k (sack-barred n ∷ hs) = Fairly first chunk payload k hs
 Fairly first chunk payload k (begins t n ∷ hs) = ⊥
 
 -- what is asked, as the line has it: the same chunks, with their numbers on the line
-abbrev pub onLine : (first : ℕ) (chunk : ℕ → Chunk) (payload : ℕ → List ℕ) (k : Side) (hs : List Heard) → Fairly first chunk payload k hs → List Heard
-onLine first chunk payload k [] f = []
-onLine first chunk payload k (asks (arrive c bytes) ∷ hs) f =
+abbrev pub asLine : (first : ℕ) (chunk : ℕ → Chunk) (payload : ℕ → List ℕ) (k : Side) (hs : List Heard) → Fairly first chunk payload k hs → List Heard
+asLine first chunk payload k [] f = []
+asLine first chunk payload k (asks (arrive c bytes) ∷ hs) f =
     asks (arrive (chunk (f .0 .number)) (payload (f .0 .number)))
-    ∷ onLine first chunk payload (onward line line k (asks (arrive (chunk (f .0 .number)) (payload (f .0 .number))))) hs (f .1)
-onLine first chunk payload k (asks (take out) ∷ hs) f = asks (take out) ∷ onLine first chunk payload (onward line line k (asks (take out))) hs f
-onLine first chunk payload k (asks sack ∷ hs) f = asks sack ∷ onLine first chunk payload (onward line line k (asks sack)) hs f
-onLine first chunk payload k (not-read ∷ hs) f = not-read ∷ onLine first chunk payload k hs f
-onLine first chunk payload k (take-barred n out ∷ hs) f = take-barred n out ∷ onLine first chunk payload k hs f
-onLine first chunk payload k (sack-barred n ∷ hs) f = sack-barred n ∷ onLine first chunk payload k hs f
-onLine first chunk payload k (begins t n ∷ hs) f = []
+    ∷ asLine first chunk payload (sideBy line line k (asks (arrive (chunk (f .0 .number)) (payload (f .0 .number))))) hs (f .1)
+asLine first chunk payload k (asks (take out) ∷ hs) f = asks (take out) ∷ asLine first chunk payload (sideBy line line k (asks (take out))) hs f
+asLine first chunk payload k (asks sack ∷ hs) f = asks sack ∷ asLine first chunk payload (sideBy line line k (asks sack)) hs f
+asLine first chunk payload k (not-read ∷ hs) f = not-read ∷ asLine first chunk payload k hs f
+asLine first chunk payload k (take-barred n out ∷ hs) f = take-barred n out ∷ asLine first chunk payload k hs f
+asLine first chunk payload k (sack-barred n ∷ hs) f = sack-barred n ∷ asLine first chunk payload k hs f
+asLine first chunk payload k (begins t n ∷ hs) f = []
 
 -- the line receiver for an initial TSN: on the line its first number is one turn further, so that there is one before it
 abbrev pub begunLine : ℕ → ℕ → List ℕ → Side
@@ -137,17 +137,17 @@ module _ (c : Stretch) where
   lineStart = begunLine (c .initial) (c .streams) (c .area)
 
   abbrev pub lineHeard : List Heard
-  lineHeard = onLine (c .initial + 2 ^ 32) (c .chunk) (c .payload) lineStart (c .since) (c .fair)
+  lineHeard = asLine (c .initial + 2 ^ 32) (c .chunk) (c .payload) lineStart (c .since) (c .fair)
 
   abbrev pub lineSide : Side
   lineSide = goesOn line line lineStart lineHeard
 
-  abbrev pub lineTold : List Told
+  abbrev pub lineTold : List News
   lineTold = saidOn line line lineStart lineHeard
 
   -- the receiving side of our host after its calls, and what the host is told since the fresh start
   abbrev pub hostSide : Side
   hostSide = sideIn (afterAll (c .host) (c .calls))
 
-  abbrev pub hostTold : List Told
+  abbrev pub hostTold : List News
   hostTold = drop (length (circleSaid (sideIn (c .host)) (c .before))) (toldIn (c .host) (c .calls))

@@ -6,8 +6,8 @@ use mathlib.Core.List.{List, [], _∷_, _++_, append-assoc}
 use Rattle.scans.specs.Scan.{pick}
 use Rattle.numbers.specs.Numbering.{Numbering}
 use Rattle.arriving.specs.declared.verdict.Verdict.{Verdict}
-use Rattle.demands.specs.Told.{Told, judged, isOfData, toldData}
-use Rattle.demands.specs.Heard.{Heard, Side, onward, said, goesOn, saidOn}
+use Rattle.demands.specs.News.{News, numbered, isOfData, newsOfData}
+use Rattle.demands.specs.Heard.{Heard, Side, sideBy, saidOf, goesOn, saidOn}
 
 module _ (T S : Numbering) where
   pub goes-none : (k : Side) → goesOn T S k [] ≡ k
@@ -21,21 +21,21 @@ module _ (T S : Numbering) where
   pub goes-append : (hs gs : List Heard) (k : Side) → goesOn T S k (hs ++ gs) ≡ goesOn T S (goesOn T S k hs) gs
   unfolding goesOn
   goes-append [] gs k = refl
-  goes-append (h ∷ hs) gs k = goes-append hs gs (onward T S k h)
+  goes-append (h ∷ hs) gs k = goes-append hs gs (sideBy T S k h)
 
   pub said-append : (hs gs : List Heard) (k : Side) → saidOn T S k (hs ++ gs) ≡ saidOn T S k hs ++ saidOn T S (goesOn T S k hs) gs
   unfolding saidOn goesOn
   said-append [] gs k = refl
   said-append (h ∷ hs) gs k =
-      ap (λ (ts : List Told). said T S k h ++ ts) (said-append hs gs (onward T S k h))
-      ∙ sym (append-assoc (said T S k h) (saidOn T S (onward T S k h) hs) (saidOn T S (goesOn T S (onward T S k h) hs) gs))
+      ap (λ (ts : List News). saidOf T S k h ++ ts) (said-append hs gs (sideBy T S k h))
+      ∙ sym (append-assoc (saidOf T S k h) (saidOn T S (sideBy T S k h) hs) (saidOn T S (goesOn T S (sideBy T S k h) hs) gs))
 
-pub told-append : (packet : List ℕ) (vs ws : List Verdict) → toldData packet (vs ++ ws) ≡ toldData packet vs ++ toldData packet ws
-unfolding toldData
+pub told-append : (packet : List ℕ) (vs ws : List Verdict) → newsOfData packet (vs ++ ws) ≡ newsOfData packet vs ++ newsOfData packet ws
+unfolding newsOfData
 told-append packet [] ws = refl
 told-append packet (v ∷ vs) ws = go (isOfData packet v) (told-append packet vs ws)
   where
-    go : (t : Bool) → toldData packet (vs ++ ws) ≡ toldData packet vs ++ toldData packet ws
-        → pick t (judged (v .number) ∷ toldData packet (vs ++ ws)) (toldData packet (vs ++ ws)) ≡ pick t (judged (v .number) ∷ toldData packet vs) (toldData packet vs) ++ toldData packet ws
-    go true e = ap (λ (ts : List Told). judged (v .number) ∷ ts) e
+    go : (t : Bool) → newsOfData packet (vs ++ ws) ≡ newsOfData packet vs ++ newsOfData packet ws
+        → pick t (numbered (v .number) ∷ newsOfData packet (vs ++ ws)) (newsOfData packet (vs ++ ws)) ≡ pick t (numbered (v .number) ∷ newsOfData packet vs) (newsOfData packet vs) ++ newsOfData packet ws
+    go true e = ap (λ (ts : List News). numbered (v .number) ∷ ts) e
     go false e = e

@@ -40,7 +40,7 @@ use Rattle.steps.specs.Closing.{heardShutdown, readError, readShutdown, answerS
 use Rattle.steps.specs.Unknown.{passUnknown, tellUnknown}
 use Rattle.steps.specs.Steps.{rowStep, rowArea, rowMet, stepOf, areaOf}
 use Rattle.arriving.specs.Verdict.{fateCode}
-use Rattle.demands.specs.Told.{judged, isData}
+use Rattle.demands.specs.News.{numbered, isData}
 use Rattle.demands.specs.Heard.{Heard, not-read, ackStart, echoStart, arrives, rowHeard, chunkHeard, Side, sideOf, goesOn, saidOn, circleGoes, circleSaid}
 
 -- what two tests of one kind choose
@@ -306,7 +306,7 @@ module _ (room : ℕ) (a : Association) (b : Beside) (cookie area s : List ℕ) 
   -- of a DATA
   abbrev Tells : Row → Type 0
   Tells r =
-      (judged (numberOf (rowStep room a b cookie s r .fate)) ∷ [] ≡ circleSaid now (rowHeard b s r)) × (eqb (fateCode (rowStep room a b cookie s r .fate)) 6 ≡ false)
+      (numbered (numberOf (rowStep room a b cookie s r .fate)) ∷ [] ≡ circleSaid now (rowHeard b s r)) × (eqb (fateCode (rowStep room a b cookie s r .fate)) 6 ≡ false)
 
   refused-tells : isData s ≡ true → Tells Refused
   unfolding saidOn
@@ -314,11 +314,11 @@ module _ (room : ℕ) (a : Association) (b : Beside) (cookie area s : List ℕ) 
 
   now-tells : Tells ReadData
   unfolding saidOn readData arrivalIn
-  now-tells = let n = data-number a s (arrivalOf a s) (arrivalOf a s .verdict) refl in (ap (λ (x : ℕ). judged x ∷ []) (n .0), n .1)
+  now-tells = let n = data-number a s (arrivalOf a s) (arrivalOf a s .verdict) refl in (ap (λ (x : ℕ). numbered x ∷ []) (n .0), n .1)
 
   late-tells : Tells ReadLateData
   unfolding saidOn readLateData arrivalIn
-  late-tells = let n = late-number a s (arrivalOf a s) (arrivalOf a s .verdict) refl in (ap (λ (x : ℕ). judged x ∷ []) (n .0), n .1)
+  late-tells = let n = late-number a s (arrivalOf a s) (arrivalOf a s .verdict) refl in (ap (λ (x : ℕ). numbered x ∷ []) (n .0), n .1)
 
   data-tells : isData s ≡ true → (first : Bool) (state : State) → Tells (cells kind.Data first state)
   data-tells e first =
@@ -326,7 +326,7 @@ module _ (room : ℕ) (a : Association) (b : Beside) (cookie area s : List ℕ) 
       each-state (λ state. Tells (cells kind.Data first state)) no (λ n. no) (λ n. no) now-tells now-tells (λ n. late-tells) no (λ n. no)
 
   pub chunk-tells : isData s ≡ true
-      → (judged (numberOf (stepOf room a b cookie s .fate)) ∷ [] ≡ circleSaid now (chunkHeard a b s)) × (eqb (fateCode (stepOf room a b cookie s .fate)) 6 ≡ false)
+      → (numbered (numberOf (stepOf room a b cookie s .fate)) ∷ [] ≡ circleSaid now (chunkHeard a b s)) × (eqb (fateCode (stepOf room a b cookie s .fate)) 6 ≡ false)
   unfolding stepOf chunkHeard rowOf
   chunk-tells e = rw (data-kind (u8 s 0) e) (data-tells e (b .first) (a .state))
 

@@ -47,12 +47,12 @@ use Rattle.events.specs.declared.event.Event.the-variants.{Associate, HandIn, T
 use Rattle.events.specs.Told.{ofAcknowledged, ofDelivered}
 use Rattle.events.specs.Happening.{Buffers, Left, leaving, planned, tellingAny, halves, happened}
 use Rattle.events.specs.HappenedLaws.{any-keeps, Each, each-event}
-use Rattle.demands.specs.Told.{Told, took, untaken, sacked, toldTake, toldOf}
+use Rattle.demands.specs.News.{News, took, untaken, sacked, newsOfTake, newsOf}
 use Rattle.demands.specs.Heard.{Heard, asks, take-barred, begins, heardOf, Side, sideOf, takenAs, goesOn, saidOn, circleGoes, circleSaid}
-use Rattle.demands.specs.ListLaws.{goes-append, said-append}
-use Rattle.demands.specs.ChunkLaws.{pick-both}
-use Rattle.demands.specs.PacketLaws.{packet-heard}
-use Rattle.demands.specs.Stretch.{Host, Call as HostCall, buffersOf, after, afterAll, toldIn, heardIn, sideIn}
+use Rattle.demands.specs.HeardLaws.{goes-append, said-append}
+use Rattle.demands.specs.HeardChunkLaws.{pick-both}
+use Rattle.demands.specs.HeardPacketLaws.{packet-heard}
+use Rattle.demands.specs.Stretch.{Host, Call as HostCall, buffersOf, afterCall, afterAll, toldIn, heardIn, sideIn}
 
 module _ (a : Association) (b : Buffers) where
   abbrev now : Side
@@ -60,7 +60,7 @@ module _ (a : Association) (b : Buffers) where
 
   -- what a call leaves is what it asks
   abbrev pub Follows : Event → Left → Type 0
-  Follows e x = (sideOf (x .ran .association) (x .received) ≡ circleGoes now (heardOf a e b)) × (toldOf e b x ≡ circleSaid now (heardOf a e b))
+  Follows e x = (sideOf (x .ran .association) (x .received) ≡ circleGoes now (heardOf a e b)) × (newsOf e b x ≡ circleSaid now (heardOf a e b))
 
   -- ---- calls that ask nothing
 
@@ -130,7 +130,7 @@ module _ (a : Association) (b : Buffers) where
   taken-follows Nothing next = refl
   taken-follows (Short n) next = refl
 
-  taken-tells : (x : Taking) (next : Association) (out exit : List ℕ) → toldTake out (deliveredAs x next .number) (deliveredAs x next .message) exit ≡ takenAs out x exit
+  taken-tells : (x : Taking) (next : Association) (out exit : List ℕ) → newsOfTake out (deliveredAs x next .number) (deliveredAs x next .message) exit ≡ takenAs out x exit
   taken-tells (Taken m) next out exit = refl
   taken-tells Nothing next out exit = refl
   taken-tells (Short n) next out exit = refl
@@ -150,10 +150,10 @@ module _ (a : Association) (b : Buffers) where
 
       go : (t : Bool) → eqb bar 0 ≡ t
           → (sideOf (pick t given (undelivered a bar 0) .association) (b .received) ≡ circleGoes now (pick t (asks (take (b .out))) (take-barred bar (b .out)) ∷ []))
-          × (toldTake (b .out) (pick t given (undelivered a bar 0) .number) (pick t given (undelivered a bar 0) .message) (pick t bytes (b .out)) ∷ [] ≡ circleSaid now (pick t (asks (take (b .out))) (take-barred bar (b .out)) ∷ []))
+          × (newsOfTake (b .out) (pick t given (undelivered a bar 0) .number) (pick t given (undelivered a bar 0) .message) (pick t bytes (b .out)) ∷ [] ≡ circleSaid now (pick t (asks (take (b .out))) (take-barred bar (b .out)) ∷ []))
       go true e = (
         ap (λ (x : Association). sideOf x (b .received)) (taken-follows (taking a (length (b .out)) .answer) (withReceiving a (taking a (length (b .out)) .receiving))),
-        ap (λ (x : Told). x ∷ []) (taken-tells (taking a (length (b .out)) .answer) (withReceiving a (taking a (length (b .out)) .receiving)) (b .out) bytes),
+        ap (λ (x : News). x ∷ []) (taken-tells (taking a (length (b .out)) .answer) (withReceiving a (taking a (length (b .out)) .receiving)) (b .out) bytes),
       )
       go false e = (refl, ap (λ (x : Bool). pick x (took (b .out) (noMessage 0) (b .out)) (untaken bar 0 (b .out)) ∷ []) e)
 
@@ -215,9 +215,9 @@ pub calls-go : (cs : List HostCall) (h : Host) → sideIn (afterAll h cs) ≡ ci
 unfolding afterAll heardIn goesOn
 calls-go [] h = refl
 calls-go (c ∷ cs) h =
-    calls-go cs (after h c)
-    ∙ (ap (λ (k : Side). circleGoes k (heardIn (after h c) cs)) (call-heard (h .association) (buffersOf (h .area) c) (c .event) .0)
-    ∙ sym (goes-append (ring (2 ^ 32)) (ring (2 ^ 16)) (heardOf (h .association) (c .event) (buffersOf (h .area) c)) (heardIn (after h c) cs) (sideIn h)))
+    calls-go cs (afterCall h c)
+    ∙ (ap (λ (k : Side). circleGoes k (heardIn (afterCall h c) cs)) (call-heard (h .association) (buffersOf (h .area) c) (c .event) .0)
+    ∙ sym (goes-append (ring (2 ^ 32)) (ring (2 ^ 16)) (heardOf (h .association) (c .event) (buffersOf (h .area) c)) (heardIn (afterCall h c) cs) (sideIn h)))
 
 pub calls-tell : (cs : List HostCall) (h : Host) → toldIn h cs ≡ circleSaid (sideIn h) (heardIn h cs)
 unfolding toldIn heardIn saidOn
@@ -225,6 +225,6 @@ calls-tell [] h = refl
 calls-tell (c ∷ cs) h =
     let w = call-heard (h .association) (buffersOf (h .area) c) (c .event) in
     let hs : List Heard = heardOf (h .association) (c .event) (buffersOf (h .area) c) in
-    ap (λ (ts : List Told). ts ++ toldIn (after h c) cs) (w .1)
-    ∙ (ap (λ (ts : List Told). circleSaid (sideIn h) hs ++ ts) (calls-tell cs (after h c) ∙ ap (λ (k : Side). circleSaid k (heardIn (after h c) cs)) (w .0))
-    ∙ sym (said-append (ring (2 ^ 32)) (ring (2 ^ 16)) hs (heardIn (after h c) cs) (sideIn h)))
+    ap (λ (ts : List News). ts ++ toldIn (afterCall h c) cs) (w .1)
+    ∙ (ap (λ (ts : List News). circleSaid (sideIn h) hs ++ ts) (calls-tell cs (afterCall h c) ∙ ap (λ (k : Side). circleSaid k (heardIn (afterCall h c) cs)) (w .0))
+    ∙ sym (said-append (ring (2 ^ 32)) (ring (2 ^ 16)) hs (heardIn (afterCall h c) cs) (sideIn h)))

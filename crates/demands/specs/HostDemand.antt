@@ -1,5 +1,5 @@
 -- DEMAND 3 FOR THE HOST'S OWN CALLS, at the rail's numbers: whatever it calls, from a fresh start up to the next one, it is told of what it receives just
--- what the host of the line receiver is told on the same chunks, brought back onto the circles. `Demand3Laws` proves it of every stretch (`demand-3`).
+-- what the host of the line receiver is told on the same chunks, brought back onto the circles. `HostDemandLaws` proves it of every stretch (`host-demand-3`).
 use Prim.Native.Nat.{ℕ, suc, _+_, _^_, _<_, _≤_}
 use mathlib.Core.Path.{_≡_}
 use mathlib.Core.List.{map}
@@ -9,12 +9,12 @@ use Rattle.numbers.specs.Profile.{rail}
 use Rattle.delivery.specs.Receiving.{lowOf}
 use Rattle.line.specs.Reduce.{reduceChunk}
 use Rattle.line.specs.Demand.{ours, Messages, Holds}
-use Rattle.demands.specs.Told.{givenIn}
-use Rattle.demands.specs.Stretch.{Stretch, reduceTold, reduceSide, lineSide, lineTold, hostSide, hostTold}
+use Rattle.demands.specs.News.{givenIn}
+use Rattle.demands.specs.Stretch.{Stretch, reduceNews, reduceSide, lineSide, lineTold, hostSide, hostTold}
 
-pub record Demand3 (c : Stretch) : Type 0 where
+pub record HostDemand3 (c : Stretch) : Type 0 where
   -- the number of each DATA, 7 among them, what each take gives with its bytes, and each SACK's values
-  pub told : hostTold c ≡ map (reduceTold (2 ^ 32) (2 ^ 16)) (lineTold c)
+  pub told : hostTold c ≡ map (reduceNews (2 ^ 32) (2 ^ 16)) (lineTold c)
   -- the receiving record, with what stands in the area
   pub left : hostSide c ≡ reduceSide (2 ^ 32) (2 ^ 16) (lineSide c)
   -- so the messages that the host got are different ones of the sender, each with its bytes, those of a stream in order without a gap

@@ -13,13 +13,13 @@ use Rattle.line.specs.Agreement.{rail-agrees}
 use Rattle.line.specs.Demand as demand
 use Rattle.line.specs.Demand.{Seen, seen, ours, Premises, lineSeen, lineAfter, hostSeen, hostAfter, given, Messages, Holds}
 use Rattle.line.specs.DemandLaws as receiver
-use Rattle.demands.specs.Told.{Told, givenIn}
+use Rattle.demands.specs.News.{News, givenIn}
 use Rattle.demands.specs.Heard.{Heard, Side, circleGoes, circleSaid}
-use Rattle.demands.specs.Stretch.{Stretch, heardIn, sideIn, reduceTold, reduceSide, lineStart, lineHeard, lineSide, lineTold, hostSide, hostTold}
-use Rattle.demands.specs.Demand3.{Demand3}
-use Rattle.demands.specs.ListLaws.{goes-append, said-append}
-use Rattle.demands.specs.CallLaws.{calls-go, calls-tell}
-use Rattle.demands.specs.LineLaws.{Stays, eventsIn, reduceHeard, woven, said-woven, goes-finally, goes-after, said-given, woven-reduced, events-reduced, stays-reduced, lined-reduced, lined-stays, lined-fair}
+use Rattle.demands.specs.Stretch.{Stretch, heardIn, sideIn, reduceNews, reduceSide, lineStart, lineHeard, lineSide, lineTold, hostSide, hostTold}
+use Rattle.demands.specs.HostDemand.{HostDemand3}
+use Rattle.demands.specs.HeardLaws.{goes-append, said-append}
+use Rattle.demands.specs.BridgeLaws.{calls-go, calls-tell}
+use Rattle.demands.specs.StretchLaws.{Stays, eventsIn, reduceHeard, woven, said-woven, goes-finally, goes-after, said-given, woven-reduced, events-reduced, stays-reduced, lined-reduced, lined-stays, lined-fair}
 
 drop-behind : {A : Type 0} (xs ys : List A) → drop (length xs) (xs ++ ys) ≡ ys
 drop-behind [] ys = refl
@@ -72,7 +72,7 @@ module _ (c : Stretch) where
 
   told-is : hostTold c ≡ circleSaid begun here
   told-is =
-      let x : List Told = circleSaid (sideIn (c .host)) (c .before) in
+      let x : List News = circleSaid (sideIn (c .host)) (c .before) in
       ap (drop (length x))
       (calls-tell (c .calls) (c .host)
       ∙ (ap (circleSaid (sideIn (c .host))) asked-here ∙ said-append (ring (2 ^ 32)) (ring (2 ^ 16)) (c .before) here (sideIn (c .host))))
@@ -89,12 +89,12 @@ module _ (c : Stretch) where
   line-told : lineTold c ≡ woven there (lineSeen u)
   line-told = said-woven line line there there-stays (lineStart c)
 
-  tells : hostTold c ≡ map (reduceTold (2 ^ 32) (2 ^ 16)) (lineTold c)
+  tells : hostTold c ≡ map (reduceNews (2 ^ 32) (2 ^ 16)) (lineTold c)
   tells =
       told-is
       ∙ (said-woven (ring (2 ^ 32)) (ring (2 ^ 16)) here here-stays begun
       ∙ (ap (woven here) (seen-is ∙ receiver.demand-3 .agrees u)
-      ∙ (woven-reduced there (lineSeen u) ∙ ap (map (reduceTold (2 ^ 32) (2 ^ 16))) (sym line-told))))
+      ∙ (woven-reduced there (lineSeen u) ∙ ap (map (reduceNews (2 ^ 32) (2 ^ 16))) (sym line-told))))
 
   leaves : hostSide c ≡ reduceSide (2 ^ 32) (2 ^ 16) (lineSide c)
   leaves =
@@ -124,8 +124,8 @@ module _ (c : Stretch) where
   line-after = ap (λ (k : Side). k .lent) (goes-after line line there there-stays (lineStart c))
 
   -- DEMAND 3
-  pub demand-3 : Demand3 c
-  demand-3 = record {
+  pub host-demand-3 : HostDemand3 c
+  host-demand-3 = record {
     told = tells;
     left = leaves;
     messages = λ long. subst (Messages (2 ^ 16) (c .initial + 2 ^ 32) (u .chunk) (u .payload)) (sym gives) (receiver.demand-3 .messages u long);

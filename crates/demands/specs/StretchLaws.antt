@@ -17,9 +17,9 @@ use Rattle.line.specs.Reduce.{reduceTaken}
 use Rattle.line.specs.Demand as demand
 use Rattle.line.specs.Demand.{Seen, number, gave, seen, over, reduceSeen, Given, givenBy, given}
 use Rattle.calls.specs.Acknowledging.{chunkOf, noSack}
-use Rattle.demands.specs.Told.{Told, judged, untaken, sacked, givenIn}
-use Rattle.demands.specs.Heard.{Heard, asks, not-read, take-barred, sack-barred, begins, Side, onward, takenAs, toldBy, goesOn, saidOn}
-use Rattle.demands.specs.Stretch.{reduceTold, Fairly, onLine}
+use Rattle.demands.specs.News.{News, numbered, untaken, sacked, givenIn}
+use Rattle.demands.specs.Heard.{Heard, asks, not-read, take-barred, sack-barred, begins, Side, sideBy, takenAs, newsBy, goesOn, saidOn}
+use Rattle.demands.specs.Stretch.{reduceNews, Fairly, asLine}
 
 -- no fresh start
 abbrev pub Stays : Heard → Type 0
@@ -39,22 +39,22 @@ eventsIn (sack-barred n ∷ hs) = eventsIn hs
 eventsIn (begins t n ∷ hs) = eventsIn hs
 
 -- what is told of what the receiver's host sees
-abbrev shown : Seen → Told
-shown (number n) = judged n
+abbrev shown : Seen → News
+shown (number n) = numbered n
 shown (gave out t now) = takenAs out t now
 shown (demand.told s) = sacked 0 (chunkOf s)
 
 -- with what is told of the rest
-unfoldable pub woven : List Heard → List Seen → List Told
+unfoldable pub woven : List Heard → List Seen → List News
 woven [] zs = []
 woven (asks e ∷ hs) [] = []
 woven (asks e ∷ hs) (z ∷ zs) = shown z ∷ woven hs zs
-woven (not-read ∷ hs) zs = judged 7 ∷ woven hs zs
+woven (not-read ∷ hs) zs = numbered 7 ∷ woven hs zs
 woven (take-barred n out ∷ hs) zs = untaken n 0 out ∷ woven hs zs
 woven (sack-barred n ∷ hs) zs = sacked n noSack ∷ woven hs zs
 woven (begins t n ∷ hs) zs = woven hs zs
 
-taken-given : (lent : List ℕ) (x : Taking) (now : List ℕ) (ts : List Told) (gs : List Given) → givenIn ts ≡ gs → givenIn (takenAs lent x now ∷ ts) ≡ givenBy lent x now gs
+taken-given : (lent : List ℕ) (x : Taking) (now : List ℕ) (ts : List News) (gs : List Given) → givenIn ts ≡ gs → givenIn (takenAs lent x now ∷ ts) ≡ givenBy lent x now gs
 unfolding givenIn
 taken-given lent (Taken m) now ts gs e = ap (λ (xs : List Given). record { lent = lent; message = m; output = now } ∷ xs) e
 taken-given lent Nothing now ts gs e = e
@@ -64,18 +64,18 @@ module _ (T S : Numbering) where
   pub said-woven : (hs : List Heard) → All Stays hs → (k : Side) → saidOn T S k hs ≡ woven hs (seen (over T S rail) (k .streams) (k .lent) (eventsIn hs))
   unfolding saidOn eventsIn seen woven
   said-woven [] w k = refl
-  said-woven (asks (arrive c bytes) ∷ hs) w k = ap (λ (ts : List Told). toldBy [] (turn T S rail (k .streams) (k .lent) (arrive c bytes) .answer) ∷ ts) (said-woven hs (w .1) (onward T S k (asks (arrive c bytes))))
-  said-woven (asks (take out) ∷ hs) w k = ap (λ (ts : List Told). toldBy out (turn T S rail (k .streams) (k .lent) (take out) .answer) ∷ ts) (said-woven hs (w .1) (onward T S k (asks (take out))))
-  said-woven (asks sack ∷ hs) w k = ap (λ (ts : List Told). toldBy [] (turn T S rail (k .streams) (k .lent) sack .answer) ∷ ts) (said-woven hs (w .1) (onward T S k (asks sack)))
-  said-woven (not-read ∷ hs) w k = ap (λ (ts : List Told). judged 7 ∷ ts) (said-woven hs (w .1) k)
-  said-woven (take-barred n out ∷ hs) w k = ap (λ (ts : List Told). untaken n 0 out ∷ ts) (said-woven hs (w .1) k)
-  said-woven (sack-barred n ∷ hs) w k = ap (λ (ts : List Told). sacked n noSack ∷ ts) (said-woven hs (w .1) k)
+  said-woven (asks (arrive c bytes) ∷ hs) w k = ap (λ (ts : List News). newsBy [] (turn T S rail (k .streams) (k .lent) (arrive c bytes) .answer) ∷ ts) (said-woven hs (w .1) (sideBy T S k (asks (arrive c bytes))))
+  said-woven (asks (take out) ∷ hs) w k = ap (λ (ts : List News). newsBy out (turn T S rail (k .streams) (k .lent) (take out) .answer) ∷ ts) (said-woven hs (w .1) (sideBy T S k (asks (take out))))
+  said-woven (asks sack ∷ hs) w k = ap (λ (ts : List News). newsBy [] (turn T S rail (k .streams) (k .lent) sack .answer) ∷ ts) (said-woven hs (w .1) (sideBy T S k (asks sack)))
+  said-woven (not-read ∷ hs) w k = ap (λ (ts : List News). numbered 7 ∷ ts) (said-woven hs (w .1) k)
+  said-woven (take-barred n out ∷ hs) w k = ap (λ (ts : List News). untaken n 0 out ∷ ts) (said-woven hs (w .1) k)
+  said-woven (sack-barred n ∷ hs) w k = ap (λ (ts : List News). sacked n noSack ∷ ts) (said-woven hs (w .1) k)
   said-woven (begins t n ∷ hs) w k = absurd (w .0)
 
   pub goes-finally : (hs : List Heard) → All Stays hs → (k : Side) → goesOn T S k hs ≡ record { lent = finally T S rail (k .streams) (k .lent) (eventsIn hs); streams = k .streams }
   unfolding goesOn eventsIn finally
   goes-finally [] w k = refl
-  goes-finally (asks e ∷ hs) w k = goes-finally hs (w .1) (onward T S k (asks e))
+  goes-finally (asks e ∷ hs) w k = goes-finally hs (w .1) (sideBy T S k (asks e))
   goes-finally (not-read ∷ hs) w k = goes-finally hs (w .1) k
   goes-finally (take-barred n out ∷ hs) w k = goes-finally hs (w .1) k
   goes-finally (sack-barred n ∷ hs) w k = goes-finally hs (w .1) k
@@ -84,9 +84,9 @@ module _ (T S : Numbering) where
   pub goes-after : (hs : List Heard) → All Stays hs → (k : Side) → goesOn T S k hs ≡ record { lent = demand.after (over T S rail) (k .streams) (k .lent) (eventsIn hs); streams = k .streams }
   unfolding goesOn eventsIn demand.after
   goes-after [] w k = refl
-  goes-after (asks (arrive c bytes) ∷ hs) w k = goes-after hs (w .1) (onward T S k (asks (arrive c bytes)))
-  goes-after (asks (take out) ∷ hs) w k = goes-after hs (w .1) (onward T S k (asks (take out)))
-  goes-after (asks sack ∷ hs) w k = goes-after hs (w .1) (onward T S k (asks sack))
+  goes-after (asks (arrive c bytes) ∷ hs) w k = goes-after hs (w .1) (sideBy T S k (asks (arrive c bytes)))
+  goes-after (asks (take out) ∷ hs) w k = goes-after hs (w .1) (sideBy T S k (asks (take out)))
+  goes-after (asks sack ∷ hs) w k = goes-after hs (w .1) (sideBy T S k (asks sack))
   goes-after (not-read ∷ hs) w k = goes-after hs (w .1) k
   goes-after (take-barred n out ∷ hs) w k = goes-after hs (w .1) k
   goes-after (sack-barred n ∷ hs) w k = goes-after hs (w .1) k
@@ -95,10 +95,10 @@ module _ (T S : Numbering) where
   pub said-given : (hs : List Heard) → All Stays hs → (k : Side) → givenIn (saidOn T S k hs) ≡ given (seen (over T S rail) (k .streams) (k .lent) (eventsIn hs))
   unfolding saidOn eventsIn seen givenIn
   said-given [] w k = refl
-  said-given (asks (arrive c bytes) ∷ hs) w k = said-given hs (w .1) (onward T S k (asks (arrive c bytes)))
+  said-given (asks (arrive c bytes) ∷ hs) w k = said-given hs (w .1) (sideBy T S k (asks (arrive c bytes)))
   said-given (asks (take out) ∷ hs) w k =
-      taken-given out (taken T S rail (k .lent .receiving) (length out) .answer) _ (saidOn T S (onward T S k (asks (take out))) hs) _ (said-given hs (w .1) (onward T S k (asks (take out))))
-  said-given (asks sack ∷ hs) w k = said-given hs (w .1) (onward T S k (asks sack))
+      taken-given out (taken T S rail (k .lent .receiving) (length out) .answer) _ (saidOn T S (sideBy T S k (asks (take out))) hs) _ (said-given hs (w .1) (sideBy T S k (asks (take out))))
+  said-given (asks sack ∷ hs) w k = said-given hs (w .1) (sideBy T S k (asks sack))
   said-given (not-read ∷ hs) w k = said-given hs (w .1) k
   said-given (take-barred n out ∷ hs) w k = said-given hs (w .1) k
   said-given (sack-barred n ∷ hs) w k = said-given hs (w .1) k
@@ -120,24 +120,24 @@ reduceHeard n m (take-barred k out) = take-barred k out
 reduceHeard n m (sack-barred k) = sack-barred k
 reduceHeard n m (begins t k) = begins (reduceTsn n t) k
 
-shown-taken : (lent : List ℕ) (x : Taking) (now : List ℕ) → takenAs lent (reduceTaken SSNs x) now ≡ reduceTold TSNs SSNs (takenAs lent x now)
+shown-taken : (lent : List ℕ) (x : Taking) (now : List ℕ) → takenAs lent (reduceTaken SSNs x) now ≡ reduceNews TSNs SSNs (takenAs lent x now)
 shown-taken lent (Taken m) now = refl
 shown-taken lent Nothing now = refl
 shown-taken lent (Short n) now = refl
 
-shown-reduced : (z : Seen) → shown (reduceSeen TSNs SSNs z) ≡ reduceTold TSNs SSNs (shown z)
+shown-reduced : (z : Seen) → shown (reduceSeen TSNs SSNs z) ≡ reduceNews TSNs SSNs (shown z)
 shown-reduced (number n) = refl
 shown-reduced (gave out t now) = shown-taken out t now
 shown-reduced (demand.told s) = refl
 
-pub woven-reduced : (hs : List Heard) (zs : List Seen) → woven (map (reduceHeard TSNs SSNs) hs) (map (reduceSeen TSNs SSNs) zs) ≡ map (reduceTold TSNs SSNs) (woven hs zs)
+pub woven-reduced : (hs : List Heard) (zs : List Seen) → woven (map (reduceHeard TSNs SSNs) hs) (map (reduceSeen TSNs SSNs) zs) ≡ map (reduceNews TSNs SSNs) (woven hs zs)
 unfolding woven
 woven-reduced [] zs = refl
 woven-reduced (asks e ∷ hs) [] = refl
 woven-reduced (asks e ∷ hs) (z ∷ zs) = λ i. shown-reduced z i ∷ woven-reduced hs zs i
-woven-reduced (not-read ∷ hs) zs = ap (λ (ts : List Told). judged 7 ∷ ts) (woven-reduced hs zs)
-woven-reduced (take-barred n out ∷ hs) zs = ap (λ (ts : List Told). untaken n 0 out ∷ ts) (woven-reduced hs zs)
-woven-reduced (sack-barred n ∷ hs) zs = ap (λ (ts : List Told). sacked n noSack ∷ ts) (woven-reduced hs zs)
+woven-reduced (not-read ∷ hs) zs = ap (λ (ts : List News). numbered 7 ∷ ts) (woven-reduced hs zs)
+woven-reduced (take-barred n out ∷ hs) zs = ap (λ (ts : List News). untaken n 0 out ∷ ts) (woven-reduced hs zs)
+woven-reduced (sack-barred n ∷ hs) zs = ap (λ (ts : List News). sacked n noSack ∷ ts) (woven-reduced hs zs)
 woven-reduced (begins t n ∷ hs) zs = woven-reduced hs zs
 
 pub events-reduced : (hs : List Heard) → eventsIn (map (reduceHeard TSNs SSNs) hs) ≡ map (reduceEvent TSNs SSNs) (eventsIn hs)
@@ -161,14 +161,14 @@ stays-reduced (begins t n ∷ hs) w = absurd (w .0)
 
 module _ (first : ℕ) (chunk : ℕ → Chunk) (payload : ℕ → List ℕ) where
   abbrev lined : (k : Side) (hs : List Heard) → Fairly first chunk payload k hs → List Heard
-  lined = onLine first chunk payload
+  lined = asLine first chunk payload
 
   pub lined-reduced : (hs : List Heard) (k : Side) (f : Fairly first chunk payload k hs) → hs ≡ map (reduceHeard TSNs SSNs) (lined k hs f)
   lined-reduced [] k f = refl
   lined-reduced (asks (arrive c bytes) ∷ hs) k f =
-      λ i. asks (arrive (f .0 .same i) (f .0 .whole i)) ∷ lined-reduced hs (onward line line k (asks (arrive (chunk (f .0 .number)) (payload (f .0 .number))))) (f .1) i
-  lined-reduced (asks (take out) ∷ hs) k f = ap (λ (gs : List Heard). asks (take out) ∷ gs) (lined-reduced hs (onward line line k (asks (take out))) f)
-  lined-reduced (asks sack ∷ hs) k f = ap (λ (gs : List Heard). asks sack ∷ gs) (lined-reduced hs (onward line line k (asks sack)) f)
+      λ i. asks (arrive (f .0 .same i) (f .0 .whole i)) ∷ lined-reduced hs (sideBy line line k (asks (arrive (chunk (f .0 .number)) (payload (f .0 .number))))) (f .1) i
+  lined-reduced (asks (take out) ∷ hs) k f = ap (λ (gs : List Heard). asks (take out) ∷ gs) (lined-reduced hs (sideBy line line k (asks (take out))) f)
+  lined-reduced (asks sack ∷ hs) k f = ap (λ (gs : List Heard). asks sack ∷ gs) (lined-reduced hs (sideBy line line k (asks sack)) f)
   lined-reduced (not-read ∷ hs) k f = ap (λ (gs : List Heard). not-read ∷ gs) (lined-reduced hs k f)
   lined-reduced (take-barred n out ∷ hs) k f = ap (λ (gs : List Heard). take-barred n out ∷ gs) (lined-reduced hs k f)
   lined-reduced (sack-barred n ∷ hs) k f = ap (λ (gs : List Heard). sack-barred n ∷ gs) (lined-reduced hs k f)
@@ -176,9 +176,9 @@ module _ (first : ℕ) (chunk : ℕ → Chunk) (payload : ℕ → List ℕ) wher
 
   pub lined-stays : (hs : List Heard) (k : Side) (f : Fairly first chunk payload k hs) → All Stays (lined k hs f)
   lined-stays [] k f = tt
-  lined-stays (asks (arrive c bytes) ∷ hs) k f = (tt, lined-stays hs (onward line line k (asks (arrive (chunk (f .0 .number)) (payload (f .0 .number))))) (f .1))
-  lined-stays (asks (take out) ∷ hs) k f = (tt, lined-stays hs (onward line line k (asks (take out))) f)
-  lined-stays (asks sack ∷ hs) k f = (tt, lined-stays hs (onward line line k (asks sack)) f)
+  lined-stays (asks (arrive c bytes) ∷ hs) k f = (tt, lined-stays hs (sideBy line line k (asks (arrive (chunk (f .0 .number)) (payload (f .0 .number))))) (f .1))
+  lined-stays (asks (take out) ∷ hs) k f = (tt, lined-stays hs (sideBy line line k (asks (take out))) f)
+  lined-stays (asks sack ∷ hs) k f = (tt, lined-stays hs (sideBy line line k (asks sack)) f)
   lined-stays (not-read ∷ hs) k f = (tt, lined-stays hs k f)
   lined-stays (take-barred n out ∷ hs) k f = (tt, lined-stays hs k f)
   lined-stays (sack-barred n ∷ hs) k f = (tt, lined-stays hs k f)
@@ -189,9 +189,9 @@ module _ (first : ℕ) (chunk : ℕ → Chunk) (payload : ℕ → List ℕ) wher
   lined-fair [] k f = tt
   lined-fair (asks (arrive c bytes) ∷ hs) k f =
       let x = f .0 in
-      ((x .number, x .from, refl, refl, x .near), lined-fair hs (onward line line k (asks (arrive (chunk (x .number)) (payload (x .number))))) (f .1))
-  lined-fair (asks (take out) ∷ hs) k f = lined-fair hs (onward line line k (asks (take out))) f
-  lined-fair (asks sack ∷ hs) k f = lined-fair hs (onward line line k (asks sack)) f
+      ((x .number, x .from, refl, refl, x .near), lined-fair hs (sideBy line line k (asks (arrive (chunk (x .number)) (payload (x .number))))) (f .1))
+  lined-fair (asks (take out) ∷ hs) k f = lined-fair hs (sideBy line line k (asks (take out))) f
+  lined-fair (asks sack ∷ hs) k f = lined-fair hs (sideBy line line k (asks sack)) f
   lined-fair (not-read ∷ hs) k f = lined-fair hs k f
   lined-fair (take-barred n out ∷ hs) k f = lined-fair hs k f
   lined-fair (sack-barred n ∷ hs) k f = lined-fair hs k f

@@ -33,10 +33,10 @@ use Rattle.arriving.specs.Walked.{Turn, begun, noted, takenIn, besideAt, roomOf
 use Rattle.arriving.specs.WalkedLaws.{walkedAs}
 use Rattle.arriving.specs.Arrival as arrival
 use Rattle.arriving.specs.Arrival.{lentNumber, packetNumber, refusedWith, passed, answeredLength, acceptedAs, arrivedOf, areaOf}
-use Rattle.demands.specs.Told.{Told, judged, isData, toldData}
+use Rattle.demands.specs.News.{News, numbered, isData, newsOfData}
 use Rattle.demands.specs.Heard.{Heard, chunkHeard, Hearing, listened, listenedOver, Side, sideOf, goesOn, saidOn, circleGoes, circleSaid}
-use Rattle.demands.specs.ListLaws.{goes-none, said-none, goes-append, said-append, told-append}
-use Rattle.demands.specs.ChunkLaws.{pick-both, chunk-goes, chunk-tells, chunk-silent}
+use Rattle.demands.specs.HeardLaws.{goes-none, said-none, goes-append, said-append, told-append}
+use Rattle.demands.specs.HeardChunkLaws.{pick-both, chunk-goes, chunk-tells, chunk-silent}
 
 -- what holds at a place, and is kept by the step there for the next, holds at the end
 over-at : {R : Type 0} (I : ℕ → R → Type 0) (Q : R → Type 0) (f : R → List ℕ → R) (s : List ℕ)
@@ -58,20 +58,20 @@ noted-is w v h = rw (lt-ltb (w .count) 365 h)
 
 -- ---- what is told of one verdict
 
-unread-told : (packet : List ℕ) (at : ℕ) → toldData packet (unreadAt at ∷ []) ≡ []
-unfolding toldData
+unread-told : (packet : List ℕ) (at : ℕ) → newsOfData packet (unreadAt at ∷ []) ≡ []
+unfolding newsOfData
 unread-told packet at = refl
 
 module _ (packet : List ℕ) (at : ℕ) (d : Done) where
-  data-told : isData (drop at packet) ≡ true → eqb (fateCode (d .fate)) 6 ≡ false → toldData packet (verdictOf at d ∷ []) ≡ judged (numberOf (d .fate)) ∷ []
-  unfolding toldData
+  data-told : isData (drop at packet) ≡ true → eqb (fateCode (d .fate)) 6 ≡ false → newsOfData packet (verdictOf at d ∷ []) ≡ numbered (numberOf (d .fate)) ∷ []
+  unfolding newsOfData
   data-told e f = rw (f, e)
 
-  other-told : isData (drop at packet) ≡ false → toldData packet (verdictOf at d ∷ []) ≡ []
-  unfolding toldData
+  other-told : isData (drop at packet) ≡ false → newsOfData packet (verdictOf at d ∷ []) ≡ []
+  unfolding newsOfData
   other-told e = rw e (go (eqb (fateCode (d .fate)) 6))
     where
-      go : (t : Bool) → pick (pick t false false) (judged (numberOf (d .fate)) ∷ []) [] ≡ []
+      go : (t : Bool) → pick (pick t false false) (numbered (numberOf (d .fate)) ∷ []) [] ≡ []
       go true = refl
       go false = refl
 
@@ -83,7 +83,7 @@ module _ (packet : List ℕ) (short : length packet ≤ 1472) (b : Beside) (cook
     pub room : length (h .walking .walked .verdicts) ≡ 365
     pub few : 4 * h .walking .walked .count + 12 ≤ at
     pub side : sideOf (h .walking .walked .association) (h .walking .area) ≡ circleGoes k (h .heard)
-    pub told : toldData packet (take (h .walking .walked .count) (h .walking .walked .verdicts)) ≡ circleSaid k (h .heard)
+    pub told : newsOfData packet (take (h .walking .walked .count) (h .walking .walked .verdicts)) ≡ circleSaid k (h .heard)
 
   module _ (at : ℕ) (inside : at < length packet) (h : Hearing) (p : Passing at h) where
     abbrev s : List ℕ
@@ -115,7 +115,7 @@ module _ (packet : List ℕ) (short : length packet ≤ 1472) (b : Beside) (cook
 
     -- one verdict more, of a chunk that asked hs
     on : (u : Turn) (hs : List Heard) (x : Walked) (v : Verdict) → u .walked ≡ noted x v → x .count ≡ w .count → x .verdicts ≡ w .verdicts
-        → sideOf (x .association) (u .area) ≡ circleGoes from hs → toldData packet (v ∷ []) ≡ circleSaid from hs → Next u hs
+        → sideOf (x .association) (u .area) ≡ circleGoes from hs → newsOfData packet (v ∷ []) ≡ circleSaid from hs → Next u hs
     on u hs x v e c l g q = record {
       room = ap (λ (y : Walked). length (y .verdicts)) more ∙ (length-set (x .verdicts) (x .count) v ∙ (ap (λ (vs : List Verdict). length vs) l ∙ p .room));
       few = omega (arith, ap (λ (y : Walked). y .count) more, c, p .few, size-least s);
@@ -123,10 +123,10 @@ module _ (packet : List ℕ) (short : length packet ≤ 1472) (b : Beside) (cook
           ap (λ (y : Walked). sideOf (y .association) (u .area)) more
           ∙ (g ∙ (ap (λ (y : Side). circleGoes y hs) (p .side) ∙ sym (goes-append (ring (2 ^ 32)) (ring (2 ^ 16)) (h .heard) hs k)));
       told =
-          ap (λ (vs : List Verdict). toldData packet vs) verdicts-are
+          ap (λ (vs : List Verdict). newsOfData packet vs) verdicts-are
           ∙ (told-append packet (take (w .count) (w .verdicts)) (v ∷ [])
-          ∙ (ap (λ (ts : List Told). ts ++ toldData packet (v ∷ [])) (p .told)
-          ∙ (ap (λ (ts : List Told). circleSaid k (h .heard) ++ ts) (q ∙ ap (λ (y : Side). circleSaid y hs) (p .side))
+          ∙ (ap (λ (ts : List News). ts ++ newsOfData packet (v ∷ [])) (p .told)
+          ∙ (ap (λ (ts : List News). circleSaid k (h .heard) ++ ts) (q ∙ ap (λ (y : Side). circleSaid y hs) (p .side))
           ∙ sym (said-append (ring (2 ^ 32)) (ring (2 ^ 16)) (h .heard) hs k))));
     }
       where
@@ -155,10 +155,10 @@ module _ (packet : List ℕ) (short : length packet ≤ 1472) (b : Beside) (cook
     hears = chunkHeard (w .association) (besideAt place b) s
 
     -- a DATA tells its number, any other chunk nothing
-    tells : toldData packet (verdictOf place done ∷ []) ≡ circleSaid from hears
+    tells : newsOfData packet (verdictOf place done ∷ []) ≡ circleSaid from hears
     tells = go (isData s) refl
       where
-        go : (x : Bool) → isData s ≡ x → toldData packet (verdictOf place done ∷ []) ≡ circleSaid from hears
+        go : (x : Bool) → isData s ≡ x → newsOfData packet (verdictOf place done ∷ []) ≡ circleSaid from hears
         go true e =
             let c = chunk-tells (roomOf t) (w .association) (besideAt place b) cookie (t .area) s e in
             data-told packet place done (ap isData seen-here ∙ e) (c .1) ∙ c .0
@@ -188,10 +188,10 @@ module _ (a : Association) (area packet : List ℕ) (lent : Lent) (cookie : List
     -- what holds of the chunks of a packet that is let in
     abbrev Heeds : Turn → List Heard → Type 0
     Heeds u hs =
-        (sideOf (u .walked .association) (u .area) ≡ circleGoes (sideOf a area) hs) × (toldData packet (take (u .walked .count) (u .walked .verdicts)) ≡ circleSaid (sideOf a area) hs)
+        (sideOf (u .walked .association) (u .area) ≡ circleGoes (sideOf a area) hs) × (newsOfData packet (take (u .walked .count) (u .walked .verdicts)) ≡ circleSaid (sideOf a area) hs)
 
     begun-passing : (b : Beside) (short : length packet ≤ 1472) → Passing packet short b cookie (sideOf a area) 12 (record { walking = begun a area; heard = [] })
-    unfolding begun toldData goesOn saidOn
+    unfolding begun newsOfData goesOn saidOn
     begun-passing b short = record { room = length-replicate 365 (unreadAt 0); few = omega arith; side = refl; told = refl }
 
     all-heard : length packet ≤ 1472 → Heeds (listenedOver a area packet lent cookie e .walking) (listenedOver a area packet lent cookie e .heard)
@@ -205,7 +205,7 @@ module _ (a : Association) (area packet : List ℕ) (lent : Lent) (cookie : List
     passed-heard : length packet ≤ 1472 → Heeds (passed a area packet lent cookie e) (listenedOver a area packet lent cookie e .heard)
     passed-heard short = let h = all-heard short in (
       ap (λ (u : Turn). sideOf (u .walked .association) (u .area)) (sym over-same) ∙ h .0,
-      ap (λ (u : Turn). toldData packet (take (u .walked .count) (u .walked .verdicts))) (sym over-same) ∙ h .1,
+      ap (λ (u : Turn). newsOfData packet (take (u .walked .count) (u .walked .verdicts))) (sym over-same) ∙ h .1,
     )
 
   -- ---- the packet
@@ -221,10 +221,10 @@ module _ (a : Association) (area packet : List ℕ) (lent : Lent) (cookie : List
 
     abbrev Leaves : Arrived → List ℕ → List Heard → Type 0
     Leaves r after hs =
-        (sideOf (r .association) after ≡ circleGoes (sideOf a area) hs) × (toldData packet (take (r .count) (r .verdicts)) ≡ circleSaid (sideOf a area) hs)
+        (sideOf (r .association) after ≡ circleGoes (sideOf a area) hs) × (newsOfData packet (take (r .count) (r .verdicts)) ≡ circleSaid (sideOf a area) hs)
 
     refused-leaves : (n : ℕ) → Leaves (refusedWith a n) area []
-    unfolding refusedWith toldData goesOn saidOn
+    unfolding refusedWith newsOfData goesOn saidOn
     refused-leaves n = (refl, refl)
 
     pub packet-heard : Leaves (arrivedOf a area packet lent cookie e out) (areaOf a area packet lent cookie e out)

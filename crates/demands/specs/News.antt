@@ -16,15 +16,15 @@ use Rattle.events.specs.declared.event.Event.{Event}
 use Rattle.events.specs.declared.event.Event.the-variants.{Packet, Associate, HandIn, Transmit, Take, Acknowledge, T1, T2, T3, Shutdown, Abort, ErrorStream, ErrorStale, Heartbeat, Sample, Unknown}
 use Rattle.events.specs.Happening.{Buffers, Left}
 
-pub data Told : Type 0 where
+pub data News : Type 0 where
   -- of a DATA that arrives: its number
-  judged : ℕ → Told
+  numbered : ℕ → News
   -- of a take that gives a message: the output as it was lent, the message, and the output then
-  took : List ℕ → Message → List ℕ → Told
+  took : List ℕ → Message → List ℕ → News
   -- of one that gives none: its number, the length that is told, and the output then
-  untaken : ℕ → ℕ → List ℕ → Told
+  untaken : ℕ → ℕ → List ℕ → News
   -- of a SACK: its number and its values
-  sacked : ℕ → Sack → Told
+  sacked : ℕ → Sack → News
 
 -- ---- by one call
 
@@ -37,38 +37,38 @@ abbrev pub isOfData : List ℕ → Verdict → Bool
 isOfData packet v = pick (eqb (v .fate) (fateCode Unread)) false (isData (drop (v .at) packet))
 
 -- of a packet: the numbers of its DATA, in order
-unfoldable pub toldData : List ℕ → List Verdict → List Told
-toldData packet [] = []
-toldData packet (v ∷ vs) = pick (isOfData packet v) (judged (v .number) ∷ toldData packet vs) (toldData packet vs)
+unfoldable pub newsOfData : List ℕ → List Verdict → List News
+newsOfData packet [] = []
+newsOfData packet (v ∷ vs) = pick (isOfData packet v) (numbered (v .number) ∷ newsOfData packet vs) (newsOfData packet vs)
 
 -- of a take into the output that was lent
-abbrev pub toldTake : List ℕ → ℕ → Message → List ℕ → Told
-toldTake lent number m now = pick (eqb number 0) (took lent m now) (untaken number (m .length) now)
+abbrev pub newsOfTake : List ℕ → ℕ → Message → List ℕ → News
+newsOfTake lent number m now = pick (eqb number 0) (took lent m now) (untaken number (m .length) now)
 
 -- of any call; no other tells of the receiving side
-abbrev pub toldOf : Event → Buffers → Left → List Told
-toldOf (Packet l e) b x = toldData (b .input) (take (x .ran .told .seen .count) (x .ran .told .seen .verdicts))
-toldOf Take b x = toldTake (b .out) (x .ran .told .number) (x .ran .told .message) (x .out) ∷ []
-toldOf Acknowledge b x = sacked (x .ran .told .number) (x .ran .told .sack) ∷ []
-toldOf (Associate tag tsn port streams) b x = []
-toldOf (HandIn stream unordered ppid) b x = []
-toldOf Transmit b x = []
-toldOf T1 b x = []
-toldOf T2 b x = []
-toldOf T3 b x = []
-toldOf Shutdown b x = []
-toldOf (Abort why) b x = []
-toldOf (ErrorStream stream) b x = []
-toldOf (ErrorStale port tag late) b x = []
-toldOf (Heartbeat y z) b x = []
-toldOf (Sample ms) b x = []
-toldOf Unknown b x = []
+abbrev pub newsOf : Event → Buffers → Left → List News
+newsOf (Packet l e) b x = newsOfData (b .input) (take (x .ran .told .seen .count) (x .ran .told .seen .verdicts))
+newsOf Take b x = newsOfTake (b .out) (x .ran .told .number) (x .ran .told .message) (x .out) ∷ []
+newsOf Acknowledge b x = sacked (x .ran .told .number) (x .ran .told .sack) ∷ []
+newsOf (Associate tag tsn port streams) b x = []
+newsOf (HandIn stream unordered ppid) b x = []
+newsOf Transmit b x = []
+newsOf T1 b x = []
+newsOf T2 b x = []
+newsOf T3 b x = []
+newsOf Shutdown b x = []
+newsOf (Abort why) b x = []
+newsOf (ErrorStream stream) b x = []
+newsOf (ErrorStale port tag late) b x = []
+newsOf (Heartbeat y z) b x = []
+newsOf (Sample ms) b x = []
+newsOf Unknown b x = []
 
 -- ---- the messages that takes gave
 
-unfoldable pub givenIn : List Told → List Given
+unfoldable pub givenIn : List News → List Given
 givenIn [] = []
-givenIn (judged n ∷ ts) = givenIn ts
+givenIn (numbered n ∷ ts) = givenIn ts
 givenIn (took lent m now ∷ ts) = record { lent = lent; message = m; output = now } ∷ givenIn ts
 givenIn (untaken n len now ∷ ts) = givenIn ts
 givenIn (sacked n s ∷ ts) = givenIn ts
