@@ -1,21 +1,23 @@
 -- Demand 3 holds of the host's own calls. Assumes nothing.
-use Prim.Native.Nat.{suc, _+_, _^_, _<_}
+use Prim.Native.Nat.{ℕ, suc, _+_, _^_, _<_, _≤_}
 use mathlib.Core.Path.{_≡_, refl, sym, ap, _∙_, subst}
 use mathlib.Core.List.{List, [], _∷_, _++_, map}
 use lib.ListN.{length, drop}
 use Rattle.scans.specs.Each.{All}
 use Rattle.numbers.specs.Numbering.{ring, line}
 use Rattle.numbers.specs.Profile.{rail}
+use Rattle.holding.specs.declared.held.Chunk.{Chunk}
 use Rattle.delivery.specs.Receiving.{lowOf}
+use Rattle.delivery.specs.Acknowledging.{acknowledged}
 use Rattle.line.specs.Reduce.{reduceChunk}
-use Rattle.line.specs.Runs.{Event as LineEvent, Lent, start, finally, reduceEvent}
+use Rattle.line.specs.Runs.{arrive, Event as LineEvent, Lent, start, finally, reduceEvent}
 use Rattle.line.specs.Agreement.{rail-agrees}
 use Rattle.line.specs.Demand as demand
 use Rattle.line.specs.Demand.{Seen, seen, ours, Premises, lineSeen, lineAfter, hostSeen, hostAfter, given, Messages, Holds}
 use Rattle.line.specs.DemandLaws as receiver
-use Rattle.demands.specs.News.{News, givenIn}
-use Rattle.demands.specs.Heard.{Heard, Side, circleGoes, circleSaid}
-use Rattle.demands.specs.Stretch.{Stretch, heardIn, sideIn, reduceNews, reduceSide, lineStart, lineHeard, lineSide, lineTold, hostSide, hostTold}
+use Rattle.demands.specs.News.{News, numbered, givenIn}
+use Rattle.demands.specs.Heard.{Heard, asks, Side, goesOn, saidOn, circleGoes, circleSaid}
+use Rattle.demands.specs.Stretch.{Call, afterAll, toldIn, windowOf, Stretch, heardIn, sideIn, reduceNews, reduceSide, lineStart, lineHeard, lineSide, lineTold, hostLast, hostSide, hostTold}
 use Rattle.demands.specs.HostDemand.{HostDemand3}
 use Rattle.demands.specs.HeardLaws.{goes-append, said-append}
 use Rattle.demands.specs.BridgeLaws.{calls-go, calls-tell}
@@ -123,14 +125,33 @@ module _ (c : Stretch) where
   line-after : lineSide c .lent ≡ lineAfter u
   line-after = ap (λ (k : Side). k .lent) (goes-after line line there there-stays (lineStart c))
 
+  held : (j : ℕ) → j ≡ suc (lineSide c .lent .receiving .keeping .point .0) → 1 ≤ length (u .payload j) → length (u .payload j) ≤ 512
+      → lowOf line (lineSide c .lent .receiving) < 128 → Holds rail ours (u .streams) (hostSide c .lent) (reduceChunk (2 ^ 32) (2 ^ 16) (u .chunk j)) (u .payload j)
+  held j next some fits room =
+      subst (λ (l : Lent). Holds rail ours (u .streams) l (reduceChunk (2 ^ 32) (2 ^ 16) (u .chunk j)) (u .payload j)) (sym host-after)
+      (receiver.demand-3 .progress u j (next ∙ ap (λ (l : Lent). suc (l .receiving .keeping .point .0)) line-after) some fits
+      (subst (λ (l : Lent). lowOf line (l .receiving) < 128) line-after room))
+
+  streams-are : hostSide c .streams ≡ u .streams
+  streams-are = ap (λ (k : Side). k .streams) (side-is ∙ goes-after (ring (2 ^ 32)) (ring (2 ^ 16)) here here-stays begun)
+
+  -- a call that brings just this chunk
+  module _ (k : Chunk) (bytes : List ℕ) (h : Holds rail ours (u .streams) (hostSide c .lent) k bytes) (x : Call) (brings : heardIn (hostLast c) (x ∷ []) ≡ asks (arrive k bytes) ∷ []) where
+    now-held : (toldIn (hostLast c) (x ∷ []) ≡ numbered 0 ∷ []) × (windowOf (afterAll (hostLast c) (x ∷ [])) + 512 ≡ windowOf (hostLast c))
+    unfolding saidOn goesOn
+    now-held = (
+      calls-tell (x ∷ []) (hostLast c)
+          ∙ (ap (circleSaid (hostSide c)) brings
+          ∙ (ap (λ (n : ℕ). numbered (ours .arrive n (hostSide c .lent) k bytes .answer) ∷ []) streams-are ∙ ap (λ (n : ℕ). numbered n ∷ []) (h .0))),
+      ap (λ (y : Side). acknowledged rail (y .lent .receiving) .sack .window + 512) (calls-go (x ∷ []) (hostLast c) ∙ ap (circleGoes (hostSide c)) brings)
+          ∙ (ap (λ (n : ℕ). ours .sack (ours .arrive n (hostSide c .lent) k bytes .left) .answer .window + 512) streams-are ∙ h .1),
+    )
+
   -- DEMAND 3
   pub host-demand-3 : HostDemand3 c
   host-demand-3 = record {
     told = tells;
     left = leaves;
     messages = λ long. subst (Messages (2 ^ 16) (c .initial + 2 ^ 32) (u .chunk) (u .payload)) (sym gives) (receiver.demand-3 .messages u long);
-    progress = λ j next some fits room.
-        subst (λ (l : Lent). Holds rail ours (u .streams) l (reduceChunk (2 ^ 32) (2 ^ 16) (u .chunk j)) (u .payload j)) (sym host-after)
-        (receiver.demand-3 .progress u j (next ∙ ap (λ (l : Lent). suc (l .receiving .keeping .point .0)) line-after) some fits
-        (subst (λ (l : Lent). lowOf line (l .receiving) < 128) line-after room));
+    progress = λ j next some fits room x brings. now-held (reduceChunk (2 ^ 32) (2 ^ 16) (u .chunk j)) (u .payload j) (held j next some fits room) x brings;
   }

@@ -8,6 +8,7 @@ use Rattle.numbers.specs.Profile.{rail}
 use Rattle.numbers.specs.KeepingLine.{reduceTsn}
 use Rattle.chunks.specs.declared.sack.Sack.{Sack}
 use Rattle.holding.specs.declared.held.Chunk.{Chunk}
+use Rattle.delivery.specs.Acknowledging.{acknowledged}
 use Rattle.line.specs.Reduce.{reduceChunk, reduceMessage}
 use Rattle.line.specs.Runs.{arrive, take, sack, Lent, start, reduceLent}
 use Rattle.line.specs.Sender.{Sender}
@@ -56,6 +57,10 @@ heardIn h (c ∷ cs) = heardOf (h .association) (c .event) (buffersOf (h .area) 
 
 abbrev pub sideIn : Host → Side
 sideIn h = sideOf (h .association) (h .area)
+
+-- the window that a SACK would now tell: 512 for each free place
+abbrev pub windowOf : Host → ℕ
+windowOf h = acknowledged rail (h .association .receiving) .sack .window
 
 -- ---- what the line has, as the circles of n and m have it
 
@@ -145,9 +150,12 @@ module _ (c : Stretch) where
   abbrev pub lineTold : List News
   lineTold = saidOn line line lineStart lineHeard
 
-  -- the receiving side of our host after its calls, and what the host is told since the fresh start
+  -- our host after its calls, its receiving side, and what it is told since the fresh start
+  abbrev pub hostLast : Host
+  hostLast = afterAll (c .host) (c .calls)
+
   abbrev pub hostSide : Side
-  hostSide = sideIn (afterAll (c .host) (c .calls))
+  hostSide = sideIn hostLast
 
   abbrev pub hostTold : List News
   hostTold = drop (length (circleSaid (sideIn (c .host)) (c .before))) (toldIn (c .host) (c .calls))
