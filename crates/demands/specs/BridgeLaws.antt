@@ -1,6 +1,6 @@
 -- THE BRIDGE: every call of the host moves the receiving side, the area and the agreed streams as what it asks does, one after the other, and tells of them
 -- what that is answered. Assumes nothing.
-use Prim.Native.Nat.{ℕ, _^_}
+use Prim.Native.Nat.{ℕ}
 use mathlib.Core.Path.{_≡_, refl, sym, ap, _∙_}
 use mathlib.Core.Bool.{Bool, true, false}
 use mathlib.Core.List.{List, [], _∷_, _++_}
@@ -10,7 +10,7 @@ use Rattle.scans.specs.Scan.{pick}
 use Rattle.scans.specs.Upto.{pick-keeps}
 use Rattle.numbers.specs.declared.circle.StreamId.{StreamId}
 use Rattle.numbers.specs.declared.circle.Tsn.{Tsn}
-use Rattle.numbers.specs.Numbering.{ring}
+use Rattle.numbers.specs.Numbering.{circles}
 use Rattle.numbers.specs.Profile.{rail}
 use Rattle.path.specs.Sizes.{railSizes}
 use Rattle.holding.specs.declared.taking.Answer.{Answer as Taking}
@@ -146,7 +146,7 @@ module _ (a : Association) (b : Buffers) where
   take-follows = go (eqb bar 0) refl
     where
       bytes : List ℕ
-      bytes = written (ring (2 ^ 32)) rail (a .receiving .held) (a .receiving .next) (a .receiving .keeping .point .0) (b .received) (b .out)
+      bytes = written circles rail (a .receiving .held) (a .receiving .next) (a .receiving .keeping .point .0) (b .received) (b .out)
 
       go : (t : Bool) → eqb bar 0 ≡ t
           → (sideOf (pick t given (undelivered a bar 0) .association) (b .received) ≡ circleGoes now (pick t (asks (take (b .out))) (take-barred bar (b .out)) ∷ []))
@@ -217,7 +217,7 @@ calls-go [] h = refl
 calls-go (c ∷ cs) h =
     calls-go cs (afterCall h c)
     ∙ (ap (λ (k : Side). circleGoes k (heardIn (afterCall h c) cs)) (call-heard (h .association) (buffersOf (h .area) c) (c .event) .0)
-    ∙ sym (goes-append (ring (2 ^ 32)) (ring (2 ^ 16)) (heardOf (h .association) (c .event) (buffersOf (h .area) c)) (heardIn (afterCall h c) cs) (sideIn h)))
+    ∙ sym (goes-append circles (heardOf (h .association) (c .event) (buffersOf (h .area) c)) (heardIn (afterCall h c) cs) (sideIn h)))
 
 pub calls-tell : (cs : List HostCall) (h : Host) → toldIn h cs ≡ circleSaid (sideIn h) (heardIn h cs)
 unfolding toldIn heardIn saidOn
@@ -227,4 +227,4 @@ calls-tell (c ∷ cs) h =
     let hs : List Heard = heardOf (h .association) (c .event) (buffersOf (h .area) c) in
     ap (λ (ts : List News). ts ++ toldIn (afterCall h c) cs) (w .1)
     ∙ (ap (λ (ts : List News). circleSaid (sideIn h) hs ++ ts) (calls-tell cs (afterCall h c) ∙ ap (λ (k : Side). circleSaid k (heardIn (afterCall h c) cs)) (w .0))
-    ∙ sym (said-append (ring (2 ^ 32)) (ring (2 ^ 16)) hs (heardIn (afterCall h c) cs) (sideIn h)))
+    ∙ sym (said-append circles hs (heardIn (afterCall h c) cs) (sideIn h)))

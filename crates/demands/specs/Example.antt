@@ -35,12 +35,12 @@ use Rattle.states.specs.Rows.{rowOf}
 use Rattle.association.specs.declared.ends.Ends.{Ends}
 use Rattle.association.specs.declared.ends.Association.{Association}
 use Rattle.association.specs.Fresh.{started}
-use Rattle.association.specs.Bounds.{areEnds, leastArea, leastOut, earlier}
+use Rattle.association.specs.Bounds.{areAgreed, areEnds, leastArea, leastOut, earlier}
 use Rattle.association.specs.KeptLaws.{kept-started}
 use Rattle.steps.specs.declared.lent.Lent.{Lent}
 use Rattle.steps.specs.declared.lent.Echoed.the-variants.{Bad}
 use Rattle.steps.specs.Carrying.{chunkOf}
-use Rattle.arriving.specs.Tags.{arePorts, ruleOpen, ruleFor, headNumber}
+use Rattle.arriving.specs.Tags.{arePorts, ruleOf, ruleFor, headNumber}
 use Rattle.arriving.specs.Walked.{begun}
 use Rattle.arriving.specs.Arrival.{lentNumber, packetNumber, numberOf}
 use Rattle.events.specs.declared.event.Event.the-variants.{Packet}
@@ -55,14 +55,14 @@ packet =
     0x13 ∷ 0x88 ∷ 0x13 ∷ 0x89 ∷ 0 ∷ 0 ∷ 0 ∷ 1 ∷ 61 ∷ 25 ∷ 189 ∷ 1 ∷ 0 ∷ 3 ∷ 0 ∷ 18 ∷ 255 ∷ 255 ∷ 255 ∷ 255 ∷ 0 ∷ 0 ∷ 0 ∷ 0 ∷ 0 ∷ 0 ∷ 0 ∷ 7 ∷ 0 ∷ 9 ∷ 0 ∷ 0 ∷ []
 
 abbrev ends : Ends
-ends = record { «local_port» = 5001; «peer_port» = 5000; «my_tag» = 1; «peer_tag» = 2; «streams_in» = 1; «streams_out» = 1 }
+ends = record { «local_port» = 5001; «peer_port» = 5000; «my_tag» = 1; «peer_tag» = 2; «streams_in» = 1; «streams_out» = 1; options = 0 }
 
 -- fresh, for the peer's initial TSN
 abbrev here : Association
 here = started Established ends (record { 0 = 1 }) 1500 (record { 0 = sender.last })
 
 abbrev nothing : Lent
-nothing = record { tag = 0; tsn = record { 0 = 0 }; streams = 0 }
+nothing = record { tag = 0; tsn = record { 0 = 0 }; streams = 0; options = 0 }
 
 -- the DATA, as the receiving side gets it
 abbrev came : Chunk
@@ -74,7 +74,7 @@ heard = asks (arrive came (0 ∷ 9 ∷ [])) ∷ []
 -- with any area of 65,536 bytes and output of 1,472
 module _ (area out : List ℕ) (long : 65536 ≤ length area) (room : 1472 ≤ length out) where
   ended-well : areEnds ends true ≡ true
-  unfolding areEnds
+  unfolding areEnds areAgreed
   ended-well = refl
 
   lent-well : lentNumber here (length area) (length out) ≡ 0
@@ -83,7 +83,7 @@ module _ (area out : List ℕ) (long : 65536 ≤ length area) (room : 1472 ≤ l
       rw (kept-started Established ends (record { 0 = 1 }) 1500 (record { 0 = sender.last }) refl ended-well (omega arith) (omega arith) .sound, le-ltb (length area) leastArea long, le-ltb (length out) leastOut room)
 
   written-well : packetNumber here packet Bad ≡ 0
-  unfolding packetNumber sizeNumber sumNumber sealed fieldOf packetCrc crcOf crcFrom bits headNumber arePorts ruleFor ruleOpen kindOf headerOf shapeNumber firstItem walk walkBy size ill least filled alone u16 u32 big
+  unfolding packetNumber sizeNumber sumNumber sealed fieldOf packetCrc crcOf crcFrom bits headNumber arePorts ruleFor ruleOf headerOf shapeNumber firstItem walk walkBy size ill least filled alone u16 u32 big
   written-well = refl
 
   let-in : numberOf here area packet Bad out ≡ 0

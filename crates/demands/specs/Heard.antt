@@ -1,5 +1,5 @@
 -- What a call asks of the receiving side: the line's events, what is refused before that side is asked, and fresh starts.
-use Prim.Native.Nat.{ℕ, _-_, _^_}
+use Prim.Native.Nat.{ℕ, _-_}
 use mathlib.Core.Bool.{true}
 use mathlib.Core.List.{List, [], _∷_, _++_}
 use lib.Dec.{eqb}
@@ -7,7 +7,7 @@ use lib.ListN.{length}
 use Rattle.scans.specs.Scan.{pick}
 use Rattle.scans.specs.Upto.{smaller}
 use Rattle.numbers.specs.declared.circle.Tsn.{Tsn}
-use Rattle.numbers.specs.Numbering.{Numbering, ring}
+use Rattle.numbers.specs.Numbering.{Numberings, circles}
 use Rattle.numbers.specs.Profile.{rail}
 use Rattle.octets.specs.Walk.{overItems}
 use Rattle.packets.specs.Header.{headerOf}
@@ -148,7 +148,7 @@ heardOf a (Heartbeat x y) b = []
 heardOf a (Sample ms) b = []
 heardOf a Unknown b = []
 
--- ---- what it does to the receiving side, once over two numberings, and what is told of it
+-- ---- what it does to the receiving side, once over the numberings N of chunks and of the ordered messages of a stream, and what is told of it
 
 -- that side, its area, and how many streams the peer may use
 pub record Side : Type 0 where
@@ -158,12 +158,12 @@ pub record Side : Type 0 where
 abbrev pub sideOf : Association → List ℕ → Side
 sideOf a area = record { lent = record { receiving = a .receiving; area = area }; streams = a .ends .«streams_in» }
 
-abbrev pub sideBy : Numbering → Numbering → Side → Heard → Side
-sideBy T S k (asks e) = record { lent = turn T S rail (k .streams) (k .lent) e .lent; streams = k .streams }
-sideBy T S k not-read = k
-sideBy T S k (take-barred n out) = k
-sideBy T S k (sack-barred n) = k
-sideBy T S k (begins t n) = record { lent = start T rail t (k .lent .area); streams = n }
+abbrev pub sideBy : Numberings → Side → Heard → Side
+sideBy N k (asks e) = record { lent = turn N rail (k .streams) (k .lent) e .lent; streams = k .streams }
+sideBy N k not-read = k
+sideBy N k (take-barred n out) = k
+sideBy N k (sack-barred n) = k
+sideBy N k (begins t n) = record { lent = start (N .tsn) rail t (k .lent .area); streams = n }
 
 -- the output that an event lends
 abbrev pub lentBy : LineEvent → List ℕ
@@ -182,25 +182,25 @@ newsBy lent (judges v) = numbered (numberOf v)
 newsBy lent (gives t now) = takenAs lent t now
 newsBy lent (tells s) = sacked 0 (acknowledging.chunkOf s)
 
-abbrev pub saidOf : Numbering → Numbering → Side → Heard → List News
-saidOf T S k (asks e) = newsBy (lentBy e) (turn T S rail (k .streams) (k .lent) e .answer) ∷ []
-saidOf T S k not-read = numbered 7 ∷ []
-saidOf T S k (take-barred n out) = untaken n 0 out ∷ []
-saidOf T S k (sack-barred n) = sacked n acknowledging.noSack ∷ []
-saidOf T S k (begins t n) = []
+abbrev pub saidOf : Numberings → Side → Heard → List News
+saidOf N k (asks e) = newsBy (lentBy e) (turn N rail (k .streams) (k .lent) e .answer) ∷ []
+saidOf N k not-read = numbered 7 ∷ []
+saidOf N k (take-barred n out) = untaken n 0 out ∷ []
+saidOf N k (sack-barred n) = sacked n acknowledging.noSack ∷ []
+saidOf N k (begins t n) = []
 
 -- of all that is heard
-unfoldable pub goesOn : Numbering → Numbering → Side → List Heard → Side
-goesOn T S k [] = k
-goesOn T S k (h ∷ hs) = goesOn T S (sideBy T S k h) hs
+unfoldable pub goesOn : Numberings → Side → List Heard → Side
+goesOn N k [] = k
+goesOn N k (h ∷ hs) = goesOn N (sideBy N k h) hs
 
-unfoldable pub saidOn : Numbering → Numbering → Side → List Heard → List News
-saidOn T S k [] = []
-saidOn T S k (h ∷ hs) = saidOf T S k h ++ saidOn T S (sideBy T S k h) hs
+unfoldable pub saidOn : Numberings → Side → List Heard → List News
+saidOn N k [] = []
+saidOn N k (h ∷ hs) = saidOf N k h ++ saidOn N (sideBy N k h) hs
 
 -- on our circles
 abbrev pub circleGoes : Side → List Heard → Side
-circleGoes = goesOn (ring (2 ^ 32)) (ring (2 ^ 16))
+circleGoes = goesOn circles
 
 abbrev pub circleSaid : Side → List Heard → List News
-circleSaid = saidOn (ring (2 ^ 32)) (ring (2 ^ 16))
+circleSaid = saidOn circles

@@ -25,6 +25,7 @@ use Rattle.delivery.specs.declared.arrival.Verdict.the-variants.{Kept, Empty, L
 use Rattle.delivery.specs.Arrival as receiver
 use Rattle.states.specs.declared.state.State.{State}
 use Rattle.states.specs.declared.state.State.the-variants.{ShutdownAckSent}
+use Rattle.states.specs.declared.rows.Met.{Met}
 use Rattle.states.specs.declared.rows.Row.{Row}
 use Rattle.states.specs.declared.rows.Row.the-variants.{Refused, ReadData, ReadLateData, AnswerInit, TakeInitAck, ReadSack, ReadSackPending, ReadSackReceived, EchoHeartbeat, ClearTries, BecomeClosed, ReadShutdown, CrossShutdown, RepeatShutdownAck, ReflectComplete, SendComplete, PassError, ReadError, ReadEcho, BecomeEstablished, BecomeComplete, PassUnknown, TellUnknown}
 use Rattle.states.specs.Rows.{cells, rowOf}
@@ -38,7 +39,7 @@ use Rattle.steps.specs.Opening.{isPoor, isOdd, isPoorLent, answerInit, echoing,
 use Rattle.steps.specs.Carrying.{isKept, arrivalIn, arrivalOf, dataRead, readData, lateDataRead, readLateData, areaIn, areaData, heardSack, isLast, readSack, readSackPending, readSackReceived, echoHeartbeat, clearTries}
 use Rattle.steps.specs.Closing.{heardShutdown, readError, readShutdown, answerShutdown}
 use Rattle.steps.specs.Unknown.{passUnknown, tellUnknown}
-use Rattle.steps.specs.Steps.{rowStep, rowArea, rowMet, stepOf, areaOf}
+use Rattle.steps.specs.Steps.{rowStep, rowArea, metBy, rowMet, stepOf, areaOf}
 use Rattle.arriving.specs.Verdict.{fateCode}
 use Rattle.demands.specs.News.{numbered, isData}
 use Rattle.demands.specs.Heard.{Heard, not-read, ackStart, echoStart, arrives, rowHeard, chunkHeard, Side, sideOf, goesOn, saidOn, circleGoes, circleSaid}
@@ -254,23 +255,23 @@ isRead (TellUnknown h) = false
 abbrev Unlike : (State → Row) → State → Type 0
 Unlike row s = isRead (row s) ≡ false
 
-other-row : (k : Kind) (first : Bool) (s : State) → Other k → isRead (rowOf k first s) ≡ false
+other-row : (k : Kind) (m : Met) (s : State) → Other k → isRead (rowOf k m s) ≡ false
 unfolding rowOf
-other-row kind.Data first s e = clash (sym e)
-other-row kind.Init first s e = each-state (Unlike (cells kind.Init first)) refl (λ n. refl) (λ n. refl) refl refl (λ n. refl) refl (λ n. refl) s
-other-row kind.InitAck first s e = each-state (Unlike (cells kind.InitAck first)) refl (λ n. refl) (λ n. refl) refl refl (λ n. refl) refl (λ n. refl) s
-other-row kind.Sack first s e = each-state (Unlike (cells kind.Sack first)) refl (λ n. refl) (λ n. refl) refl refl (λ n. refl) refl (λ n. refl) s
-other-row kind.Heartbeat first s e = each-state (Unlike (cells kind.Heartbeat first)) refl (λ n. refl) (λ n. refl) refl refl (λ n. refl) refl (λ n. refl) s
-other-row kind.HeartbeatAck first s e = each-state (Unlike (cells kind.HeartbeatAck first)) refl (λ n. refl) (λ n. refl) refl refl (λ n. refl) refl (λ n. refl) s
-other-row kind.Abort first s e = each-state (Unlike (cells kind.Abort first)) refl (λ n. refl) (λ n. refl) refl refl (λ n. refl) refl (λ n. refl) s
-other-row kind.Shutdown first s e = each-state (Unlike (cells kind.Shutdown first)) refl (λ n. refl) (λ n. refl) refl refl (λ n. refl) refl (λ n. refl) s
-other-row kind.ShutdownAck first s e = each-state (Unlike (cells kind.ShutdownAck first)) refl (λ n. refl) (λ n. refl) refl refl (λ n. refl) refl (λ n. refl) s
-other-row kind.Error first s e = each-state (Unlike (cells kind.Error first)) refl (λ n. refl) (λ n. refl) refl refl (λ n. refl) refl (λ n. refl) s
-other-row kind.CookieEcho first s e =
-    each-state (Unlike (cells kind.CookieEcho first)) (pick-keeps (λ (r : Row). isRead r ≡ false) first ReadEcho Refused refl refl) (λ n. refl) (λ n. refl) refl refl (λ n. refl) refl (λ n. refl) s
-other-row kind.CookieAck first s e = each-state (Unlike (cells kind.CookieAck first)) refl (λ n. refl) (λ n. refl) refl refl (λ n. refl) refl (λ n. refl) s
-other-row kind.ShutdownComplete first s e = each-state (Unlike (cells kind.ShutdownComplete first)) refl (λ n. refl) (λ n. refl) refl refl (λ n. refl) refl (λ n. refl) s
-other-row (kind.Unknown h) first s e = each-state (Unlike (cells (kind.Unknown h) first)) refl (λ n. refl) (λ n. refl) refl refl (λ n. refl) refl (λ n. refl) s
+other-row kind.Data m s e = clash (sym e)
+other-row kind.Init m s e = each-state (Unlike (cells kind.Init m)) refl (λ n. refl) (λ n. refl) refl refl (λ n. refl) refl (λ n. refl) s
+other-row kind.InitAck m s e = each-state (Unlike (cells kind.InitAck m)) refl (λ n. refl) (λ n. refl) refl refl (λ n. refl) refl (λ n. refl) s
+other-row kind.Sack m s e = each-state (Unlike (cells kind.Sack m)) refl (λ n. refl) (λ n. refl) refl refl (λ n. refl) refl (λ n. refl) s
+other-row kind.Heartbeat m s e = each-state (Unlike (cells kind.Heartbeat m)) refl (λ n. refl) (λ n. refl) refl refl (λ n. refl) refl (λ n. refl) s
+other-row kind.HeartbeatAck m s e = each-state (Unlike (cells kind.HeartbeatAck m)) refl (λ n. refl) (λ n. refl) refl refl (λ n. refl) refl (λ n. refl) s
+other-row kind.Abort m s e = each-state (Unlike (cells kind.Abort m)) refl (λ n. refl) (λ n. refl) refl refl (λ n. refl) refl (λ n. refl) s
+other-row kind.Shutdown m s e = each-state (Unlike (cells kind.Shutdown m)) refl (λ n. refl) (λ n. refl) refl refl (λ n. refl) refl (λ n. refl) s
+other-row kind.ShutdownAck m s e = each-state (Unlike (cells kind.ShutdownAck m)) refl (λ n. refl) (λ n. refl) refl refl (λ n. refl) refl (λ n. refl) s
+other-row kind.Error m s e = each-state (Unlike (cells kind.Error m)) refl (λ n. refl) (λ n. refl) refl refl (λ n. refl) refl (λ n. refl) s
+other-row kind.CookieEcho m s e =
+    each-state (Unlike (cells kind.CookieEcho m)) (pick-keeps (λ (r : Row). isRead r ≡ false) (m .first) ReadEcho Refused refl refl) (λ n. refl) (λ n. refl) refl refl (λ n. refl) refl (λ n. refl) s
+other-row kind.CookieAck m s e = each-state (Unlike (cells kind.CookieAck m)) refl (λ n. refl) (λ n. refl) refl refl (λ n. refl) refl (λ n. refl) s
+other-row kind.ShutdownComplete m s e = each-state (Unlike (cells kind.ShutdownComplete m)) refl (λ n. refl) (λ n. refl) refl refl (λ n. refl) refl (λ n. refl) s
+other-row (kind.Unknown h) m s e = each-state (Unlike (cells (kind.Unknown h) m)) refl (λ n. refl) (λ n. refl) refl refl (λ n. refl) refl (λ n. refl) s
 
 -- what is told of a DATA that the receiving side answers so: its number, and that it was not left unread
 data-number : (a : Association) (s : List ℕ) (o : Arrival) (v : Verdict) → o .verdict ≡ v
@@ -320,15 +321,15 @@ module _ (room : ℕ) (a : Association) (b : Beside) (cookie area s : List ℕ) 
   unfolding saidOn readLateData arrivalIn
   late-tells = let n = late-number a s (arrivalOf a s) (arrivalOf a s .verdict) refl in (ap (λ (x : ℕ). numbered x ∷ []) (n .0), n .1)
 
-  data-tells : isData s ≡ true → (first : Bool) (state : State) → Tells (cells kind.Data first state)
-  data-tells e first =
+  data-tells : isData s ≡ true → (m : Met) (state : State) → Tells (cells kind.Data m state)
+  data-tells e m =
       let no = refused-tells e in
-      each-state (λ state. Tells (cells kind.Data first state)) no (λ n. no) (λ n. no) now-tells now-tells (λ n. late-tells) no (λ n. no)
+      each-state (λ state. Tells (cells kind.Data m state)) no (λ n. no) (λ n. no) now-tells now-tells (λ n. late-tells) no (λ n. no)
 
   pub chunk-tells : isData s ≡ true
       → (numbered (numberOf (stepOf room a b cookie s .fate)) ∷ [] ≡ circleSaid now (chunkHeard a b s)) × (eqb (fateCode (stepOf room a b cookie s .fate)) 6 ≡ false)
   unfolding stepOf chunkHeard rowOf
-  chunk-tells e = rw (data-kind (u8 s 0) e) (data-tells e (b .first) (a .state))
+  chunk-tells e = rw (data-kind (u8 s 0) e) (data-tells e (metBy a b) (a .state))
 
   -- of any other nothing is told
   abbrev Silent : List Heard → Type 0
@@ -374,4 +375,4 @@ module _ (room : ℕ) (a : Association) (b : Beside) (cookie area s : List ℕ) 
 
   pub chunk-silent : isData s ≡ false → circleSaid now (chunkHeard a b s) ≡ []
   unfolding chunkHeard
-  chunk-silent e = row-silent e (rowMet a b s) (other-row (kindOf (u8 s 0)) (b .first) (a .state) (other-kind (u8 s 0) e))
+  chunk-silent e = row-silent e (rowMet a b s) (other-row (kindOf (u8 s 0)) (metBy a b) (a .state) (other-kind (u8 s 0) e))

@@ -1,6 +1,6 @@
 -- A packet: what its chunks ask of the receiving side, one after the other, is what the packet does to that side, and what is told of its DATA.
 -- Assumes nothing.
-use Prim.Native.Nat.{ℕ, zero, suc, _+_, _-_, _*_, _^_, _<_, _≤_}
+use Prim.Native.Nat.{ℕ, zero, suc, _+_, _-_, _*_, _<_, _≤_}
 use mathlib.Core.Path.{_≡_, refl, sym, ap, _∙_}
 use mathlib.Core.Bool.{Bool, true, false}
 use mathlib.Core.List.{List, [], _∷_, _++_}
@@ -13,7 +13,7 @@ use lib.Seq.{take-suc-set}
 use Rattle.scans.specs.Scan.{pick}
 use Rattle.octets.specs.Walk.{size, walk, fold, overItems}
 use Rattle.octets.specs.WalkLaws.{size-least, over-on, over-end}
-use Rattle.numbers.specs.Numbering.{ring}
+use Rattle.numbers.specs.Numbering.{circles}
 use Rattle.packets.specs.Checks.{sizeNumber}
 use Rattle.packets.specs.ChecksLaws.{size-most}
 use Rattle.packets.specs.Header.{headerOf}
@@ -121,13 +121,13 @@ module _ (packet : List ℕ) (short : length packet ≤ 1472) (b : Beside) (cook
       few = omega (arith, ap (λ (y : Walked). y .count) more, c, p .few, size-least s);
       side =
           ap (λ (y : Walked). sideOf (y .association) (u .area)) more
-          ∙ (g ∙ (ap (λ (y : Side). circleGoes y hs) (p .side) ∙ sym (goes-append (ring (2 ^ 32)) (ring (2 ^ 16)) (h .heard) hs k)));
+          ∙ (g ∙ (ap (λ (y : Side). circleGoes y hs) (p .side) ∙ sym (goes-append circles (h .heard) hs k)));
       told =
           ap (λ (vs : List Verdict). newsOfData packet vs) verdicts-are
           ∙ (told-append packet (take (w .count) (w .verdicts)) (v ∷ [])
           ∙ (ap (λ (ts : List News). ts ++ newsOfData packet (v ∷ [])) (p .told)
           ∙ (ap (λ (ts : List News). circleSaid k (h .heard) ++ ts) (q ∙ ap (λ (y : Side). circleSaid y hs) (p .side))
-          ∙ sym (said-append (ring (2 ^ 32)) (ring (2 ^ 16)) (h .heard) hs k))));
+          ∙ sym (said-append circles (h .heard) hs k))));
     }
       where
         more : u .walked ≡ walkedAs (x .association) (x .count + 1) (set (x .verdicts) (x .count) v) (x .used) (x .unread) (x .due) (x .complete)
@@ -145,8 +145,8 @@ module _ (packet : List ℕ) (short : length packet ≤ 1472) (b : Beside) (cook
     unread-on : (u : Turn) → u .walked ≡ noted w (unreadAt place) → u .area ≡ t .area → Next u []
     unread-on u e q =
         on u [] w (unreadAt place) e refl refl
-        (ap (λ (x : List ℕ). sideOf (w .association) x) q ∙ sym (goes-none (ring (2 ^ 32)) (ring (2 ^ 16)) from))
-        (unread-told packet place ∙ sym (said-none (ring (2 ^ 32)) (ring (2 ^ 16)) from))
+        (ap (λ (x : List ℕ). sideOf (w .association) x) q ∙ sym (goes-none circles from))
+        (unread-told packet place ∙ sym (said-none circles from))
 
     abbrev done : Done
     done = doneWith (length (replyAt place b cookie s t)) (stepAt place b cookie s t)

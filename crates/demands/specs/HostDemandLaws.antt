@@ -4,7 +4,7 @@ use mathlib.Core.Path.{_≡_, refl, sym, ap, _∙_, subst}
 use mathlib.Core.List.{List, [], _∷_, _++_, map}
 use lib.ListN.{length, drop}
 use Rattle.scans.specs.Each.{All}
-use Rattle.numbers.specs.Numbering.{ring, line}
+use Rattle.numbers.specs.Numbering.{ring, line, circles, lines}
 use Rattle.numbers.specs.Profile.{rail}
 use Rattle.holding.specs.declared.held.Chunk.{Chunk}
 use Rattle.delivery.specs.Receiving.{lowOf}
@@ -70,14 +70,14 @@ module _ (c : Stretch) where
   side-is =
       calls-go (c .calls) (c .host)
       ∙ (ap (circleGoes (sideIn (c .host))) asked-here
-      ∙ (goes-append (ring (2 ^ 32)) (ring (2 ^ 16)) (c .before) here (sideIn (c .host)) ∙ ap (λ (k : Side). circleGoes k here) (c .fresh)))
+      ∙ (goes-append circles (c .before) here (sideIn (c .host)) ∙ ap (λ (k : Side). circleGoes k here) (c .fresh)))
 
   told-is : hostTold c ≡ circleSaid begun here
   told-is =
       let x : List News = circleSaid (sideIn (c .host)) (c .before) in
       ap (drop (length x))
       (calls-tell (c .calls) (c .host)
-      ∙ (ap (circleSaid (sideIn (c .host))) asked-here ∙ said-append (ring (2 ^ 32)) (ring (2 ^ 16)) (c .before) here (sideIn (c .host))))
+      ∙ (ap (circleSaid (sideIn (c .host))) asked-here ∙ said-append circles (c .before) here (sideIn (c .host))))
       ∙ (drop-behind x (circleSaid (circleGoes (sideIn (c .host)) (c .before)) here) ∙ ap (λ (k : Side). circleSaid k here) (c .fresh))
 
   -- ---- and the receiver's are the line's
@@ -89,41 +89,41 @@ module _ (c : Stretch) where
   seen-is = ap (seen ours (u .streams) (begun .lent)) here-reached
 
   line-told : lineTold c ≡ woven there (lineSeen u)
-  line-told = said-woven line line there there-stays (lineStart c)
+  line-told = said-woven lines there there-stays (lineStart c)
 
   tells : hostTold c ≡ map (reduceNews (2 ^ 32) (2 ^ 16)) (lineTold c)
   tells =
       told-is
-      ∙ (said-woven (ring (2 ^ 32)) (ring (2 ^ 16)) here here-stays begun
+      ∙ (said-woven circles here here-stays begun
       ∙ (ap (woven here) (seen-is ∙ receiver.demand-3 .agrees u)
       ∙ (woven-reduced there (lineSeen u) ∙ ap (map (reduceNews (2 ^ 32) (2 ^ 16))) (sym line-told))))
 
   leaves : hostSide c ≡ reduceSide (2 ^ 32) (2 ^ 16) (lineSide c)
   leaves =
       side-is
-      ∙ (goes-finally (ring (2 ^ 32)) (ring (2 ^ 16)) here here-stays begun
-      ∙ (ap (λ (es : List LineEvent). side (finally (ring (2 ^ 32)) (ring (2 ^ 16)) rail (u .streams) (begun .lent) es)) here-reached
+      ∙ (goes-finally circles here here-stays begun
+      ∙ (ap (λ (es : List LineEvent). side (finally circles rail (u .streams) (begun .lent) es)) here-reached
       ∙ (ap side (rail-agrees (u .initial) (u .small) (u .streams) (u .area) (u .chunk) (u .payload) (u .honest) (u .events) (u .fair) .1)
       ∙ ap (reduceSide (2 ^ 32) (2 ^ 16)) (sym line-left))))
     where
       side : Lent → Side
       side l = record { lent = l; streams = u .streams }
 
-      line-left : lineSide c ≡ side (finally line line rail (u .streams) (lineStart c .lent) (u .events))
-      line-left = goes-finally line line there there-stays (lineStart c)
+      line-left : lineSide c ≡ side (finally lines rail (u .streams) (lineStart c .lent) (u .events))
+      line-left = goes-finally lines there there-stays (lineStart c)
 
   gives : givenIn (hostTold c) ≡ given ourSeen
-  gives = ap givenIn told-is ∙ (said-given (ring (2 ^ 32)) (ring (2 ^ 16)) here here-stays begun ∙ ap given seen-is)
+  gives = ap givenIn told-is ∙ (said-given circles here here-stays begun ∙ ap given seen-is)
 
   -- ---- progress
 
   host-after : hostSide c .lent ≡ hostAfter u (2 ^ 16) ours
   host-after =
-      ap (λ (k : Side). k .lent) (side-is ∙ goes-after (ring (2 ^ 32)) (ring (2 ^ 16)) here here-stays begun)
+      ap (λ (k : Side). k .lent) (side-is ∙ goes-after circles here here-stays begun)
       ∙ ap (demand.after ours (u .streams) (begun .lent)) here-reached
 
   line-after : lineSide c .lent ≡ lineAfter u
-  line-after = ap (λ (k : Side). k .lent) (goes-after line line there there-stays (lineStart c))
+  line-after = ap (λ (k : Side). k .lent) (goes-after lines there there-stays (lineStart c))
 
   held : (j : ℕ) → j ≡ suc (lineSide c .lent .receiving .keeping .point .0) → 1 ≤ length (u .payload j) → length (u .payload j) ≤ 512
       → lowOf line (lineSide c .lent .receiving) < 128 → Holds rail ours (u .streams) (hostSide c .lent) (reduceChunk (2 ^ 32) (2 ^ 16) (u .chunk j)) (u .payload j)
@@ -133,7 +133,7 @@ module _ (c : Stretch) where
       (subst (λ (l : Lent). lowOf line (l .receiving) < 128) line-after room))
 
   streams-are : hostSide c .streams ≡ u .streams
-  streams-are = ap (λ (k : Side). k .streams) (side-is ∙ goes-after (ring (2 ^ 32)) (ring (2 ^ 16)) here here-stays begun)
+  streams-are = ap (λ (k : Side). k .streams) (side-is ∙ goes-after circles here here-stays begun)
 
   -- a call that brings just this chunk
   module _ (k : Chunk) (bytes : List ℕ) (h : Holds rail ours (u .streams) (hostSide c .lent) k bytes) (x : Call) (brings : heardIn (hostLast c) (x ∷ []) ≡ asks (arrive k bytes) ∷ []) where

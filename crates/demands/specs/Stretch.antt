@@ -3,7 +3,7 @@ use Prim.Native.Nat.{ℕ, _+_, _^_, _<_, _≤_}
 use mathlib.Core.Path.{_≡_}
 use mathlib.Core.List.{List, [], _∷_, _++_, map}
 use lib.ListN.{length, drop}
-use Rattle.numbers.specs.Numbering.{ring, line, Within}
+use Rattle.numbers.specs.Numbering.{ring, line, lines, Within}
 use Rattle.numbers.specs.Profile.{rail}
 use Rattle.numbers.specs.KeepingLine.{reduceTsn}
 use Rattle.chunks.specs.declared.sack.Sack.{Sack}
@@ -91,9 +91,9 @@ pub record IsSent (first : ℕ) (chunk : ℕ → Chunk) (payload : ℕ → List 
 abbrev pub Fairly : ℕ → (ℕ → Chunk) → (ℕ → List ℕ) → Side → List Heard → Type 0
 Fairly first chunk payload k [] = Unit
 Fairly first chunk payload k (asks (arrive c bytes) ∷ hs) =
-    (x : IsSent first chunk payload (k .lent) c bytes) × Fairly first chunk payload (sideBy line line k (asks (arrive (chunk (x .number)) (payload (x .number))))) hs
-Fairly first chunk payload k (asks (take out) ∷ hs) = Fairly first chunk payload (sideBy line line k (asks (take out))) hs
-Fairly first chunk payload k (asks sack ∷ hs) = Fairly first chunk payload (sideBy line line k (asks sack)) hs
+    (x : IsSent first chunk payload (k .lent) c bytes) × Fairly first chunk payload (sideBy lines k (asks (arrive (chunk (x .number)) (payload (x .number))))) hs
+Fairly first chunk payload k (asks (take out) ∷ hs) = Fairly first chunk payload (sideBy lines k (asks (take out))) hs
+Fairly first chunk payload k (asks sack ∷ hs) = Fairly first chunk payload (sideBy lines k (asks sack)) hs
 Fairly first chunk payload k (not-read ∷ hs) = Fairly first chunk payload k hs
 Fairly first chunk payload k (take-barred n out ∷ hs) = Fairly first chunk payload k hs
 Fairly first chunk payload k (sack-barred n ∷ hs) = Fairly first chunk payload k hs
@@ -104,9 +104,9 @@ abbrev pub asLine : (first : ℕ) (chunk : ℕ → Chunk) (payload : ℕ → Lis
 asLine first chunk payload k [] f = []
 asLine first chunk payload k (asks (arrive c bytes) ∷ hs) f =
     asks (arrive (chunk (f .0 .number)) (payload (f .0 .number)))
-    ∷ asLine first chunk payload (sideBy line line k (asks (arrive (chunk (f .0 .number)) (payload (f .0 .number))))) hs (f .1)
-asLine first chunk payload k (asks (take out) ∷ hs) f = asks (take out) ∷ asLine first chunk payload (sideBy line line k (asks (take out))) hs f
-asLine first chunk payload k (asks sack ∷ hs) f = asks sack ∷ asLine first chunk payload (sideBy line line k (asks sack)) hs f
+    ∷ asLine first chunk payload (sideBy lines k (asks (arrive (chunk (f .0 .number)) (payload (f .0 .number))))) hs (f .1)
+asLine first chunk payload k (asks (take out) ∷ hs) f = asks (take out) ∷ asLine first chunk payload (sideBy lines k (asks (take out))) hs f
+asLine first chunk payload k (asks sack ∷ hs) f = asks sack ∷ asLine first chunk payload (sideBy lines k (asks sack)) hs f
 asLine first chunk payload k (not-read ∷ hs) f = not-read ∷ asLine first chunk payload k hs f
 asLine first chunk payload k (take-barred n out ∷ hs) f = take-barred n out ∷ asLine first chunk payload k hs f
 asLine first chunk payload k (sack-barred n ∷ hs) f = sack-barred n ∷ asLine first chunk payload k hs f
@@ -145,10 +145,10 @@ module _ (c : Stretch) where
   lineHeard = asLine (c .initial + 2 ^ 32) (c .chunk) (c .payload) lineStart (c .since) (c .fair)
 
   abbrev pub lineSide : Side
-  lineSide = goesOn line line lineStart lineHeard
+  lineSide = goesOn lines lineStart lineHeard
 
   abbrev pub lineTold : List News
-  lineTold = saidOn line line lineStart lineHeard
+  lineTold = saidOn lines lineStart lineHeard
 
   -- our host after its calls, its receiving side, and what it is told since the fresh start
   abbrev pub hostLast : Host

@@ -5,7 +5,7 @@ use mathlib.Core.Path.{_≡_, refl, ap}
 use mathlib.Core.List.{List, [], _∷_, map}
 use lib.ListN.{length}
 use Rattle.scans.specs.Each.{All}
-use Rattle.numbers.specs.Numbering.{Numbering, line}
+use Rattle.numbers.specs.Numbering.{Numberings, lines}
 use Rattle.numbers.specs.Profile.{rail}
 use Rattle.numbers.specs.KeepingLine.{reduceTsn}
 use Rattle.holding.specs.declared.held.Chunk.{Chunk}
@@ -60,45 +60,45 @@ taken-given lent (Taken m) now ts gs e = ap (λ (xs : List Given). record { lent
 taken-given lent Nothing now ts gs e = e
 taken-given lent (Short n) now ts gs e = e
 
-module _ (T S : Numbering) where
-  pub said-woven : (hs : List Heard) → All Stays hs → (k : Side) → saidOn T S k hs ≡ woven hs (seen (over T S rail) (k .streams) (k .lent) (eventsIn hs))
+module _ (N : Numberings) where
+  pub said-woven : (hs : List Heard) → All Stays hs → (k : Side) → saidOn N k hs ≡ woven hs (seen (over N rail) (k .streams) (k .lent) (eventsIn hs))
   unfolding saidOn eventsIn seen woven
   said-woven [] w k = refl
-  said-woven (asks (arrive c bytes) ∷ hs) w k = ap (λ (ts : List News). newsBy [] (turn T S rail (k .streams) (k .lent) (arrive c bytes) .answer) ∷ ts) (said-woven hs (w .1) (sideBy T S k (asks (arrive c bytes))))
-  said-woven (asks (take out) ∷ hs) w k = ap (λ (ts : List News). newsBy out (turn T S rail (k .streams) (k .lent) (take out) .answer) ∷ ts) (said-woven hs (w .1) (sideBy T S k (asks (take out))))
-  said-woven (asks sack ∷ hs) w k = ap (λ (ts : List News). newsBy [] (turn T S rail (k .streams) (k .lent) sack .answer) ∷ ts) (said-woven hs (w .1) (sideBy T S k (asks sack)))
+  said-woven (asks (arrive c bytes) ∷ hs) w k = ap (λ (ts : List News). newsBy [] (turn N rail (k .streams) (k .lent) (arrive c bytes) .answer) ∷ ts) (said-woven hs (w .1) (sideBy N k (asks (arrive c bytes))))
+  said-woven (asks (take out) ∷ hs) w k = ap (λ (ts : List News). newsBy out (turn N rail (k .streams) (k .lent) (take out) .answer) ∷ ts) (said-woven hs (w .1) (sideBy N k (asks (take out))))
+  said-woven (asks sack ∷ hs) w k = ap (λ (ts : List News). newsBy [] (turn N rail (k .streams) (k .lent) sack .answer) ∷ ts) (said-woven hs (w .1) (sideBy N k (asks sack)))
   said-woven (not-read ∷ hs) w k = ap (λ (ts : List News). numbered 7 ∷ ts) (said-woven hs (w .1) k)
   said-woven (take-barred n out ∷ hs) w k = ap (λ (ts : List News). untaken n 0 out ∷ ts) (said-woven hs (w .1) k)
   said-woven (sack-barred n ∷ hs) w k = ap (λ (ts : List News). sacked n noSack ∷ ts) (said-woven hs (w .1) k)
   said-woven (begins t n ∷ hs) w k = absurd (w .0)
 
-  pub goes-finally : (hs : List Heard) → All Stays hs → (k : Side) → goesOn T S k hs ≡ record { lent = finally T S rail (k .streams) (k .lent) (eventsIn hs); streams = k .streams }
+  pub goes-finally : (hs : List Heard) → All Stays hs → (k : Side) → goesOn N k hs ≡ record { lent = finally N rail (k .streams) (k .lent) (eventsIn hs); streams = k .streams }
   unfolding goesOn eventsIn finally
   goes-finally [] w k = refl
-  goes-finally (asks e ∷ hs) w k = goes-finally hs (w .1) (sideBy T S k (asks e))
+  goes-finally (asks e ∷ hs) w k = goes-finally hs (w .1) (sideBy N k (asks e))
   goes-finally (not-read ∷ hs) w k = goes-finally hs (w .1) k
   goes-finally (take-barred n out ∷ hs) w k = goes-finally hs (w .1) k
   goes-finally (sack-barred n ∷ hs) w k = goes-finally hs (w .1) k
   goes-finally (begins t n ∷ hs) w k = absurd (w .0)
 
-  pub goes-after : (hs : List Heard) → All Stays hs → (k : Side) → goesOn T S k hs ≡ record { lent = demand.after (over T S rail) (k .streams) (k .lent) (eventsIn hs); streams = k .streams }
+  pub goes-after : (hs : List Heard) → All Stays hs → (k : Side) → goesOn N k hs ≡ record { lent = demand.after (over N rail) (k .streams) (k .lent) (eventsIn hs); streams = k .streams }
   unfolding goesOn eventsIn demand.after
   goes-after [] w k = refl
-  goes-after (asks (arrive c bytes) ∷ hs) w k = goes-after hs (w .1) (sideBy T S k (asks (arrive c bytes)))
-  goes-after (asks (take out) ∷ hs) w k = goes-after hs (w .1) (sideBy T S k (asks (take out)))
-  goes-after (asks sack ∷ hs) w k = goes-after hs (w .1) (sideBy T S k (asks sack))
+  goes-after (asks (arrive c bytes) ∷ hs) w k = goes-after hs (w .1) (sideBy N k (asks (arrive c bytes)))
+  goes-after (asks (take out) ∷ hs) w k = goes-after hs (w .1) (sideBy N k (asks (take out)))
+  goes-after (asks sack ∷ hs) w k = goes-after hs (w .1) (sideBy N k (asks sack))
   goes-after (not-read ∷ hs) w k = goes-after hs (w .1) k
   goes-after (take-barred n out ∷ hs) w k = goes-after hs (w .1) k
   goes-after (sack-barred n ∷ hs) w k = goes-after hs (w .1) k
   goes-after (begins t n ∷ hs) w k = absurd (w .0)
 
-  pub said-given : (hs : List Heard) → All Stays hs → (k : Side) → givenIn (saidOn T S k hs) ≡ given (seen (over T S rail) (k .streams) (k .lent) (eventsIn hs))
+  pub said-given : (hs : List Heard) → All Stays hs → (k : Side) → givenIn (saidOn N k hs) ≡ given (seen (over N rail) (k .streams) (k .lent) (eventsIn hs))
   unfolding saidOn eventsIn seen givenIn
   said-given [] w k = refl
-  said-given (asks (arrive c bytes) ∷ hs) w k = said-given hs (w .1) (sideBy T S k (asks (arrive c bytes)))
+  said-given (asks (arrive c bytes) ∷ hs) w k = said-given hs (w .1) (sideBy N k (asks (arrive c bytes)))
   said-given (asks (take out) ∷ hs) w k =
-      taken-given out (taken T S rail (k .lent .receiving) (length out) .answer) _ (saidOn T S (sideBy T S k (asks (take out))) hs) _ (said-given hs (w .1) (sideBy T S k (asks (take out))))
-  said-given (asks sack ∷ hs) w k = said-given hs (w .1) (sideBy T S k (asks sack))
+      taken-given out (taken N rail (k .lent .receiving) (length out) .answer) _ (saidOn N (sideBy N k (asks (take out))) hs) _ (said-given hs (w .1) (sideBy N k (asks (take out))))
+  said-given (asks sack ∷ hs) w k = said-given hs (w .1) (sideBy N k (asks sack))
   said-given (not-read ∷ hs) w k = said-given hs (w .1) k
   said-given (take-barred n out ∷ hs) w k = said-given hs (w .1) k
   said-given (sack-barred n ∷ hs) w k = said-given hs (w .1) k
@@ -166,9 +166,9 @@ module _ (first : ℕ) (chunk : ℕ → Chunk) (payload : ℕ → List ℕ) wher
   pub lined-reduced : (hs : List Heard) (k : Side) (f : Fairly first chunk payload k hs) → hs ≡ map (reduceHeard TSNs SSNs) (lined k hs f)
   lined-reduced [] k f = refl
   lined-reduced (asks (arrive c bytes) ∷ hs) k f =
-      λ i. asks (arrive (f .0 .same i) (f .0 .whole i)) ∷ lined-reduced hs (sideBy line line k (asks (arrive (chunk (f .0 .number)) (payload (f .0 .number))))) (f .1) i
-  lined-reduced (asks (take out) ∷ hs) k f = ap (λ (gs : List Heard). asks (take out) ∷ gs) (lined-reduced hs (sideBy line line k (asks (take out))) f)
-  lined-reduced (asks sack ∷ hs) k f = ap (λ (gs : List Heard). asks sack ∷ gs) (lined-reduced hs (sideBy line line k (asks sack)) f)
+      λ i. asks (arrive (f .0 .same i) (f .0 .whole i)) ∷ lined-reduced hs (sideBy lines k (asks (arrive (chunk (f .0 .number)) (payload (f .0 .number))))) (f .1) i
+  lined-reduced (asks (take out) ∷ hs) k f = ap (λ (gs : List Heard). asks (take out) ∷ gs) (lined-reduced hs (sideBy lines k (asks (take out))) f)
+  lined-reduced (asks sack ∷ hs) k f = ap (λ (gs : List Heard). asks sack ∷ gs) (lined-reduced hs (sideBy lines k (asks sack)) f)
   lined-reduced (not-read ∷ hs) k f = ap (λ (gs : List Heard). not-read ∷ gs) (lined-reduced hs k f)
   lined-reduced (take-barred n out ∷ hs) k f = ap (λ (gs : List Heard). take-barred n out ∷ gs) (lined-reduced hs k f)
   lined-reduced (sack-barred n ∷ hs) k f = ap (λ (gs : List Heard). sack-barred n ∷ gs) (lined-reduced hs k f)
@@ -176,9 +176,9 @@ module _ (first : ℕ) (chunk : ℕ → Chunk) (payload : ℕ → List ℕ) wher
 
   pub lined-stays : (hs : List Heard) (k : Side) (f : Fairly first chunk payload k hs) → All Stays (lined k hs f)
   lined-stays [] k f = tt
-  lined-stays (asks (arrive c bytes) ∷ hs) k f = (tt, lined-stays hs (sideBy line line k (asks (arrive (chunk (f .0 .number)) (payload (f .0 .number))))) (f .1))
-  lined-stays (asks (take out) ∷ hs) k f = (tt, lined-stays hs (sideBy line line k (asks (take out))) f)
-  lined-stays (asks sack ∷ hs) k f = (tt, lined-stays hs (sideBy line line k (asks sack)) f)
+  lined-stays (asks (arrive c bytes) ∷ hs) k f = (tt, lined-stays hs (sideBy lines k (asks (arrive (chunk (f .0 .number)) (payload (f .0 .number))))) (f .1))
+  lined-stays (asks (take out) ∷ hs) k f = (tt, lined-stays hs (sideBy lines k (asks (take out))) f)
+  lined-stays (asks sack ∷ hs) k f = (tt, lined-stays hs (sideBy lines k (asks sack)) f)
   lined-stays (not-read ∷ hs) k f = (tt, lined-stays hs k f)
   lined-stays (take-barred n out ∷ hs) k f = (tt, lined-stays hs k f)
   lined-stays (sack-barred n ∷ hs) k f = (tt, lined-stays hs k f)
@@ -189,9 +189,9 @@ module _ (first : ℕ) (chunk : ℕ → Chunk) (payload : ℕ → List ℕ) wher
   lined-fair [] k f = tt
   lined-fair (asks (arrive c bytes) ∷ hs) k f =
       let x = f .0 in
-      ((x .number, x .from, refl, refl, x .near), lined-fair hs (sideBy line line k (asks (arrive (chunk (x .number)) (payload (x .number))))) (f .1))
-  lined-fair (asks (take out) ∷ hs) k f = lined-fair hs (sideBy line line k (asks (take out))) f
-  lined-fair (asks sack ∷ hs) k f = lined-fair hs (sideBy line line k (asks sack)) f
+      ((x .number, x .from, refl, refl, x .near), lined-fair hs (sideBy lines k (asks (arrive (chunk (x .number)) (payload (x .number))))) (f .1))
+  lined-fair (asks (take out) ∷ hs) k f = lined-fair hs (sideBy lines k (asks (take out))) f
+  lined-fair (asks sack ∷ hs) k f = lined-fair hs (sideBy lines k (asks sack)) f
   lined-fair (not-read ∷ hs) k f = lined-fair hs k f
   lined-fair (take-barred n out ∷ hs) k f = lined-fair hs k f
   lined-fair (sack-barred n ∷ hs) k f = lined-fair hs k f
