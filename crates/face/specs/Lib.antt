@@ -1,4 +1,4 @@
--- What C is told, and what a call leaves in what it was lent.
+-- What C is told, and what a call leaves in what it was lent. Promises, which each function cites, comes first; the files above it say its words.
 pub mod Left
 pub mod LeftLaws
 pub mod Answer
@@ -11,3 +11,4 @@ pub mod Arrival
 pub mod Peek
 pub mod Acknowledging
 pub mod AcknowledgingLaws
+pub mod Promises

@@ -7,11 +7,9 @@ use numbers::Tsn;
 ghost use Prim.Native.Nat.{ℕ};
 ghost use mathlib.Core.Path.{_≡_};
 ghost use mathlib.Core.List.{List, map};
-ghost use Rattle.calls.specs.Acknowledging.{acknowledged, acknowledgedOut};
-ghost use Rattle.flat.specs.Shown.{shown};
-ghost use Rattle.kept.specs.Kept.{unpacked};
-ghost use Rattle.face.specs.Left.{toldOf, left};
-ghost use Rattle.face.specs.Acknowledging.{numberOf, saidIn, saidTold, saidLists, acknowledgedLeft};
+ghost use Rattle.face.specs.Left.{toldOf};
+ghost use Rattle.face.specs.Acknowledging.{numberOf, saidIn, saidTold, saidLists};
+ghost use Rattle.face.specs.Promises.{Acknowledges};
 
 fn number_of(t: Tsn) -> u32
     ensures { λ r. ⌜ r ≡ numberOf t ⌝ }
@@ -73,7 +71,7 @@ pub fn sack(
     dups: &mut [u32; 16],
     told: &mut [usize; 5],
 ) -> Served
-    ensures { λ r. ⌜ ((ns ms cs : List ℕ) → left (toldOf (r .number) (r .kept) (now (told .exit))) (saidIn (now (starts .exit)) (now (ends .exit)) (now (dups .exit)) (now (out .exit))) ≡ acknowledgedLeft k (acknowledged (shown (unpacked k) (now (held .entry)) ns (now (places .entry)) ms cs) (now (out .entry))) (acknowledgedOut (shown (unpacked k) (now (held .entry)) ns (now (places .entry)) ms cs) (now (out .entry))) (now (out .entry))) ⌝ }
+    ensures { λ r. ⌜ Acknowledges k (now (held .entry)) (now (places .entry)) (now (out .entry)) (toldOf (r .number) (r .kept) (now (told .exit))) (saidIn (now (starts .exit)) (now (ends .exit)) (now (dups .exit)) (now (out .exit))) ⌝ }
 {
     if kept::is_named(k) {
         let head = kept::unpack(k);
@@ -100,7 +98,7 @@ pub extern "C" fn ow_lent_sack(
     dups: &mut [u32; 16],
     told: &mut [usize; 5],
 ) -> u32
-    ensures { λ r. ⌜ ((ns ms cs : List ℕ) → left (toldOf r (now (k .exit)) (now (told .exit))) (saidIn (now (starts .exit)) (now (ends .exit)) (now (dups .exit)) (now (out .exit))) ≡ acknowledgedLeft (now (k .entry)) (acknowledged (shown (unpacked (now (k .entry))) (now (held .entry)) ns (now (places .entry)) ms cs) (now (out .entry))) (acknowledgedOut (shown (unpacked (now (k .entry))) (now (held .entry)) ns (now (places .entry)) ms cs) (now (out .entry))) (now (out .entry))) ⌝ }
+    ensures { λ r. ⌜ Acknowledges (now (k .entry)) (now (held .entry)) (now (places .entry)) (now (out .entry)) (toldOf r (now (k .exit)) (now (told .exit))) (saidIn (now (starts .exit)) (now (ends .exit)) (now (dups .exit)) (now (out .exit))) ⌝ }
 {
     let o = sack(*k, held, places, out, starts, ends, dups, told);
     *k = o.kept;

@@ -6,11 +6,10 @@ use numbers::Tsn;
 use steps::Lent;
 use steps::Made;
 ghost use mathlib.Core.Path.{_≡_};
-ghost use Rattle.landing.specs.Landing.{landed};
-ghost use Rattle.kept.specs.Kept.{unpacked};
 ghost use Rattle.kept.specs.Word.{echoedOf};
-ghost use Rattle.face.specs.Left.{toldOf, left};
-ghost use Rattle.face.specs.Arrival.{lentAs, madeAs, landedTold, arrivedLent, arrivedLeft};
+ghost use Rattle.face.specs.Left.{toldOf};
+ghost use Rattle.face.specs.Arrival.{lentAs, madeAs, landedTold, arrivedLent};
+ghost use Rattle.face.specs.Promises.{Arrives};
 
 // Told: how many verdicts there are, and the length of the reply.
 fn judged(r: Landed, told: &mut [usize; 2]) -> Served
@@ -54,7 +53,7 @@ pub fn arrive(
     out: &mut [u8],
     told: &mut [usize; 2],
 ) -> Served
-    ensures { λ r. ⌜ left (toldOf (r .number) (r .kept) (now (told .exit))) (arrivedLent (now (held .exit)) (now («next_in» .exit)) (now (places .exit)) (now («next_out» .exit)) (now («kept_cookie» .exit)) (now (area .exit)) (now (verdicts .exit)) (now (out .exit))) ≡ arrivedLeft k (landed (now (packet .entry)) (lentAs tag tsn streams options) (now (cookie .entry)) (echoedOf word (madeAs «my_tag» «peer_tag» «streams_in» «streams_out» «my_tsn» «peer_tsn» window «my_tie» «peer_tie» agreed)) (unpacked k) (now (held .entry)) (now («next_in» .entry)) (now (places .entry)) (now («next_out» .entry)) (now («kept_cookie» .entry)) (now (area .entry)) (now (verdicts .entry)) (now (out .entry))) (arrivedLent (now (held .entry)) (now («next_in» .entry)) (now (places .entry)) (now («next_out» .entry)) (now («kept_cookie» .entry)) (now (area .entry)) (now (verdicts .entry)) (now (out .entry))) ⌝ }
+    ensures { λ r. ⌜ Arrives k (now (packet .entry)) (lentAs tag tsn streams options) (now (cookie .entry)) (echoedOf word (madeAs «my_tag» «peer_tag» «streams_in» «streams_out» «my_tsn» «peer_tsn» window «my_tie» «peer_tie» agreed)) (arrivedLent (now (held .entry)) (now («next_in» .entry)) (now (places .entry)) (now («next_out» .entry)) (now («kept_cookie» .entry)) (now (area .entry)) (now (verdicts .entry)) (now (out .entry))) (toldOf (r .number) (r .kept) (now (told .exit))) (arrivedLent (now (held .exit)) (now («next_in» .exit)) (now (places .exit)) (now («next_out» .exit)) (now («kept_cookie» .exit)) (now (area .exit)) (now (verdicts .exit)) (now (out .exit))) ⌝ }
 {
     if kept::is_named(k) {
         let head = kept::unpack(k);
@@ -128,7 +127,7 @@ pub extern "C" fn ow_lent_arrive(
     out: &mut [u8],
     told: &mut [usize; 2],
 ) -> u32
-    ensures { λ r. ⌜ left (toldOf r (now (k .exit)) (now (told .exit))) (arrivedLent (now (held .exit)) (now («next_in» .exit)) (now (places .exit)) (now («next_out» .exit)) (now («kept_cookie» .exit)) (now (area .exit)) (now (verdicts .exit)) (now (out .exit))) ≡ arrivedLeft (now (k .entry)) (landed (now (packet .entry)) (lentAs tag tsn streams options) (now (cookie .entry)) (echoedOf word (madeAs «my_tag» «peer_tag» «streams_in» «streams_out» «my_tsn» «peer_tsn» window «my_tie» «peer_tie» agreed)) (unpacked (now (k .entry))) (now (held .entry)) (now («next_in» .entry)) (now (places .entry)) (now («next_out» .entry)) (now («kept_cookie» .entry)) (now (area .entry)) (now (verdicts .entry)) (now (out .entry))) (arrivedLent (now (held .entry)) (now («next_in» .entry)) (now (places .entry)) (now («next_out» .entry)) (now («kept_cookie» .entry)) (now (area .entry)) (now (verdicts .entry)) (now (out .entry))) ⌝ }
+    ensures { λ r. ⌜ Arrives (now (k .entry)) (now (packet .entry)) (lentAs tag tsn streams options) (now (cookie .entry)) (echoedOf word (madeAs «my_tag» «peer_tag» «streams_in» «streams_out» «my_tsn» «peer_tsn» window «my_tie» «peer_tie» agreed)) (arrivedLent (now (held .entry)) (now («next_in» .entry)) (now (places .entry)) (now («next_out» .entry)) (now («kept_cookie» .entry)) (now (area .entry)) (now (verdicts .entry)) (now (out .entry))) (toldOf r (now (k .exit)) (now (told .exit))) (arrivedLent (now (held .exit)) (now («next_in» .exit)) (now (places .exit)) (now («next_out» .exit)) (now («kept_cookie» .exit)) (now (area .exit)) (now (verdicts .exit)) (now (out .exit))) ⌝ }
 {
     let o = arrive(
         *k,

@@ -3,15 +3,10 @@ use crate::answer;
 use crate::answer::Served;
 use kept::Kept;
 use kept::cause;
-ghost use Prim.Native.Nat.{ℕ};
-ghost use mathlib.Core.Path.{_≡_};
-ghost use mathlib.Core.List.{List};
 ghost use Rattle.calls.specs.Closing.{shutting, aborting};
-ghost use Rattle.flat.specs.Shown.{shown};
 ghost use Rattle.kept.specs.Cause.{reasonOf};
-ghost use Rattle.kept.specs.Kept.{unpacked};
-ghost use Rattle.face.specs.Left.{toldOf, left};
-ghost use Rattle.face.specs.Answer.{answered};
+ghost use Rattle.face.specs.Left.{toldOf};
+ghost use Rattle.face.specs.Promises.{Sends};
 
 // No more messages.
 pub fn shutdown(
@@ -21,7 +16,7 @@ pub fn shutdown(
     out: &mut [u8],
     told: &mut [usize; 2],
 ) -> Served
-    ensures { λ r. ⌜ ((ns ms cs : List ℕ) → left (toldOf (r .number) (r .kept) (now (told .exit))) (now (out .exit)) ≡ answered k (shutting (shown (unpacked k) (now (held .entry)) ns (now (places .entry)) ms cs) (now (out .entry))) (now (out .entry))) ⌝ }
+    ensures { λ r. ⌜ Sends shutting k (now (held .entry)) (now (places .entry)) (now (out .entry)) (toldOf (r .number) (r .kept) (now (told .exit))) (now (out .exit)) ⌝ }
 {
     if kept::is_named(k) {
         let head = kept::unpack(k);
@@ -40,7 +35,7 @@ pub extern "C" fn ow_lent_shutdown(
     out: &mut [u8],
     told: &mut [usize; 2],
 ) -> u32
-    ensures { λ r. ⌜ ((ns ms cs : List ℕ) → left (toldOf r (now (k .exit)) (now (told .exit))) (now (out .exit)) ≡ answered (now (k .entry)) (shutting (shown (unpacked (now (k .entry))) (now (held .entry)) ns (now (places .entry)) ms cs) (now (out .entry))) (now (out .entry))) ⌝ }
+    ensures { λ r. ⌜ Sends shutting (now (k .entry)) (now (held .entry)) (now (places .entry)) (now (out .entry)) (toldOf r (now (k .exit)) (now (told .exit))) (now (out .exit)) ⌝ }
 {
     let o = shutdown(*k, held, places, out, told);
     *k = o.kept;
@@ -57,7 +52,7 @@ pub fn abort(
     out: &mut [u8],
     told: &mut [usize; 2],
 ) -> Served
-    ensures { λ r. ⌜ ((ns ms cs : List ℕ) → left (toldOf (r .number) (r .kept) (now (told .exit))) (now (out .exit)) ≡ answered k (aborting (shown (unpacked k) (now (held .entry)) ns (now (places .entry)) ms cs) (reasonOf cause tsn) (now (out .entry))) (now (out .entry))) ⌝ }
+    ensures { λ r. ⌜ Sends (λ a. aborting a (reasonOf cause tsn)) k (now (held .entry)) (now (places .entry)) (now (out .entry)) (toldOf (r .number) (r .kept) (now (told .exit))) (now (out .exit)) ⌝ }
 {
     if kept::is_named(k) {
         let head = kept::unpack(k);
@@ -79,7 +74,7 @@ pub extern "C" fn ow_lent_abort(
     out: &mut [u8],
     told: &mut [usize; 2],
 ) -> u32
-    ensures { λ r. ⌜ ((ns ms cs : List ℕ) → left (toldOf r (now (k .exit)) (now (told .exit))) (now (out .exit)) ≡ answered (now (k .entry)) (aborting (shown (unpacked (now (k .entry))) (now (held .entry)) ns (now (places .entry)) ms cs) (reasonOf cause tsn) (now (out .entry))) (now (out .entry))) ⌝ }
+    ensures { λ r. ⌜ Sends (λ a. aborting a (reasonOf cause tsn)) (now (k .entry)) (now (held .entry)) (now (places .entry)) (now (out .entry)) (toldOf r (now (k .exit)) (now (told .exit))) (now (out .exit)) ⌝ }
 {
     let o = abort(*k, held, places, cause, tsn, out, told);
     *k = o.kept;

@@ -2,15 +2,10 @@
 use crate::answer::Served;
 use kept::Kept;
 use kept::flags;
-ghost use Prim.Native.Nat.{ℕ};
 ghost use mathlib.Core.Path.{_≡_};
-ghost use mathlib.Core.List.{List};
-ghost use Rattle.calls.specs.Messages.{takeBar};
-ghost use Rattle.flat.specs.Shown.{shown};
-ghost use Rattle.asks.specs.Messages.{deliveredFrom};
-ghost use Rattle.kept.specs.Kept.{unpacked};
-ghost use Rattle.face.specs.Left.{toldOf, left};
-ghost use Rattle.face.specs.Messages.{deliveredTold, deliveredLent, deliveredLeft};
+ghost use Rattle.face.specs.Left.{toldOf};
+ghost use Rattle.face.specs.Messages.{deliveredTold, deliveredLent};
+ghost use Rattle.face.specs.Promises.{Takes};
 
 // Told: length, stream, whether it was out of order, SSN, payload protocol identifier.
 fn given(k: Kept, r: asks::Delivered, told: &mut [usize; 5]) -> Served
@@ -41,7 +36,7 @@ pub fn take(
     out: &mut [u8],
     told: &mut [usize; 5],
 ) -> Served
-    ensures { λ r. ⌜ ((ms cs : List ℕ) → left (toldOf (r .number) (r .kept) (now (told .exit))) (deliveredLent (now (held .exit)) (now («next_in» .exit)) (now (out .exit))) ≡ deliveredLeft k (deliveredFrom (takeBar (shown (unpacked k) (now (held .entry)) (now («next_in» .entry)) (now (places .entry)) ms cs) (now (area .entry))) (unpacked k) (now (held .entry)) (now («next_in» .entry)) (now (area .entry)) (now (out .entry))) (deliveredLent (now (held .entry)) (now («next_in» .entry)) (now (out .entry)))) ⌝ }
+    ensures { λ r. ⌜ Takes k (now (places .entry)) (now (area .entry)) (deliveredLent (now (held .entry)) (now («next_in» .entry)) (now (out .entry))) (toldOf (r .number) (r .kept) (now (told .exit))) (deliveredLent (now (held .exit)) (now («next_in» .exit)) (now (out .exit))) ⌝ }
 {
     if kept::is_named(k) {
         let head = kept::unpack(k);
@@ -62,7 +57,7 @@ pub extern "C" fn ow_lent_take(
     out: &mut [u8],
     told: &mut [usize; 5],
 ) -> u32
-    ensures { λ r. ⌜ ((ms cs : List ℕ) → left (toldOf r (now (k .exit)) (now (told .exit))) (deliveredLent (now (held .exit)) (now («next_in» .exit)) (now (out .exit))) ≡ deliveredLeft (now (k .entry)) (deliveredFrom (takeBar (shown (unpacked (now (k .entry))) (now (held .entry)) (now («next_in» .entry)) (now (places .entry)) ms cs) (now (area .entry))) (unpacked (now (k .entry))) (now (held .entry)) (now («next_in» .entry)) (now (area .entry)) (now (out .entry))) (deliveredLent (now (held .entry)) (now («next_in» .entry)) (now (out .entry)))) ⌝ }
+    ensures { λ r. ⌜ Takes (now (k .entry)) (now (places .entry)) (now (area .entry)) (deliveredLent (now (held .entry)) (now («next_in» .entry)) (now (out .entry))) (toldOf r (now (k .exit)) (now (told .exit))) (deliveredLent (now (held .exit)) (now («next_in» .exit)) (now (out .exit))) ⌝ }
 {
     let o = take(*k, held, next_in, places, area, out, told);
     *k = o.kept;

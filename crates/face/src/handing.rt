@@ -4,17 +4,10 @@ use kept::Kept;
 use kept::flags;
 use messages::Handing;
 use numbers::StreamId;
-ghost use Prim.Native.Nat.{ℕ};
 ghost use mathlib.Core.Path.{_≡_};
-ghost use mathlib.Core.List.{List};
-ghost use Rattle.states.specs.declared.call.Call.the-variants.{HandIn};
-ghost use Rattle.calls.specs.Answer.{isShortArea, barred};
-ghost use Rattle.flat.specs.Shown.{shown};
-ghost use Rattle.asks.specs.Messages.{handedOver};
-ghost use Rattle.kept.specs.Flags.{isYes};
-ghost use Rattle.kept.specs.Kept.{unpacked};
-ghost use Rattle.face.specs.Left.{toldOf, left};
-ghost use Rattle.face.specs.Messages.{handedTold, handedLent, handedLeft};
+ghost use Rattle.face.specs.Left.{toldOf};
+ghost use Rattle.face.specs.Messages.{handedTold, handedLent};
+ghost use Rattle.face.specs.Promises.{HandsIn};
 
 fn handed(k: Kept, r: Handing, told: &mut [usize; 1]) -> Served
     ensures { λ q. ⌜ toldOf (q .number) (q .kept) (now (told .exit)) ≡ handedTold k r ⌝ }
@@ -38,7 +31,7 @@ pub fn hand_in(
     ppid: u32,
     told: &mut [usize; 1],
 ) -> Served
-    ensures { λ r. ⌜ ((ns ms cs : List ℕ) → left (toldOf (r .number) (r .kept) (now (told .exit))) (handedLent (now (places .exit)) (now (area .exit))) ≡ handedLeft k (handedOver (barred (shown (unpacked k) (now (held .entry)) ns (now (places .entry)) ms cs) (isShortArea (now (area .entry))) HandIn) (unpacked k) (now (places .entry)) (now (area .entry)) (now (message .entry)) (record { 0 = stream }) (isYes unordered) ppid) (handedLent (now (places .entry)) (now (area .entry)))) ⌝ }
+    ensures { λ r. ⌜ HandsIn k (now (held .entry)) (now (message .entry)) stream unordered ppid (handedLent (now (places .entry)) (now (area .entry))) (toldOf (r .number) (r .kept) (now (told .exit))) (handedLent (now (places .exit)) (now (area .exit))) ⌝ }
 {
     if kept::is_named(k) {
         let head = kept::unpack(k);
@@ -71,7 +64,7 @@ pub extern "C" fn ow_lent_hand_in(
     ppid: u32,
     told: &mut [usize; 1],
 ) -> u32
-    ensures { λ r. ⌜ ((ns ms cs : List ℕ) → left (toldOf r (now (k .exit)) (now (told .exit))) (handedLent (now (places .exit)) (now (area .exit))) ≡ handedLeft (now (k .entry)) (handedOver (barred (shown (unpacked (now (k .entry))) (now (held .entry)) ns (now (places .entry)) ms cs) (isShortArea (now (area .entry))) HandIn) (unpacked (now (k .entry))) (now (places .entry)) (now (area .entry)) (now (message .entry)) (record { 0 = stream }) (isYes unordered) ppid) (handedLent (now (places .entry)) (now (area .entry)))) ⌝ }
+    ensures { λ r. ⌜ HandsIn (now (k .entry)) (now (held .entry)) (now (message .entry)) stream unordered ppid (handedLent (now (places .entry)) (now (area .entry))) (toldOf r (now (k .exit)) (now (told .exit))) (handedLent (now (places .exit)) (now (area .exit))) ⌝ }
 {
     let o = hand_in(
         *k,

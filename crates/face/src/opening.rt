@@ -4,13 +4,10 @@ use crate::answer::Served;
 use flat::Head;
 use kept::Kept;
 use numbers::Tsn;
-ghost use mathlib.Core.Path.{_≡_};
 ghost use mathlib.Core.List.{[]};
-ghost use Rattle.calls.specs.Opening.{associating};
-ghost use Rattle.flat.specs.Shown.{shown};
-ghost use Rattle.kept.specs.Kept.{unpacked};
-ghost use Rattle.face.specs.Left.{toldOf, left};
-ghost use Rattle.face.specs.Opening.{tablesOf, closedLeft, associatedLent, associatedLeft};
+ghost use Rattle.face.specs.Left.{toldOf};
+ghost use Rattle.face.specs.Opening.{tablesOf, associatedLent};
+ghost use Rattle.face.specs.Promises.{Closes, Associates};
 
 // A closed record at one of the host's ports, whatever stood there.
 pub fn close(
@@ -22,7 +19,7 @@ pub fn close(
     kept_cookie: &mut [u8; 256],
     port: u16,
 ) -> Served
-    ensures { λ r. ⌜ left (toldOf (r .number) (r .kept) []) (tablesOf (now (held .exit)) (now («next_in» .exit)) (now (places .exit)) (now («next_out» .exit)) (now («kept_cookie» .exit))) ≡ closedLeft port ⌝ }
+    ensures { λ r. ⌜ Closes port (toldOf (r .number) (r .kept) []) (tablesOf (now (held .exit)) (now («next_in» .exit)) (now (places .exit)) (now («next_out» .exit)) (now («kept_cookie» .exit))) ⌝ }
 {
     let head = Head::closed(port);
     tables::held::clear(held);
@@ -46,7 +43,7 @@ pub extern "C" fn ow_lent_close(
     kept_cookie: &mut [u8; 256],
     port: u16,
 ) -> u32
-    ensures { λ r. ⌜ left (toldOf r (now (k .exit)) []) (tablesOf (now (held .exit)) (now («next_in» .exit)) (now (places .exit)) (now («next_out» .exit)) (now («kept_cookie» .exit))) ≡ closedLeft port ⌝ }
+    ensures { λ r. ⌜ Closes port (toldOf r (now (k .exit)) []) (tablesOf (now (held .exit)) (now («next_in» .exit)) (now (places .exit)) (now («next_out» .exit)) (now («kept_cookie» .exit))) ⌝ }
 {
     let o = close(*k, held, next_in, places, next_out, kept_cookie, port);
     *k = o.kept;
@@ -68,7 +65,7 @@ pub fn associate(
     out: &mut [u8],
     told: &mut [usize; 2],
 ) -> Served
-    ensures { λ r. ⌜ left (toldOf (r .number) (r .kept) (now (told .exit))) (associatedLent (tablesOf (now (held .exit)) (now («next_in» .exit)) (now (places .exit)) (now («next_out» .exit)) (now («kept_cookie» .exit))) (now (out .exit))) ≡ associatedLeft k (associating (shown (unpacked k) (now (held .entry)) (now («next_in» .entry)) (now (places .entry)) (now («next_out» .entry)) (now («kept_cookie» .entry))) tag (record { 0 = tsn }) port streams (now (out .entry))) (associatedLent (tablesOf (now (held .entry)) (now («next_in» .entry)) (now (places .entry)) (now («next_out» .entry)) (now («kept_cookie» .entry))) (now (out .entry))) ⌝ }
+    ensures { λ r. ⌜ Associates k tag tsn port streams (associatedLent (tablesOf (now (held .entry)) (now («next_in» .entry)) (now (places .entry)) (now («next_out» .entry)) (now («kept_cookie» .entry))) (now (out .entry))) (toldOf (r .number) (r .kept) (now (told .exit))) (associatedLent (tablesOf (now (held .exit)) (now («next_in» .exit)) (now (places .exit)) (now («next_out» .exit)) (now («kept_cookie» .exit))) (now (out .exit))) ⌝ }
 {
     if kept::is_named(k) {
         let head = kept::unpack(k);
@@ -106,7 +103,7 @@ pub extern "C" fn ow_lent_associate(
     out: &mut [u8],
     told: &mut [usize; 2],
 ) -> u32
-    ensures { λ r. ⌜ left (toldOf r (now (k .exit)) (now (told .exit))) (associatedLent (tablesOf (now (held .exit)) (now («next_in» .exit)) (now (places .exit)) (now («next_out» .exit)) (now («kept_cookie» .exit))) (now (out .exit))) ≡ associatedLeft (now (k .entry)) (associating (shown (unpacked (now (k .entry))) (now (held .entry)) (now («next_in» .entry)) (now (places .entry)) (now («next_out» .entry)) (now («kept_cookie» .entry))) tag (record { 0 = tsn }) port streams (now (out .entry))) (associatedLent (tablesOf (now (held .entry)) (now («next_in» .entry)) (now (places .entry)) (now («next_out» .entry)) (now («kept_cookie» .entry))) (now (out .entry))) ⌝ }
+    ensures { λ r. ⌜ Associates (now (k .entry)) tag tsn port streams (associatedLent (tablesOf (now (held .entry)) (now («next_in» .entry)) (now (places .entry)) (now («next_out» .entry)) (now («kept_cookie» .entry))) (now (out .entry))) (toldOf r (now (k .exit)) (now (told .exit))) (associatedLent (tablesOf (now (held .exit)) (now («next_in» .exit)) (now (places .exit)) (now («next_out» .exit)) (now («kept_cookie» .exit))) (now (out .exit))) ⌝ }
 {
     let o = associate(
         *k,

@@ -3,14 +3,9 @@ use crate::answer;
 use crate::answer::Served;
 use kept::Kept;
 use numbers::StreamId;
-ghost use Prim.Native.Nat.{ℕ};
-ghost use mathlib.Core.Path.{_≡_};
-ghost use mathlib.Core.List.{List};
 ghost use Rattle.calls.specs.Telling.{tellingStream, tellingStale, beating};
-ghost use Rattle.flat.specs.Shown.{shown};
-ghost use Rattle.kept.specs.Kept.{unpacked};
-ghost use Rattle.face.specs.Left.{toldOf, left};
-ghost use Rattle.face.specs.Answer.{answered};
+ghost use Rattle.face.specs.Left.{toldOf};
+ghost use Rattle.face.specs.Promises.{Sends};
 
 // A stream is not agreed.
 pub fn error_stream(
@@ -21,7 +16,7 @@ pub fn error_stream(
     out: &mut [u8],
     told: &mut [usize; 2],
 ) -> Served
-    ensures { λ r. ⌜ ((ns ms cs : List ℕ) → left (toldOf (r .number) (r .kept) (now (told .exit))) (now (out .exit)) ≡ answered k (tellingStream (shown (unpacked k) (now (held .entry)) ns (now (places .entry)) ms cs) (record { 0 = stream }) (now (out .entry))) (now (out .entry))) ⌝ }
+    ensures { λ r. ⌜ Sends (λ a. tellingStream a (record { 0 = stream })) k (now (held .entry)) (now (places .entry)) (now (out .entry)) (toldOf (r .number) (r .kept) (now (told .exit))) (now (out .exit)) ⌝ }
 {
     if kept::is_named(k) {
         let head = kept::unpack(k);
@@ -41,7 +36,7 @@ pub extern "C" fn ow_lent_error_stream(
     out: &mut [u8],
     told: &mut [usize; 2],
 ) -> u32
-    ensures { λ r. ⌜ ((ns ms cs : List ℕ) → left (toldOf r (now (k .exit)) (now (told .exit))) (now (out .exit)) ≡ answered (now (k .entry)) (tellingStream (shown (unpacked (now (k .entry))) (now (held .entry)) ns (now (places .entry)) ms cs) (record { 0 = stream }) (now (out .entry))) (now (out .entry))) ⌝ }
+    ensures { λ r. ⌜ Sends (λ a. tellingStream a (record { 0 = stream })) (now (k .entry)) (now (held .entry)) (now (places .entry)) (now (out .entry)) (toldOf r (now (k .exit)) (now (told .exit))) (now (out .exit)) ⌝ }
 {
     let o = error_stream(*k, held, places, stream, out, told);
     *k = o.kept;
@@ -59,7 +54,7 @@ pub fn error_stale(
     out: &mut [u8],
     told: &mut [usize; 2],
 ) -> Served
-    ensures { λ r. ⌜ ((ns ms cs : List ℕ) → left (toldOf (r .number) (r .kept) (now (told .exit))) (now (out .exit)) ≡ answered k (tellingStale (shown (unpacked k) (now (held .entry)) ns (now (places .entry)) ms cs) port tag late (now (out .entry))) (now (out .entry))) ⌝ }
+    ensures { λ r. ⌜ Sends (λ a. tellingStale a port tag late) k (now (held .entry)) (now (places .entry)) (now (out .entry)) (toldOf (r .number) (r .kept) (now (told .exit))) (now (out .exit)) ⌝ }
 {
     if kept::is_named(k) {
         let head = kept::unpack(k);
@@ -81,7 +76,7 @@ pub extern "C" fn ow_lent_error_stale(
     out: &mut [u8],
     told: &mut [usize; 2],
 ) -> u32
-    ensures { λ r. ⌜ ((ns ms cs : List ℕ) → left (toldOf r (now (k .exit)) (now (told .exit))) (now (out .exit)) ≡ answered (now (k .entry)) (tellingStale (shown (unpacked (now (k .entry))) (now (held .entry)) ns (now (places .entry)) ms cs) port tag late (now (out .entry))) (now (out .entry))) ⌝ }
+    ensures { λ r. ⌜ Sends (λ a. tellingStale a port tag late) (now (k .entry)) (now (held .entry)) (now (places .entry)) (now (out .entry)) (toldOf r (now (k .exit)) (now (told .exit))) (now (out .exit)) ⌝ }
 {
     let o = error_stale(*k, held, places, port, tag, late, out, told);
     *k = o.kept;
@@ -97,7 +92,7 @@ pub fn heartbeat(
     out: &mut [u8],
     told: &mut [usize; 2],
 ) -> Served
-    ensures { λ r. ⌜ ((ns ms cs : List ℕ) → left (toldOf (r .number) (r .kept) (now (told .exit))) (now (out .exit)) ≡ answered k (beating (shown (unpacked k) (now (held .entry)) ns (now (places .entry)) ms cs) (now (value .entry)) (now (out .entry))) (now (out .entry))) ⌝ }
+    ensures { λ r. ⌜ Sends (λ a. beating a (now (value .entry))) k (now (held .entry)) (now (places .entry)) (now (out .entry)) (toldOf (r .number) (r .kept) (now (told .exit))) (now (out .exit)) ⌝ }
 {
     if kept::is_named(k) {
         let head = kept::unpack(k);
@@ -118,7 +113,7 @@ pub extern "C" fn ow_lent_heartbeat(
     out: &mut [u8],
     told: &mut [usize; 2],
 ) -> u32
-    ensures { λ r. ⌜ ((ns ms cs : List ℕ) → left (toldOf r (now (k .exit)) (now (told .exit))) (now (out .exit)) ≡ answered (now (k .entry)) (beating (shown (unpacked (now (k .entry))) (now (held .entry)) ns (now (places .entry)) ms cs) (now (value .entry)) (now (out .entry))) (now (out .entry))) ⌝ }
+    ensures { λ r. ⌜ Sends (λ a. beating a (now (value .entry))) (now (k .entry)) (now (held .entry)) (now (places .entry)) (now (out .entry)) (toldOf r (now (k .exit)) (now (told .exit))) (now (out .exit)) ⌝ }
 {
     let o = heartbeat(*k, held, places, value, out, told);
     *k = o.kept;

@@ -2,18 +2,9 @@
 use crate::answer;
 use crate::answer::Served;
 use kept::Kept;
-ghost use Prim.Native.Nat.{ℕ};
-ghost use mathlib.Core.Path.{_≡_};
-ghost use mathlib.Core.Bool.{false};
-ghost use mathlib.Core.List.{List};
-ghost use Rattle.states.specs.declared.call.Call.the-variants.{FirstTimer, SecondTimer, ThirdTimer};
-ghost use Rattle.calls.specs.Answer.{barred};
-ghost use Rattle.calls.specs.Timers.{expiring, sampling};
-ghost use Rattle.flat.specs.Shown.{shown};
-ghost use Rattle.asks.specs.Timers.{lapsed};
-ghost use Rattle.kept.specs.Kept.{unpacked};
-ghost use Rattle.face.specs.Left.{toldOf, left};
-ghost use Rattle.face.specs.Answer.{answered, answeredAlone, lapsedLeft};
+ghost use Rattle.states.specs.declared.call.Call.the-variants.{FirstTimer, SecondTimer};
+ghost use Rattle.face.specs.Left.{toldOf};
+ghost use Rattle.face.specs.Promises.{Expires, Lapses, Samples};
 
 // T1 expires: INIT or COOKIE ECHO again, or closed.
 pub fn t1(
@@ -24,7 +15,7 @@ pub fn t1(
     out: &mut [u8],
     told: &mut [usize; 2],
 ) -> Served
-    ensures { λ r. ⌜ ((ns ms : List ℕ) → left (toldOf (r .number) (r .kept) (now (told .exit))) (now (out .exit)) ≡ answered k (expiring (shown (unpacked k) (now (held .entry)) ns (now (places .entry)) ms (now («kept_cookie» .entry))) FirstTimer (now (out .entry))) (now (out .entry))) ⌝ }
+    ensures { λ r. ⌜ Expires FirstTimer k (now (held .entry)) (now (places .entry)) (now («kept_cookie» .entry)) (now (out .entry)) (toldOf (r .number) (r .kept) (now (told .exit))) (now (out .exit)) ⌝ }
 {
     if kept::is_named(k) {
         let head = kept::unpack(k);
@@ -44,7 +35,7 @@ pub extern "C" fn ow_lent_t1(
     out: &mut [u8],
     told: &mut [usize; 2],
 ) -> u32
-    ensures { λ r. ⌜ ((ns ms : List ℕ) → left (toldOf r (now (k .exit)) (now (told .exit))) (now (out .exit)) ≡ answered (now (k .entry)) (expiring (shown (unpacked (now (k .entry))) (now (held .entry)) ns (now (places .entry)) ms (now («kept_cookie» .entry))) FirstTimer (now (out .entry))) (now (out .entry))) ⌝ }
+    ensures { λ r. ⌜ Expires FirstTimer (now (k .entry)) (now (held .entry)) (now (places .entry)) (now («kept_cookie» .entry)) (now (out .entry)) (toldOf r (now (k .exit)) (now (told .exit))) (now (out .exit)) ⌝ }
 {
     let o = t1(*k, held, places, kept_cookie, out, told);
     *k = o.kept;
@@ -60,7 +51,7 @@ pub fn t2(
     out: &mut [u8],
     told: &mut [usize; 2],
 ) -> Served
-    ensures { λ r. ⌜ ((ns ms : List ℕ) → left (toldOf (r .number) (r .kept) (now (told .exit))) (now (out .exit)) ≡ answered k (expiring (shown (unpacked k) (now (held .entry)) ns (now (places .entry)) ms (now («kept_cookie» .entry))) SecondTimer (now (out .entry))) (now (out .entry))) ⌝ }
+    ensures { λ r. ⌜ Expires SecondTimer k (now (held .entry)) (now (places .entry)) (now («kept_cookie» .entry)) (now (out .entry)) (toldOf (r .number) (r .kept) (now (told .exit))) (now (out .exit)) ⌝ }
 {
     if kept::is_named(k) {
         let head = kept::unpack(k);
@@ -80,7 +71,7 @@ pub extern "C" fn ow_lent_t2(
     out: &mut [u8],
     told: &mut [usize; 2],
 ) -> u32
-    ensures { λ r. ⌜ ((ns ms : List ℕ) → left (toldOf r (now (k .exit)) (now (told .exit))) (now (out .exit)) ≡ answered (now (k .entry)) (expiring (shown (unpacked (now (k .entry))) (now (held .entry)) ns (now (places .entry)) ms (now («kept_cookie» .entry))) SecondTimer (now (out .entry))) (now (out .entry))) ⌝ }
+    ensures { λ r. ⌜ Expires SecondTimer (now (k .entry)) (now (held .entry)) (now (places .entry)) (now («kept_cookie» .entry)) (now (out .entry)) (toldOf r (now (k .exit)) (now (told .exit))) (now (out .exit)) ⌝ }
 {
     let o = t2(*k, held, places, kept_cookie, out, told);
     *k = o.kept;
@@ -89,7 +80,7 @@ pub extern "C" fn ow_lent_t2(
 
 // T3 expires: what is outstanding is marked, or closed.
 pub fn t3(k: Kept, held: &[u32; 512], places: &mut [u32; 1024], told: &mut [usize; 2]) -> Served
-    ensures { λ r. ⌜ ((ns ms cs : List ℕ) → left (toldOf (r .number) (r .kept) (now (told .exit))) (now (places .exit)) ≡ lapsedLeft k (lapsed (barred (shown (unpacked k) (now (held .entry)) ns (now (places .entry)) ms cs) false ThirdTimer) (unpacked k) (now (places .entry))) (now (places .entry))) ⌝ }
+    ensures { λ r. ⌜ Lapses k (now (held .entry)) (now (places .entry)) (toldOf (r .number) (r .kept) (now (told .exit))) (now (places .exit)) ⌝ }
 {
     if kept::is_named(k) {
         let head = kept::unpack(k);
@@ -107,7 +98,7 @@ pub extern "C" fn ow_lent_t3(
     places: &mut [u32; 1024],
     told: &mut [usize; 2],
 ) -> u32
-    ensures { λ r. ⌜ ((ns ms cs : List ℕ) → left (toldOf r (now (k .exit)) (now (told .exit))) (now (places .exit)) ≡ lapsedLeft (now (k .entry)) (lapsed (barred (shown (unpacked (now (k .entry))) (now (held .entry)) ns (now (places .entry)) ms cs) false ThirdTimer) (unpacked (now (k .entry))) (now (places .entry))) (now (places .entry))) ⌝ }
+    ensures { λ r. ⌜ Lapses (now (k .entry)) (now (held .entry)) (now (places .entry)) (toldOf r (now (k .exit)) (now (told .exit))) (now (places .exit)) ⌝ }
 {
     let o = t3(*k, held, places, told);
     *k = o.kept;
@@ -122,7 +113,7 @@ pub fn rtt(
     sample: u32,
     told: &mut [usize; 2],
 ) -> Served
-    ensures { λ r. ⌜ ((ns ms cs : List ℕ) → toldOf (r .number) (r .kept) (now (told .exit)) ≡ answeredAlone k (sampling (shown (unpacked k) (now (held .entry)) ns (now (places .entry)) ms cs) sample)) ⌝ }
+    ensures { λ r. ⌜ Samples k (now (held .entry)) (now (places .entry)) sample (toldOf (r .number) (r .kept) (now (told .exit))) ⌝ }
 {
     if kept::is_named(k) {
         let head = kept::unpack(k);
@@ -141,7 +132,7 @@ pub extern "C" fn ow_lent_rtt(
     sample: u32,
     told: &mut [usize; 2],
 ) -> u32
-    ensures { λ r. ⌜ ((ns ms cs : List ℕ) → toldOf r (now (k .exit)) (now (told .exit)) ≡ answeredAlone (now (k .entry)) (sampling (shown (unpacked (now (k .entry))) (now (held .entry)) ns (now (places .entry)) ms cs) sample)) ⌝ }
+    ensures { λ r. ⌜ Samples (now (k .entry)) (now (held .entry)) (now (places .entry)) sample (toldOf r (now (k .exit)) (now (told .exit))) ⌝ }
 {
     let o = rtt(*k, held, places, sample, told);
     *k = o.kept;

@@ -2,15 +2,10 @@
 use crate::answer::Served;
 use kept::Kept;
 use kept::flags;
-ghost use Prim.Native.Nat.{ℕ};
 ghost use mathlib.Core.Path.{_≡_};
-ghost use mathlib.Core.List.{List};
-ghost use Rattle.calls.specs.Transmit.{transmitBar};
-ghost use Rattle.flat.specs.Shown.{shown};
-ghost use Rattle.asks.specs.Transmit.{dispatched};
-ghost use Rattle.kept.specs.Kept.{unpacked};
-ghost use Rattle.face.specs.Left.{toldOf, left};
-ghost use Rattle.face.specs.Transmit.{dispatchedTold, dispatchedLent, dispatchedLeft};
+ghost use Rattle.face.specs.Left.{toldOf};
+ghost use Rattle.face.specs.Transmit.{dispatchedTold, dispatchedLent};
+ghost use Rattle.face.specs.Promises.{Transmits};
 
 // Told: length, whether a chunk goes again, first and last TSN.
 fn sent(r: asks::Transmitted, told: &mut [usize; 4]) -> Served
@@ -40,7 +35,7 @@ pub fn transmit(
     out: &mut [u8],
     told: &mut [usize; 4],
 ) -> Served
-    ensures { λ r. ⌜ ((ns cs : List ℕ) → left (toldOf (r .number) (r .kept) (now (told .exit))) (dispatchedLent (now (places .exit)) (now («next_out» .exit)) (now (out .exit))) ≡ dispatchedLeft k (dispatched (transmitBar (shown (unpacked k) (now (held .entry)) ns (now (places .entry)) (now («next_out» .entry)) cs) (now (area .entry)) (now (out .entry))) (unpacked k) (now (places .entry)) (now («next_out» .entry)) (now (area .entry)) (now (out .entry))) (dispatchedLent (now (places .entry)) (now («next_out» .entry)) (now (out .entry)))) ⌝ }
+    ensures { λ r. ⌜ Transmits k (now (held .entry)) (now (area .entry)) (dispatchedLent (now (places .entry)) (now («next_out» .entry)) (now (out .entry))) (toldOf (r .number) (r .kept) (now (told .exit))) (dispatchedLent (now (places .exit)) (now («next_out» .exit)) (now (out .exit))) ⌝ }
 {
     if kept::is_named(k) {
         let head = kept::unpack(k);
@@ -61,7 +56,7 @@ pub extern "C" fn ow_lent_transmit(
     out: &mut [u8],
     told: &mut [usize; 4],
 ) -> u32
-    ensures { λ r. ⌜ ((ns cs : List ℕ) → left (toldOf r (now (k .exit)) (now (told .exit))) (dispatchedLent (now (places .exit)) (now («next_out» .exit)) (now (out .exit))) ≡ dispatchedLeft (now (k .entry)) (dispatched (transmitBar (shown (unpacked (now (k .entry))) (now (held .entry)) ns (now (places .entry)) (now («next_out» .entry)) cs) (now (area .entry)) (now (out .entry))) (unpacked (now (k .entry))) (now (places .entry)) (now («next_out» .entry)) (now (area .entry)) (now (out .entry))) (dispatchedLent (now (places .entry)) (now («next_out» .entry)) (now (out .entry)))) ⌝ }
+    ensures { λ r. ⌜ Transmits (now (k .entry)) (now (held .entry)) (now (area .entry)) (dispatchedLent (now (places .entry)) (now («next_out» .entry)) (now (out .entry))) (toldOf r (now (k .exit)) (now (told .exit))) (dispatchedLent (now (places .exit)) (now («next_out» .exit)) (now (out .exit))) ⌝ }
 {
     let o = transmit(*k, held, places, next_out, area, out, told);
     *k = o.kept;
