@@ -21,3 +21,4 @@ pub mod SizeLaws
 pub mod Outcomes
 pub mod OutcomesLaws
 pub mod StreamLaws
+pub mod MarkLaws

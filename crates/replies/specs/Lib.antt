@@ -4,3 +4,4 @@ pub mod Reply
 pub mod ReplyLaws
 pub mod Passes
 pub mod SentLaws
+pub mod MarkedLaws
