@@ -150,7 +150,15 @@ arriving first loose n = arrive (chunkOf first loose n) (payloadOf first n)
 
 -- two places, circles of 16
 abbrev small : Profile
-small = record { places = 2; streams = 1; payload = 2; listed = 1 }
+small = record {
+  places = 2;
+  streams = 1;
+  payload = 2;
+  listed = 1;
+  «shortest-packet» = rail .«shortest-packet»;
+  «longest-packet» = rail .«longest-packet»;
+  «longest-cookie» = rail .«longest-cookie»;
+}
 
 -- ours meets the demand there
 pub small-right : Demand small 8 8 (over (rings 16 16) small)
@@ -193,7 +201,15 @@ repeat-delivered d = let w = d .messages repeat (omega arith) in not-twice (w .i
 
 -- one place, circles of 8: the ordered message that stands behind eight others has SSN 0 again
 abbrev tiny : Profile
-tiny = record { places = 1; streams = 1; payload = 2; listed = 1 }
+tiny = record {
+  places = 1;
+  streams = 1;
+  payload = 2;
+  listed = 1;
+  «shortest-packet» = rail .«shortest-packet»;
+  «longest-packet» = rail .«longest-packet»;
+  «longest-cookie» = rail .«longest-cookie»;
+}
 
 pub tiny-right : Demand tiny 4 4 (over (rings 8 8) tiny)
 tiny-right = demanded tiny 4 4 (omega arith) (omega arith)
