@@ -12,7 +12,7 @@ use Rattle.numbers.specs.declared.circle.StreamId.{StreamId}
 use Rattle.numbers.specs.declared.circle.Tsn.{Tsn}
 use Rattle.numbers.specs.Numbering.{circles}
 use Rattle.numbers.specs.Profile.{rail}
-use Rattle.path.specs.Sizes.{railSizes}
+use Rattle.path.specs.Sizes.{sizesOf}
 use Rattle.holding.specs.declared.taking.Answer as took
 use Rattle.holding.specs.declared.taking.Answer.the-variants.{Taken, Nothing, Short}
 use Rattle.holding.specs.Taking as taken
@@ -80,7 +80,7 @@ module _ (a : Association) where
   unfolding expiringThird
   third-leaves =
       unless-leaves (barred a false ThirdTimer) _
-      (pick-keeps (Leaves a) (eqb (expired railSizes (a .sending) .number) 0) _ _ (pick-keeps (Leaves a) (expired railSizes (a .sending) .over) _ _ (goes-on _ refl) (goes-on _ refl)) (λ h. refl))
+      (pick-keeps (Leaves a) (eqb (expired (sizesOf (a .sending .mode)) (a .sending) .number) 0) _ _ (pick-keeps (Leaves a) (expired (sizesOf (a .sending .mode)) (a .sending) .over) _ _ (goes-on _ refl) (goes-on _ refl)) (λ h. refl))
 
   pub sample-leaves : (sample : ℕ) → Leaves a (sampling a sample)
   unfolding sampling

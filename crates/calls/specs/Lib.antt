@@ -17,6 +17,7 @@ pub mod CallLaws
 pub mod SoundLaws
 pub mod LeftLaws
 pub mod PortLaws
+pub mod BookLaws
 pub mod SizeLaws
 pub mod Outcomes
 pub mod OutcomesLaws

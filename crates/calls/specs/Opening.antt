@@ -30,7 +30,8 @@ initOf a = record {
 abbrev pub initBytes : Association → List ℕ
 initBytes a = framed 1 0 (initFields (initOf a) ++ inRow ownInit)
 
--- "our own INIT, starts from a fresh record": the peer's tag and initial TSN are not known yet; "128 streams each way at most"
+-- "our own INIT, starts from a fresh record", in the mode that the record was made in: the peer's tag and initial TSN are not known yet; "128
+-- streams each way at most"
 unfoldable pub wanting : Association → ℕ → Tsn → ℕ → ℕ → Association
 wanting a tag tsn port streams =
     started (CookieWait 0)
@@ -46,6 +47,7 @@ wanting a tag tsn port streams =
     tsn
     0
     (record { 0 = 1 })
+    (a .sending .mode)
 
 -- 4 "port", our own too; 8 "INIT …: tag 0, no streams"
 unfoldable pub associateRefusal : ℕ → ℕ → ℕ → ℕ → ℕ

@@ -12,8 +12,8 @@ use Rattle.numbers.specs.declared.circle.StreamId.{StreamId}
 use Rattle.numbers.specs.declared.circle.Tsn.{Tsn}
 use Rattle.numbers.specs.Numbering.{ring, circles}
 use Rattle.numbers.specs.Profile.{rail}
-use Rattle.path.specs.Sizes.{railSizes}
-use Rattle.path.specs.Laws.{rail-fair}
+use Rattle.path.specs.Sizes.{railSizes, sizesOf}
+use Rattle.path.specs.Laws.{rail-fair, book-fair}
 use Rattle.holding.specs.declared.taking.Answer as took
 use Rattle.holding.specs.declared.taking.Answer.the-variants.{Taken, Nothing, Short}
 use Rattle.delivery.specs.Laws.{taken-shaped, taken-sound, told-shaped, told-sound}
@@ -32,7 +32,7 @@ use Rattle.association.specs.declared.ends.Association.{Association}
 use Rattle.association.specs.Fresh.{withState}
 use Rattle.association.specs.Bounds.{lacksPort, isHead, earlier}
 use Rattle.association.specs.BoundsLaws.{sound-parts, fewer-streams, ended-ends, closed-head, earlier-none}
-use Rattle.association.specs.KeptLaws.{Kept, kept-receiver, kept-sender, kept-with-receiving, kept-with-sending, kept-with-state, kept-closed, kept-moved, kept-started}
+use Rattle.association.specs.KeptLaws.{Kept, kept-receiver, kept-sender, kept-with-receiving, kept-with-sending, kept-with-state, kept-closed, kept-moved, kept-started, kept-mode}
 use Rattle.calls.specs.declared.acknowledging.Acknowledged.{Acknowledged}
 use Rattle.calls.specs.declared.closing.Reason.{Reason}
 use Rattle.calls.specs.declared.messages.HandedIn.{HandedIn}
@@ -68,11 +68,12 @@ wanted local tag port streams e = go (lacksPort local port) (eqb tag 0) (eqb str
     go false false false q h = (refl, refl, omega (arith, eqb-false streams 0 q))
 
 -- "our own INIT, starts from a fresh record"
-wanting-kept : (a : Association) (tag : ℕ) (tsn : Tsn) (port streams : ℕ) → tsn .0 < 2 ^ 32 → lacksPort (a .ends .«local_port») port ≡ false → eqb tag 0 ≡ false → 1 ≤ streams → Kept (wanting a tag tsn port streams)
+wanting-kept : (a : Association) (tag : ℕ) (tsn : Tsn) (port streams : ℕ) → tsn .0 < 2 ^ 32 → lacksPort (a .ends .«local_port») port ≡ false → eqb tag 0 ≡ false → 1 ≤ streams
+    → a .sending .mode ≤ 1 → Kept (wanting a tag tsn port streams)
 unfolding wanting
-wanting-kept a tag tsn port streams h p t n =
-    kept-started (CookieWait 0) _ tsn 0 (record { 0 = 1 }) refl
-    (ended-ends _ false (record { ported = p; mine = t; theirs = refl; ins = refl; outs = fewer-streams streams 128 n (omega arith) (smaller-right streams 128); options = refl })) h (omega arith)
+wanting-kept a tag tsn port streams h p t n b =
+    kept-started (CookieWait 0) _ tsn 0 (record { 0 = 1 }) (a .sending .mode) refl
+    (ended-ends _ false (record { ported = p; mine = t; theirs = refl; ins = refl; outs = fewer-streams streams 128 n (omega arith) (smaller-right streams 128); options = refl })) h (omega arith) b
 
 module _ (a : Association) (k : Kept a) where
   unless-keeps : (n : ℕ) (p : Plan) → (n ≡ 0 → Keeps p) → Keeps (unless n a p)
@@ -85,7 +86,7 @@ module _ (a : Association) (k : Kept a) where
   pub associate-keeps : (tag : ℕ) (tsn : Tsn) (port streams : ℕ) (out : List ℕ) → tsn .0 < 2 ^ 32 → Keeps (associating a tag tsn port streams out)
   unfolding associating
   associate-keeps tag tsn port streams out h =
-      unless-keeps (earlier (barred a (isShortOut out) Associate) (associateRefusal (a .ends .«local_port») tag port streams)) _ (λ e. let w = wanted (a .ends .«local_port») tag port streams (earlier-none (barred a (isShortOut out) Associate) (associateRefusal (a .ends .«local_port») tag port streams) e .1) in wanting-kept a tag tsn port streams h (w .0) (w .1) (w .2))
+      unless-keeps (earlier (barred a (isShortOut out) Associate) (associateRefusal (a .ends .«local_port») tag port streams)) _ (λ e. let w = wanted (a .ends .«local_port») tag port streams (earlier-none (barred a (isShortOut out) Associate) (associateRefusal (a .ends .«local_port») tag port streams) e .1) in wanting-kept a tag tsn port streams h (w .0) (w .1) (w .2) (kept-mode a k))
 
   -- T1 and T2
   tried-keeps-bounds : (s : State) → withinTries s ≡ true → isHead s (a .ends) (a .cookie) ≡ true → Keeps (triedTo a s)
@@ -107,7 +108,7 @@ module _ (a : Association) (k : Kept a) where
   unfolding expiringThird
   third-keeps =
       unless-keeps (barred a false ThirdTimer) _
-      (λ e. pick-keeps Keeps (eqb (expired railSizes (a .sending) .number) 0) _ _ (pick-keeps Keeps (expired railSizes (a .sending) .over) _ _ (kept-closed a k) (kept-with-sending a k _ (sending.expired-kept railSizes rail rail-fair (a .sending) (kept-sender a k)))) k)
+      (λ e. pick-keeps Keeps (eqb (expired (sizesOf (a .sending .mode)) (a .sending) .number) 0) _ _ (pick-keeps Keeps (expired (sizesOf (a .sending .mode)) (a .sending) .over) _ _ (kept-closed a k) (kept-with-sending a k _ (sending.kept-rail (a .sending .mode) rail _ (sending.expired-kept (sizesOf (a .sending .mode)) rail (book-fair (a .sending .mode)) (a .sending) (sending.kept-book (a .sending .mode) rail (a .sending) (kept-sender a k)))))) k)
 
   pub sample-keeps : (sample : ℕ) → Keeps (sampling a sample)
   unfolding sampling

@@ -5,7 +5,7 @@ use mathlib.Core.List.{List}
 use lib.Dec.{eqb}
 use lib.ListN.{take, drop}
 use Rattle.scans.specs.Scan.{pick}
-use Rattle.path.specs.Sizes.{railSizes}
+use Rattle.path.specs.Sizes.{railSizes, sizesOf}
 use Rattle.chunks.specs.ShutdownChunk.{shutdownBytes, shutdownAckBytes}
 use Rattle.chunks.specs.CookieChunk.{cookieEchoBytes}
 use Rattle.sending.specs.declared.expiring.Expiry.{Expiry}
@@ -38,7 +38,7 @@ repeating Established a = quietly a
 repeating ShutdownPending a = quietly a
 repeating ShutdownReceived a = quietly a
 
--- one try more, and RTO doubled as T3 does (sections 5.1.6 and 9.2 follow 6.3)
+-- one try more, and RTO doubled as T3 does (sections 5.1.6 and 9.2 follow 6.3), in both books alike
 unfoldable pub backedOff : Association → State → Association
 backedOff a s = withSending (withState a s) (doubled railSizes (a .sending))
 
@@ -56,8 +56,8 @@ overdue a e = pick (eqb (e .number) 0) (pick (e .over) (ending a) (quietly (with
 
 -- T3: "all outstanding marked", and nothing is sent by this call
 unfoldable pub expiringThird : Association → Plan
-expiringThird a = unless (barred a false ThirdTimer) a (overdue a (expired railSizes (a .sending)))
+expiringThird a = unless (barred a false ThirdTimer) a (overdue a (expired (sizesOf (a .sending .mode)) (a .sending)))
 
--- a round trip of so many milliseconds
+-- a round trip of so many milliseconds, in both books alike
 unfoldable pub sampling : Association → ℕ → Plan
 sampling a sample = unless (barred a false Sample) a (quietly (withSending a (sampled railSizes (a .sending) sample)))

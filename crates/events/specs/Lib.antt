@@ -8,3 +8,4 @@ pub mod WideLaws
 pub mod Refusal
 pub mod RefusalLaws
 pub mod HappenedLaws
+pub mod BookLaws

@@ -29,14 +29,14 @@ use Rattle.sending.specs.declared.cutting.Message.{Message}
 use Rattle.sending.specs.Sending.{noPlace, fresh, roomOf, isBare, hasOutstanding, withFlight, withPath, sampled, doubled, heard}
 use Rattle.sending.specs.Acknowledge.{judgedBlocks, judgedBy, judgedPoint, isMoved, limitOf, answeredBy, pathAfter, accepted, acknowledged, shutOf, shutdownPoint}
 use Rattle.sending.specs.Expiry.{overdue, expired}
-use Rattle.sending.specs.Bounds.{isOdd, isGap, hasGap, isSuccessive, isWithin}
+use Rattle.sending.specs.Bounds.{isOdd, isGap, hasGap, isSuccessive, isBounded, isWithin}
 use Rattle.sending.specs.Carry.{carried}
 use Rattle.sending.specs.HandIn.{chunksOf, isRefused, refusal, partLen, chunkAt, waitingAt, takes, after, laidOut, stored, storedIn, waited, handedIn, areaAfter}
 use Rattle.sending.specs.Choose.{rankOf, better, bestOf, sizeOf, goes, nextSsn, counted, numbered, put, again, first, sent, tsnOf, going, filling, begun, filled}
 
 -- ---- a record that begins, whether anything is left, and what bears on the path alone
 
-pub fresh-is : (z : Sizes) (P : Profile) (t : Tsn) (window : ℕ) → fresh z P t window ≡ record {
+pub fresh-is : (z : Sizes) (P : Profile) (t : Tsn) (window m : ℕ) → fresh z P t window m ≡ record {
   acked = record { 0 = on (ring (2 ^ 32)) (t .0) (2 ^ 32 - 1) };
   «next_tsn» = t;
   advertised = window;
@@ -44,9 +44,10 @@ pub fresh-is : (z : Sizes) (P : Profile) (t : Tsn) (window : ℕ) → fresh z P 
   places = replicate (P .places) noPlace;
   next = replicate (P .streams) ssn0;
   path = way.fresh z;
+  mode = m;
 }
 unfolding fresh
-fresh-is z P t window = refl
+fresh-is z P t window m = refl
 
 pub bare-is : (s : Sending) → isBare s ≡ isEmpty (s .places)
 unfolding isBare
@@ -88,6 +89,7 @@ pub accepted-is : (z : Sizes) (s : Sending) (k : Sack) → accepted z s k
       places = missed .places;
       next = s .next;
       path = withFlight (pathAfter z (answeredBy (s .path) k) (taken .newly) (isMoved (s .acked) (k .point)) (missed .struck) (record { 0 = on (ring (2 ^ 32)) (s .acked .0) (tally .last) }) (tally .left) (k .point)) (tally .flight);
+      mode = s .mode;
     })
 unfolding accepted
 accepted-is z s k = refl
@@ -116,6 +118,7 @@ pub overdue-is : (z : Sizes) (s : Sending) → overdue z s ≡ record {
   places = map marked (s .places);
   next = s .next;
   path = withFlight (way.expired z (s .path)) (tallied (s .acked) (map marked (s .places)) .flight);
+  mode = s .mode;
 }
 unfolding overdue
 overdue-is z s = refl
@@ -133,7 +136,7 @@ pub gap-is : (seen : List Bool) (n : ℕ) → hasGap seen n ≡ anyUpto (isGap s
 unfolding hasGap
 gap-is seen n = refl
 
-pub within-is : (z : Sizes) (P : Profile) (s : Sending) → isWithin z P s
+pub bounded-is : (z : Sizes) (P : Profile) (s : Sending) → isBounded z P s
     ≡ pick (way.isWithin z (s .path))
     (pick (eqb (tallied (s .acked) (s .places) .flight) (s .path .flight))
     (pick (any (isOdd P) (s .places)) false
@@ -141,6 +144,10 @@ pub within-is : (z : Sizes) (P : Profile) (s : Sending) → isWithin z P s
     (pick (isSuccessive P s true (roomOf s)) (isSuccessive P s false (count (hasStatus 1) (s .places))) false)))
     false)
     false
+unfolding isBounded
+bounded-is z P s = refl
+
+pub within-is : (z : Sizes) (P : Profile) (s : Sending) → isWithin z P s ≡ pick (ltb 1 (s .mode)) false (isBounded z P s)
 unfolding isWithin
 within-is z P s = refl
 
@@ -189,6 +196,7 @@ module _ (P : Profile) (s : Sending) (len : ℕ) (stream : StreamId) (unordered 
         places = laidOut P m (chunksOf P len) (s .places);
         next = s .next;
         path = s .path;
+        mode = s .mode;
       })
   unfolding waited
   waited-is = refl
@@ -265,6 +273,7 @@ module _ (P : Profile) (s : Sending) (i : ℕ) (p : Place) where
     places = set (s .places) i (being p 2);
     next = s .next;
     path = withFlight (s .path) (s .path .flight + weightOf p);
+    mode = s .mode;
   }
   unfolding sent again put
   sent-again e = rw e
@@ -277,6 +286,7 @@ module _ (P : Profile) (s : Sending) (i : ℕ) (p : Place) where
     places = set (s .places) i (record { status = 2; misses = p .misses; chunk = numbered P s (p .chunk) });
     next = counted P (s .next) (p .chunk);
     path = withFlight (s .path) (s .path .flight + weightOf p);
+    mode = s .mode;
   }
   unfolding sent first put numbered
   sent-first e = rw e
