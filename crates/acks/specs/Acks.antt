@@ -45,6 +45,7 @@ headAfter z h k newly m = record {
   advertised = k .window;
   oldest = h .oldest;
   path = withFlight (pathAfter z (answeredBy (h .path) k) newly (isMoved (h .acked) (k .point)) (m .struck) (record { 0 = on (ring (2 ^ 32)) (h .acked .0) (m .last) }) (m .left) (k .point)) (m .flight);
+  mode = h .mode;
 }
 
 unfoldable pub acceptedHead : Sizes → Profile → Sender → List ℕ → Sack → Sender
@@ -65,7 +66,7 @@ module _ (z : Sizes) (P : Profile) (h : Sender) (ws : List ℕ) (k : Sack) {xs :
       → moved ≡ isMoved (h .acked) (k .point)
       → p ≡ answeredBy (h .path) k
       → q ≡ pathAfter z p newly moved (m .struck) last (m .left) (k .point)
-      → _≡_ {A = Sender} (record { acked = k .point; «next_tsn» = h .«next_tsn»; advertised = k .window; oldest = h .oldest; path = withFlight q (m .flight) }) (acceptedHead z P h ws k)
+      → _≡_ {A = Sender} (record { acked = k .point; «next_tsn» = h .«next_tsn»; advertised = k .window; oldest = h .oldest; path = withFlight q (m .flight); mode = h .mode }) (acceptedHead z P h ws k)
   unfolding acceptedHead
   accepted-head e f g i o j = rw (← a, ← c, ← b, ← e, ← f, ← g, ← i, ← o, ← j)
 
@@ -95,6 +96,7 @@ overdueHead z P h ws = record {
   advertised = h .advertised;
   oldest = h .oldest;
   path = withFlight (way.expired z (h .path)) (total flightOf (map marked (placesOf P ws)));
+  mode = h .mode;
 }
 
 unfoldable pub expiredHead : Sizes → Profile → Sender → List ℕ → Expired

@@ -6,7 +6,7 @@ use sender::Sender;
 use sending::acknowledging;
 ghost use mathlib.Core.Path.{_≡_};
 ghost use mathlib.Core.List.{[]};
-ghost use Rattle.path.specs.Sizes.{railSizes};
+ghost use Rattle.path.specs.Sizes.{sizesOf};
 ghost use Rattle.numbers.specs.Profile.{rail};
 ghost use Rattle.sending.specs.Acknowledge.{judgedPoint, limitOf, sackOf, shutOf};
 ghost use Rattle.sending.specs.Sending.{hasOutstanding};
@@ -58,7 +58,7 @@ fn limit(s: Sender, k: Sack, highest: u32) -> u64
 }
 
 fn accepted(mut s: Sender, t: &mut [u32; 1024], k: Sack) -> Sender
-    ensures { λ r. ⌜ r ≡ acceptedHead railSizes rail s (now (t .entry)) k ⌝ }
+    ensures { λ r. ⌜ r ≡ acceptedHead (sizesOf (s .mode)) rail s (now (t .entry)) k ⌝ }
     ensures { λ _. ⌜ now (t .exit) ≡ acceptedWords rail s (now (t .entry)) k ⌝ }
 {
     let from = s.acked;
@@ -70,7 +70,16 @@ fn accepted(mut s: Sender, t: &mut [u32; 1024], k: Sack) -> Sender
     let limit = limit(s, k, took.highest);
     let w = marks::missed_all(t, from, limit);
     let last = from.after(w.last);
-    let mut q = acknowledging::path_after(p, took.newly, moved, w.struck, last, w.left, point);
+    let mut q = acknowledging::path_after(
+        p,
+        s.mode,
+        took.newly,
+        moved,
+        w.struck,
+        last,
+        w.left,
+        point,
+    );
     q.flight = w.flight;
     s.acked = point;
     s.advertised = k.window;
@@ -79,7 +88,7 @@ fn accepted(mut s: Sender, t: &mut [u32; 1024], k: Sack) -> Sender
 }
 
 fn answered(s: Sender, t: &mut [u32; 1024], k: Sack) -> Acked
-    ensures { λ r. ⌜ r ≡ ackedHead railSizes rail s (now (t .entry)) k ⌝ }
+    ensures { λ r. ⌜ r ≡ ackedHead (sizesOf (s .mode)) rail s (now (t .entry)) k ⌝ }
     ensures { λ _. ⌜ now (t .exit) ≡ ackedWords rail s (now (t .entry)) k ⌝ }
 {
     let n = judge(s, k);
@@ -92,7 +101,7 @@ fn answered(s: Sender, t: &mut [u32; 1024], k: Sack) -> Acked
 
 // A SACK.
 pub fn acknowledge(s: Sender, t: &mut [u32; 1024], point: Tsn, window: u32, blocks: Blocks) -> Acked
-    ensures { λ r. ⌜ r ≡ ackedHead railSizes rail s (now (t .entry)) (sackOf point window blocks) ⌝ }
+    ensures { λ r. ⌜ r ≡ ackedHead (sizesOf (s .mode)) rail s (now (t .entry)) (sackOf point window blocks) ⌝ }
     ensures { λ _. ⌜ now (t .exit) ≡ ackedWords rail s (now (t .entry)) (sackOf point window blocks) ⌝ }
 {
     let k = Sack {
@@ -106,7 +115,7 @@ pub fn acknowledge(s: Sender, t: &mut [u32; 1024], point: Tsn, window: u32, bloc
 
 // A SHUTDOWN's point: window and block marks are kept, and a stale one changes nothing.
 pub fn shutdown_point(s: Sender, t: &mut [u32; 1024], point: Tsn) -> Acked
-    ensures { λ r. ⌜ r ≡ shutHead railSizes rail s (now (t .entry)) point ⌝ }
+    ensures { λ r. ⌜ r ≡ shutHead (sizesOf (s .mode)) rail s (now (t .entry)) point ⌝ }
     ensures { λ _. ⌜ now (t .exit) ≡ shutWords rail s (now (t .entry)) point ⌝ }
 {
     let none = Blocks::none();
@@ -123,12 +132,12 @@ pub fn shutdown_point(s: Sender, t: &mut [u32; 1024], point: Tsn) -> Acked
 }
 
 fn overdue(mut s: Sender, t: &mut [u32; 1024]) -> Sender
-    ensures { λ r. ⌜ r ≡ overdueHead railSizes rail s (now (t .entry)) ⌝ }
+    ensures { λ r. ⌜ r ≡ overdueHead (sizesOf (s .mode)) rail s (now (t .entry)) ⌝ }
     ensures { λ _. ⌜ now (t .exit) ≡ overdueWords rail (now (t .entry)) ⌝ }
 {
     let flight = marks::marked_all(t);
     let p = s.path;
-    let mut q = p.expired();
+    let mut q = p.expired(s.mode);
     q.flight = flight;
     s.path = q;
     s
@@ -143,8 +152,8 @@ fn has_outstanding(s: Sender, t: &[u32; 1024]) -> bool
 
 // T3 expires.
 pub fn t3(s: Sender, t: &mut [u32; 1024]) -> Expired
-    ensures { λ r. ⌜ r ≡ expiredHead railSizes rail s (now (t .entry)) ⌝ }
-    ensures { λ _. ⌜ now (t .exit) ≡ expiredWords railSizes rail s (now (t .entry)) ⌝ }
+    ensures { λ r. ⌜ r ≡ expiredHead (sizesOf (s .mode)) rail s (now (t .entry)) ⌝ }
+    ensures { λ _. ⌜ now (t .exit) ≡ expiredWords (sizesOf (s .mode)) rail s (now (t .entry)) ⌝ }
 {
     if has_outstanding(s, t) {
         let p = s.path;

@@ -77,8 +77,8 @@ sent-new P h ns p e f = rw (e, numbered-is P (seen P h [] ns) (p .chunk), f)
 unfoldable pub sentHead : Sender → Place → Sender
 sentHead h p =
     pick (eqb (p .status) 3)
-    (record { acked = h .acked; «next_tsn» = h .«next_tsn»; advertised = h .advertised; oldest = h .oldest; path = withFlight (h .path) (h .path .flight + weightOf p) })
-    (record { acked = h .acked; «next_tsn» = record { 0 = on (ring (2 ^ 32)) (h .«next_tsn» .0) 1 }; advertised = h .advertised; oldest = (h .oldest + 1) % 2 ^ 32; path = withFlight (h .path) (h .path .flight + weightOf p) })
+    (record { acked = h .acked; «next_tsn» = h .«next_tsn»; advertised = h .advertised; oldest = h .oldest; path = withFlight (h .path) (h .path .flight + weightOf p); mode = h .mode })
+    (record { acked = h .acked; «next_tsn» = record { 0 = on (ring (2 ^ 32)) (h .«next_tsn» .0) 1 }; advertised = h .advertised; oldest = (h .oldest + 1) % 2 ^ 32; path = withFlight (h .path) (h .path .flight + weightOf p); mode = h .mode })
 
 -- the packet with place i more, which holds p
 unfoldable pub loadAfter : Sender → Load → ℕ → Place → Load
@@ -121,7 +121,7 @@ unfoldable pub begunIn : Sizes → Profile → Sender → List ℕ → List ℕ 
 begunIn z P h ws ns =
     let tally : Tally = tallied (h .acked) (placesOf P ws) in
     record {
-      head = record { acked = h .acked; «next_tsn» = h .«next_tsn»; advertised = h .advertised; oldest = h .oldest; path = withFlight (h .path) (tally .flight) };
+      head = record { acked = h .acked; «next_tsn» = h .«next_tsn»; advertised = h .advertised; oldest = h .oldest; path = withFlight (h .path) (tally .flight); mode = h .mode };
       words = ws;
       ns = ns;
       load = record { payload = tally .payload; room = z .room; count = 0; places = replicate (z .bundled) 0; resent = false; first = tsn0; last = tsn0 };
@@ -150,7 +150,7 @@ fillOf h ws ns l = record { head = h; words = ws; ns = ns; load = l }
 -- the packet to begin with
 abbrev pub emptyOf : Sizes → Sender → List ℕ → List ℕ → Tally → Fill
 emptyOf z h ws ns w = record {
-  head = record { acked = h .acked; «next_tsn» = h .«next_tsn»; advertised = h .advertised; oldest = h .oldest; path = withFlight (h .path) (w .flight) };
+  head = record { acked = h .acked; «next_tsn» = h .«next_tsn»; advertised = h .advertised; oldest = h .oldest; path = withFlight (h .path) (w .flight); mode = h .mode };
   words = ws;
   ns = ns;
   load = record { payload = w .payload; room = z .room; count = 0; places = replicate (z .bundled) 0; resent = false; first = tsn0; last = tsn0 };

@@ -5,7 +5,7 @@ use lib.ListN.{replicate}
 use Rattle.numbers.specs.declared.circle.Tsn.{Tsn}
 use Rattle.numbers.specs.declared.circle.StreamId.{StreamId}
 use Rattle.numbers.specs.Profile.{rail}
-use Rattle.path.specs.Sizes.{railSizes}
+use Rattle.path.specs.Sizes.{railSizes, sizesOf}
 use Rattle.places.specs.declared.sack.Sack.{Sack}
 use Rattle.sending.specs.declared.sending.Sending.{Sending}
 use Rattle.sending.specs.Sending.{fresh}
@@ -23,8 +23,8 @@ use Rattle.outgoing.specs.declared.Packet.{Packet}
 abbrev pub shown : Outgoing → Sending
 shown r = seen rail (r .head) (r .places) (r .next)
 
-abbrev pub begun : Tsn → ℕ → Outgoing
-begun t window = record { head = headOf (fresh railSizes rail t window); places = replicate 1024 0; next = replicate 128 0 }
+abbrev pub begun : Tsn → ℕ → ℕ → Outgoing
+begun t window mode = record { head = headOf (fresh (sizesOf mode) rail t window mode); places = replicate 1024 0; next = replicate 128 0 }
 
 abbrev pub handedTo : Outgoing → ℕ → StreamId → Bool → ℕ → ℕ → HandedIn
 handedTo r len stream unordered ppid streams = record {
@@ -35,21 +35,21 @@ handedTo r len stream unordered ppid streams = record {
 
 abbrev pub answeredBy : Outgoing → Sack → Answered
 answeredBy r k = record {
-  number = ackedHead railSizes rail (r .head) (r .places) k .number;
-  outgoing = record { head = ackedHead railSizes rail (r .head) (r .places) k .head; places = ackedWords rail (r .head) (r .places) k; next = r .next };
+  number = ackedHead (sizesOf (r .head .mode)) rail (r .head) (r .places) k .number;
+  outgoing = record { head = ackedHead (sizesOf (r .head .mode)) rail (r .head) (r .places) k .head; places = ackedWords rail (r .head) (r .places) k; next = r .next };
 }
 
 abbrev pub shutBy : Outgoing → Tsn → Answered
 shutBy r point = record {
-  number = shutHead railSizes rail (r .head) (r .places) point .number;
-  outgoing = record { head = shutHead railSizes rail (r .head) (r .places) point .head; places = shutWords rail (r .head) (r .places) point; next = r .next };
+  number = shutHead (sizesOf (r .head .mode)) rail (r .head) (r .places) point .number;
+  outgoing = record { head = shutHead (sizesOf (r .head .mode)) rail (r .head) (r .places) point .head; places = shutWords rail (r .head) (r .places) point; next = r .next };
 }
 
 abbrev pub expiredIn : Outgoing → Expired
 expiredIn r = record {
-  number = expiredHead railSizes rail (r .head) (r .places) .number;
-  over = expiredHead railSizes rail (r .head) (r .places) .over;
-  outgoing = record { head = expiredHead railSizes rail (r .head) (r .places) .head; places = expiredWords railSizes rail (r .head) (r .places); next = r .next };
+  number = expiredHead (sizesOf (r .head .mode)) rail (r .head) (r .places) .number;
+  over = expiredHead (sizesOf (r .head .mode)) rail (r .head) (r .places) .over;
+  outgoing = record { head = expiredHead (sizesOf (r .head .mode)) rail (r .head) (r .places) .head; places = expiredWords (sizesOf (r .head .mode)) rail (r .head) (r .places); next = r .next };
 }
 
 abbrev pub packetOf : Outgoing → Packet

@@ -6,7 +6,7 @@ use sender::Sender;
 use sending::choosing::Load;
 ghost use mathlib.Core.Path.{_≡_};
 ghost use lib.ListN.{length};
-ghost use Rattle.path.specs.Sizes.{railSizes};
+ghost use Rattle.path.specs.Sizes.{railSizes, sizesOf};
 ghost use Rattle.numbers.specs.Profile.{rail};
 ghost use Rattle.sending.specs.declared.acknowledging.Answer.{Answer};
 ghost use Rattle.sending.specs.declared.cutting.Handed.{Handed};
@@ -54,10 +54,10 @@ pub struct Packet {
 
 impl Outgoing {
     // Nothing waits, and nothing was sent from `start` on.
-    pub fn fresh(start: Tsn, advertised: u32) -> Outgoing
-        ensures { λ r. ⌜ (r ≡ begun start advertised) × (shown r ≡ fresh railSizes rail start advertised) ⌝ }
+    pub fn fresh(start: Tsn, advertised: u32, mode: u8) -> Outgoing
+        ensures { λ r. ⌜ (r ≡ begun start advertised mode) × (shown r ≡ fresh (sizesOf mode) rail start advertised mode) ⌝ }
     {
-        let head = Sender::fresh(start, advertised);
+        let head = Sender::fresh(start, advertised, mode);
         Outgoing {
             head,
             places: [0; 1024],
@@ -100,7 +100,7 @@ pub fn hand_in(
 
 // A SACK.
 pub fn acknowledge(mut r: Outgoing, point: Tsn, window: u32, blocks: Blocks) -> Answered
-    ensures { λ o. ⌜ (o ≡ answeredBy r (sackOf point window blocks)) × (_≡_ {A = Answer} (record { number = o .number; sending = shown (o .outgoing) }) (acknowledged railSizes (shown r) (sackOf point window blocks))) ⌝ }
+    ensures { λ o. ⌜ (o ≡ answeredBy r (sackOf point window blocks)) × (_≡_ {A = Answer} (record { number = o .number; sending = shown (o .outgoing) }) (acknowledged (sizesOf (r .head .mode)) (shown r) (sackOf point window blocks))) ⌝ }
 {
     let h = r.head;
     let a = acks::acknowledge(h, &mut r.places, point, window, blocks);
@@ -114,7 +114,7 @@ pub fn acknowledge(mut r: Outgoing, point: Tsn, window: u32, blocks: Blocks) -> 
 
 // A SHUTDOWN's point.
 pub fn shutdown_point(mut r: Outgoing, point: Tsn) -> Answered
-    ensures { λ o. ⌜ (o ≡ shutBy r point) × (_≡_ {A = Answer} (record { number = o .number; sending = shown (o .outgoing) }) (shutdownPoint railSizes (shown r) point)) ⌝ }
+    ensures { λ o. ⌜ (o ≡ shutBy r point) × (_≡_ {A = Answer} (record { number = o .number; sending = shown (o .outgoing) }) (shutdownPoint (sizesOf (r .head .mode)) (shown r) point)) ⌝ }
 {
     let h = r.head;
     let a = acks::shutdown_point(h, &mut r.places, point);
@@ -128,7 +128,7 @@ pub fn shutdown_point(mut r: Outgoing, point: Tsn) -> Answered
 
 // T3 expires.
 pub fn t3(mut r: Outgoing) -> Expired
-    ensures { λ o. ⌜ (o ≡ expiredIn r) × (_≡_ {A = Expiry} (record { number = o .number; over = o .over; sending = shown (o .outgoing) }) (expired railSizes (shown r))) ⌝ }
+    ensures { λ o. ⌜ (o ≡ expiredIn r) × (_≡_ {A = Expiry} (record { number = o .number; over = o .over; sending = shown (o .outgoing) }) (expired (sizesOf (r .head .mode)) (shown r))) ⌝ }
 {
     let h = r.head;
     let e = acks::t3(h, &mut r.places);

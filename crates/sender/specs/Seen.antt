@@ -21,11 +21,12 @@ seen P h ws ns = record {
   places = placesOf P ws;
   next = ssnsOf P ns;
   path = h .path;
+  mode = h .mode;
 }
 
 -- the head of a sending side
 abbrev pub headOf : Sending → Sender
-headOf s = record { acked = s .acked; «next_tsn» = s .«next_tsn»; advertised = s .advertised; oldest = s .oldest; path = s .path }
+headOf s = record { acked = s .acked; «next_tsn» = s .«next_tsn»; advertised = s .advertised; oldest = s .oldest; path = s .path; mode = s .mode }
 
 -- a place that is free and has no misses
 abbrev pub isBlank : Place → Bool

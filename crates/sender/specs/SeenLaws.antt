@@ -13,8 +13,8 @@ use Rattle.sender.specs.declared.Sender.{Sender}
 use Rattle.sender.specs.Seen.{seen, headOf}
 
 -- tables of zeros show a sending side that begins
-pub fresh-seen : (z : Sizes) (P : Profile) (t : Tsn) (window m n : ℕ) → seen P (headOf (fresh z P t window)) (replicate m 0) (replicate n 0) ≡ fresh z P t window
-fresh-seen z P t window m n = rw (fresh-is z P t window, places-zeros P m, ssns-zeros P n)
+pub fresh-seen : (z : Sizes) (P : Profile) (t : Tsn) (window mode m n : ℕ) → seen P (headOf (fresh z P t window mode)) (replicate m 0) (replicate n 0) ≡ fresh z P t window mode
+fresh-seen z P t window mode m n = rw (fresh-is z P t window mode, places-zeros P m, ssns-zeros P n)
 
 -- the tables stay
 module _ (P : Profile) (h : Sender) (ws ns : List ℕ) where

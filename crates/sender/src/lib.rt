@@ -1,6 +1,7 @@
 // The sending side apart from its tables, which are lent: a small head by value, and the bounds of both.
 use numbers::Rail;
 use numbers::Tsn;
+use path::BookPath;
 use path::Path;
 use places::Place;
 use sending::bounds;
@@ -11,36 +12,39 @@ ghost use mathlib.Core.List.{List, []};
 ghost use Prim.Native.Nat.{ℕ, _<_, _≤_};
 ghost use lib.Dec.{eqb, ltb};
 ghost use Rattle.scans.specs.Scan.{pick};
-ghost use Rattle.path.specs.Sizes.{railSizes};
+ghost use Rattle.path.specs.Sizes.{railSizes, sizesOf};
 ghost use Rattle.numbers.specs.Profile.{rail};
 ghost use Rattle.sending.specs.Sending.{fresh, roomOf, sampled, doubled, heard};
-ghost use Rattle.sending.specs.Bounds.{hasGap, isWithin};
+ghost use Rattle.sending.specs.Bounds.{hasGap, isBounded, isWithin};
 ghost use Rattle.sending.specs.Survey.{Surveyed};
 ghost use Rattle.tables.specs.Place.{placesOf, placeAt};
 ghost use Rattle.sender.specs.Seen.{seen, headOf, isBlank, blankFor};
 
-// Our point, the TSN that is next, the window last advertised, the order of the chunk that waits longest, and the path.
+// Our point, the TSN that is next, the window last advertised, the order of the chunk that waits longest, the path, and the book: 0 RFC 9260,
+// 1 RFC 4960.
 pub struct Sender {
     pub acked: Tsn,
     pub next_tsn: Tsn,
     pub advertised: u32,
     pub oldest: u32,
     pub path: Path,
+    pub mode: u8,
 }
 
 impl Sender {
     // Nothing waits, and nothing was sent from `start` on.
-    pub fn fresh(start: Tsn, advertised: u32) -> Sender
-        ensures { λ r. ⌜ r ≡ headOf (fresh railSizes rail start advertised) ⌝ }
+    pub fn fresh(start: Tsn, advertised: u32, mode: u8) -> Sender
+        ensures { λ r. ⌜ r ≡ headOf (fresh (sizesOf mode) rail start advertised mode) ⌝ }
     {
         let point = start.after(4294967295);
-        let path = Path::fresh();
+        let path = Path::fresh(mode);
         Sender {
             acked: point,
             next_tsn: start,
             advertised: advertised,
             oldest: 0,
             path: path,
+            mode: mode,
         }
     }
 
@@ -213,9 +217,9 @@ fn is_successive(seen: &[bool; bounds::SPOTS], many: usize, n: u32) -> bool
     false
 }
 
-// Whether the sending side is within its bounds, whatever the next SSNs. Where every place is free nothing is noted.
-pub fn is_within(s: Sender, t: &[u32; 1024]) -> bool
-    ensures { λ r. ⌜ ((ns : List ℕ) → r ≡ isWithin railSizes rail (seen rail s (now (t .entry)) ns)) ⌝ }
+// Whether path and places are within their bounds, which both books have alike. Where every place is free nothing is noted.
+fn is_bounded(s: Sender, t: &[u32; 1024]) -> bool
+    ensures { λ r. ⌜ ((ns : List ℕ) → r ≡ isBounded railSizes rail (seen rail s (now (t .entry)) ns)) ⌝ }
 {
     let p = s.path;
     if p.is_within() {
@@ -243,4 +247,14 @@ pub fn is_within(s: Sender, t: &[u32; 1024]) -> bool
         return false;
     }
     false
+}
+
+// Whether the sending side is within its bounds, whatever the next SSNs: its mode too is one that there is.
+pub fn is_within(s: Sender, t: &[u32; 1024]) -> bool
+    ensures { λ r. ⌜ ((ns : List ℕ) → r ≡ isWithin railSizes rail (seen rail s (now (t .entry)) ns)) ⌝ }
+{
+    if BookPath::MODE < s.mode {
+        return false;
+    }
+    is_bounded(s, t)
 }

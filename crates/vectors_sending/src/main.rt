@@ -338,11 +338,23 @@ fn copied(mut r: Outgoing, line: &[u8]) -> Outgoing {
     r
 }
 
-// fresh TSN WINDOW
+// The book, 0 where none is said.
+fn mode_of(n: u16) -> u8 {
+    if n < 256 {
+        return n as u8;
+    }
+    255
+}
+
+// fresh TSN WINDOW MODE
 fn prepared(r: Outgoing, line: &[u8]) -> Outgoing {
     let w = first(line);
     if same(w, b"fresh") {
-        return Outgoing::fresh(Tsn(value32(line, 1)), value32(line, 2));
+        return Outgoing::fresh(
+            Tsn(value32(line, 1)),
+            value32(line, 2),
+            mode_of(value16(line, 3)),
+        );
     }
     if same(w, b"status") {
         return stated(r, line);
@@ -400,7 +412,7 @@ fn turn(mut s: Sides, line: &[u8]) -> Sides {
 }
 
 fn begun() -> Sides {
-    let r = Outgoing::fresh(Tsn(0), 0);
+    let r = Outgoing::fresh(Tsn(0), 0, 0);
     Sides {
         present: r,
         aside: r,

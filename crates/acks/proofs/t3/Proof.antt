@@ -1,4 +1,5 @@
 use borrow.Author.Needs.{needs}
+use Rattle.path.specs.Laws.{same-over}
 use Rattle.acks.specs.Acks.{expiredHead, expiredWords}
 use Rattle.acks.proofs.t3.Statement.{statement}
 use Rattle.acks.proofs.t3.Tie as tie
@@ -19,7 +20,7 @@ is-over-requires c κs = search needs
 -- src/lib.rt:153:13
 returns : tie.Need-returns
 unfolding expiredHead expiredWords
-returns c = (rw (← c .before .before .before .before .has-outstanding .ensures, c .before .before .before .if1 .taken, ← c .before .is-over .ensures, c .if2 .taken), rw (← c .before .before .before .before .has-outstanding .ensures, c .before .before .before .if1 .taken, ← c .before .is-over .ensures, c .if2 .taken))
+returns c = (rw (← c .before .before .before .before .has-outstanding .ensures, c .before .before .before .if1 .taken, same-over _ _, ← c .before .is-over .ensures, c .if2 .taken), rw (← c .before .before .before .before .has-outstanding .ensures, c .before .before .before .if1 .taken, same-over _ _, ← c .before .is-over .ensures, c .if2 .taken))
 
 -- src/lib.rt:159:13
 overdue-requires : tie.Need-overdue-requires
@@ -28,7 +29,7 @@ overdue-requires c κs = search needs
 -- src/lib.rt:160:9
 returns-2 : tie.Need-returns-2
 unfolding expiredHead expiredWords
-returns-2 c = (rw (← c .before .before .before .before .before .before .has-outstanding .ensures, c .before .before .before .before .before .if1 .taken, ← c .before .before .before .is-over .ensures, c .before .before .if2 .left, c .overdue .ensures .0), rw (← c .before .before .before .before .before .before .has-outstanding .ensures, c .before .before .before .before .before .if1 .taken, ← c .before .before .before .is-over .ensures, c .before .before .if2 .left) (c .overdue .ensures .1))
+returns-2 c = (rw (← c .before .before .before .before .before .before .has-outstanding .ensures, c .before .before .before .before .before .if1 .taken, same-over _ _, ← c .before .before .before .is-over .ensures, c .before .before .if2 .left, c .overdue .ensures .0), rw (← c .before .before .before .before .before .before .has-outstanding .ensures, c .before .before .before .before .before .if1 .taken, same-over _ _, ← c .before .before .before .is-over .ensures, c .before .before .if2 .left) (c .overdue .ensures .1))
 
 -- src/lib.rt:146:1
 returns-3 : tie.Need-returns-3

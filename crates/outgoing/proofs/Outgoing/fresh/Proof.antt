@@ -1,5 +1,5 @@
 use Rattle.numbers.specs.Profile.{rail}
-use Rattle.path.specs.Sizes.{railSizes}
+use Rattle.path.specs.Sizes.{sizesOf}
 use Rattle.sender.specs.SeenLaws.{fresh-seen}
 use borrow.Author.Needs.{needs}
 use Rattle.outgoing.proofs.Outgoing.fresh.Statement.{statement}
@@ -14,7 +14,7 @@ fresh-requires c κs = search needs
 
 -- src/lib.rt:57:5
 returns : tie.Need-returns
-returns c = (rw (c .fresh .ensures), rw (c .fresh .ensures) (fresh-seen railSizes rail _ _ 1024 128))
+returns c = (rw (c .fresh .ensures), rw (c .fresh .ensures) (fresh-seen (sizesOf (c .before .args .mode)) rail _ _ (c .before .args .mode) 1024 128))
 
 pub fresh-spec : {M : Type 1} → statement M
 fresh-spec = tie.close (tie.spec fresh-requires returns)
