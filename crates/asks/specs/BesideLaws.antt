@@ -126,6 +126,7 @@ module _ (h : Head) (held next places nextOut kept : List ℕ) where
       tsn
       0
       (record { 0 = 1 })
+      (h .sender .mode)
 
   abbrev opening : ℕ → Tsn → ℕ → ℕ → List ℕ → Answer
   opening tag tsn port streams out = answerOf (associating a tag tsn port streams out) out

@@ -58,6 +58,7 @@ module _ (h : Head) (held next places nextOut kept : List ℕ) (tag : ℕ) (tsn 
       tsn
       0
       (record { 0 = 1 })
+      (h .sender .mode)
 
   module _ (out : List ℕ) {n : ℕ}
       (q : n ≡ earlier (barred (shown h held next places nextOut kept) (isShortOut out) Associate) (associateRefusal (h .ends .«local_port») tag port streams)) where

@@ -4,7 +4,7 @@ use mathlib.Core.List.{List}
 use lib.Dec.{eqb}
 use Rattle.scans.specs.Scan.{pick}
 use Rattle.numbers.specs.Profile.{rail}
-use Rattle.path.specs.Sizes.{railSizes}
+use Rattle.path.specs.Sizes.{sizesOf}
 use Rattle.acks.specs.declared.Expired.{Expired}
 use Rattle.acks.specs.Acks.{expiredHead, expiredWords}
 use Rattle.flat.specs.declared.head.Head.{Head}
@@ -24,5 +24,5 @@ lapsedBy h e = pick (eqb (e .number) 0) (pick (e .over) (overWith h) (toldWith (
 unfoldable pub lapsed : ℕ → Head → List ℕ → Lapse
 lapsed n h places =
     pick (eqb n 0)
-    (record { answer = lapsedBy h (expiredHead railSizes rail (h .sender) places); places = expiredWords railSizes rail (h .sender) places })
+    (record { answer = lapsedBy h (expiredHead (sizesOf (h .sender .mode)) rail (h .sender) places); places = expiredWords (sizesOf (h .sender .mode)) rail (h .sender) places })
     (record { answer = refusedWith h n; places = places })

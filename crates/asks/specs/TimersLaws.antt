@@ -12,7 +12,7 @@ use Rattle.scans.specs.Scan.{pick}
 use Rattle.scans.specs.Upto.{pick-keeps}
 use Rattle.scans.specs.Each.{clash}
 use Rattle.numbers.specs.Profile.{rail}
-use Rattle.path.specs.Sizes.{Sizes, railSizes}
+use Rattle.path.specs.Sizes.{Sizes, sizesOf}
 use Rattle.path.specs.Path as way
 use Rattle.sending.specs.declared.sending.Sending.{Sending}
 use Rattle.sending.specs.declared.expiring.Expiry.{Expiry}
@@ -37,7 +37,7 @@ use Rattle.asks.specs.Timers.{Lapse, lapsedBy, lapsed}
 
 -- the call, by what it found
 module _ (h : Head) (places : List ℕ) {n b : ℕ} {r : Answered} (q : n ≡ b) where
-  pub lapse-by : {exit : List ℕ} {e : Expired} → n ≡ 0 → e ≡ expiredHead railSizes rail (h .sender) places → exit ≡ expiredWords railSizes rail (h .sender) places
+  pub lapse-by : {exit : List ℕ} {e : Expired} → n ≡ 0 → e ≡ expiredHead (sizesOf (h .sender .mode)) rail (h .sender) places → exit ≡ expiredWords (sizesOf (h .sender .mode)) rail (h .sender) places
       → r ≡ lapsedBy h e → _≡_ {A = Lapse} (record { answer = r; places = exit }) (lapsed b h places)
   unfolding lapsed
   lapse-by z w x y = rw (← q, eq-eqb n 0 z, ← w) (λ i. record { answer = y i; places = x i })
@@ -60,19 +60,19 @@ marks-none z s e = rw (expired-is z s) (go (hasOutstanding s) (way.isOver z (s .
 -- what is shown after T3
 module _ (h : Head) (held ns places ms cs : List ℕ) (l : length places ≡ 1024) where
   abbrev after : Expired
-  after = expiredHead railSizes rail (h .sender) places
+  after = expiredHead (sizesOf (h .sender .mode)) rail (h .sender) places
 
   abbrev words : List ℕ
-  words = expiredWords railSizes rail (h .sender) places
+  words = expiredWords (sizesOf (h .sender .mode)) rail (h .sender) places
 
-  shows : _≡_ {A = Expiry} (record { number = after .number; over = after .over; sending = seen rail (after .head) words ms }) (expired railSizes (seen rail (h .sender) places ms))
-  shows = expired-shows railSizes rail (h .sender) places ms (omega (arith, l))
+  shows : _≡_ {A = Expiry} (record { number = after .number; over = after .over; sending = seen rail (after .head) words ms }) (expired (sizesOf (h .sender .mode)) (seen rail (h .sender) places ms))
+  shows = expired-shows (sizesOf (h .sender .mode)) rail (h .sender) places ms (omega (arith, l))
 
   same-places : ((eqb (after .number) 0 ≡ false) ⊎ (after .over ≡ true)) → placesOf rail words ≡ placesOf rail places
   same-places e =
-      ap (λ (x : Expiry). x .sending .places) shows ∙ ap (λ (x : Sending). x .places) (marks-none railSizes (seen rail (h .sender) places ms) (subst (λ (x : Expiry). (eqb (x .number) 0 ≡ false) ⊎ (x .over ≡ true)) shows e))
+      ap (λ (x : Expiry). x .sending .places) shows ∙ ap (λ (x : Sending). x .places) (marks-none (sizesOf (h .sender .mode)) (seen rail (h .sender) places ms) (subst (λ (x : Expiry). (eqb (x .number) 0 ≡ false) ⊎ (x .over ≡ true)) shows e))
 
-  lapse-shows : answerIn (lapsedBy h after) held ns words ms cs ≡ answerOf (whole.overdue (shown h held ns places ms cs) (expired railSizes (seen rail (h .sender) places ms))) []
+  lapse-shows : answerIn (lapsedBy h after) held ns words ms cs ≡ answerOf (whole.overdue (shown h held ns places ms cs) (expired (sizesOf (h .sender .mode)) (seen rail (h .sender) places ms))) []
   unfolding answerOf
   lapse-shows = go (eqb (after .number) 0) (after .over) refl refl ∙ ap (λ (x : Expiry). answerOf (whole.overdue (shown h held ns places ms cs) x) []) shows
     where
@@ -93,7 +93,7 @@ module _ (h : Head) (held ns places ms cs : List ℕ) (l : length places ≡ 102
     where
       go : (t : Bool)
           → (let x : Lapse = pick t (record { answer = lapsedBy h after; places = words }) (record { answer = refusedWith h (barred (shown h held ns places ms cs) false ThirdTimer); places = places }) in
-          Kept (pick t (whole.overdue (shown h held ns places ms cs) (expired railSizes (seen rail (h .sender) places ms))) (refusing (shown h held ns places ms cs) (barred (shown h held ns places ms cs) false ThirdTimer)))
+          Kept (pick t (whole.overdue (shown h held ns places ms cs) (expired (sizesOf (h .sender .mode)) (seen rail (h .sender) places ms))) (refusing (shown h held ns places ms cs) (barred (shown h held ns places ms cs) false ThirdTimer)))
           (answerIn (x .answer) held ns (x .places) ms cs))
       go true = record { answer = lapse-shows }
       go false = record { answer = refl }
@@ -103,6 +103,6 @@ pub lapsed-long : (n : ℕ) (h : Head) (places : List ℕ) → length (lapsed n 
 unfolding lapsed
 lapsed-long n h places =
     pick-keeps (λ (x : Lapse). length (x .places) ≡ length places) (eqb n 0)
-    (record { answer = lapsedBy h (expiredHead railSizes rail (h .sender) places); places = expiredWords railSizes rail (h .sender) places })
+    (record { answer = lapsedBy h (expiredHead (sizesOf (h .sender .mode)) rail (h .sender) places); places = expiredWords (sizesOf (h .sender .mode)) rail (h .sender) places })
     (record { answer = refusedWith h n; places = places })
-    (expired-long railSizes rail (h .sender) places) refl
+    (expired-long (sizesOf (h .sender .mode)) rail (h .sender) places) refl

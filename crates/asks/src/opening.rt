@@ -42,7 +42,7 @@ fn waiting(head: Head, tag: u32, tsn: Tsn, port: u16, streams: u16) -> Head
         streams_out,
         options: 0,
     };
-    Head::started(State::CookieWait(0), ends, tsn, 0, Tsn(1))
+    Head::started(State::CookieWait(0), ends, tsn, 0, Tsn(1), head.sender.mode)
 }
 
 // 4 for no port, 8 for no tag or no streams, or 0.

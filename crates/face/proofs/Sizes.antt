@@ -49,7 +49,7 @@ keeping-laid = refl
 abbrev sender : Ty
 sender = within K′.mir 5
 
-pub sender-laid : laid sender ≡ 60 ∷ 0 ∷ 4 ∷ 8 ∷ 12 ∷ 16 ∷ []
+pub sender-laid : laid sender ≡ 64 ∷ 0 ∷ 4 ∷ 8 ∷ 12 ∷ 16 ∷ 60 ∷ []
 sender-laid = refl
 
 abbrev path : Ty

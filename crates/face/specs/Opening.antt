@@ -14,8 +14,8 @@ abbrev pub tablesOf : List ℕ → List ℕ → List ℕ → List ℕ → List �
 tablesOf held next places nextOut kept = record { held = held; next = next; places = places; nextOut = nextOut; kept = kept }
 
 -- whatever stood there
-abbrev pub closedLeft : ℕ → Left Tables
-closedLeft port = left (toldOf 0 (packed (headOf (closedAt port))) []) zeros
+abbrev pub closedLeft : ℕ → ℕ → Left Tables
+closedLeft port mode = left (toldOf 0 (packed (headOf (closedAt port mode))) []) zeros
 
 pub record AssociatedLent : Type 0 where
   pub tables : Tables

@@ -39,8 +39,8 @@ recordOf k held next places nextOut kept = shown (unpacked k) held next places n
 -- ---- all tables are lent
 
 -- a record to start from
-abbrev pub Closes : ℕ → Told → Tables → Type 0
-Closes port t exit = left t exit ≡ closedLeft port
+abbrev pub Closes : ℕ → ℕ → Told → Tables → Type 0
+Closes port mode t exit = left t exit ≡ closedLeft port mode
 
 -- our own INIT
 abbrev pub Associates : Kept → ℕ → ℕ → ℕ → ℕ → AssociatedLent → Told → AssociatedLent → Type 0

@@ -9,7 +9,7 @@ ghost use Rattle.face.specs.Left.{toldOf};
 ghost use Rattle.face.specs.Opening.{tablesOf, associatedLent};
 ghost use Rattle.face.specs.Promises.{Closes, Associates};
 
-// A closed record at one of the host's ports, whatever stood there.
+// A closed record at one of the host's ports, in one of the two books, whatever stood there.
 pub fn close(
     k: Kept,
     held: &mut [u32; 512],
@@ -18,10 +18,11 @@ pub fn close(
     next_out: &mut [u16; 128],
     kept_cookie: &mut [u8; 256],
     port: u16,
+    mode: u8,
 ) -> Served
-    ensures { λ r. ⌜ Closes port (toldOf (r .number) (r .kept) []) (tablesOf (now (held .exit)) (now («next_in» .exit)) (now (places .exit)) (now («next_out» .exit)) (now («kept_cookie» .exit))) ⌝ }
+    ensures { λ r. ⌜ Closes port mode (toldOf (r .number) (r .kept) []) (tablesOf (now (held .exit)) (now («next_in» .exit)) (now (places .exit)) (now («next_out» .exit)) (now («kept_cookie» .exit))) ⌝ }
 {
-    let head = Head::closed(port);
+    let head = Head::closed(port, mode);
     tables::held::clear(held);
     tables::ssns::clear(next_in);
     tables::place::clear(places);
@@ -42,10 +43,11 @@ pub extern "C" fn ow_lent_close(
     next_out: &mut [u16; 128],
     kept_cookie: &mut [u8; 256],
     port: u16,
+    mode: u8,
 ) -> u32
-    ensures { λ r. ⌜ Closes port (toldOf r (now (k .exit)) []) (tablesOf (now (held .exit)) (now («next_in» .exit)) (now (places .exit)) (now («next_out» .exit)) (now («kept_cookie» .exit))) ⌝ }
+    ensures { λ r. ⌜ Closes port mode (toldOf r (now (k .exit)) []) (tablesOf (now (held .exit)) (now («next_in» .exit)) (now (places .exit)) (now («next_out» .exit)) (now («kept_cookie» .exit))) ⌝ }
 {
-    let o = close(*k, held, next_in, places, next_out, kept_cookie, port);
+    let o = close(*k, held, next_in, places, next_out, kept_cookie, port, mode);
     *k = o.kept;
     o.number
 }

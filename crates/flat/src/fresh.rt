@@ -14,11 +14,18 @@ ghost use Rattle.flat.specs.Shown.{headOf, zeroed};
 
 impl Head {
     // Nothing has come from a peer whose first number is `theirs`, and nothing was sent from `ours` on.
-    pub fn started(state: State, ends: Ends, ours: Tsn, advertised: u32, theirs: Tsn) -> Head
-        ensures { λ r. ⌜ r ≡ headOf (started state ends ours advertised theirs) ⌝ }
+    pub fn started(
+        state: State,
+        ends: Ends,
+        ours: Tsn,
+        advertised: u32,
+        theirs: Tsn,
+        mode: u8,
+    ) -> Head
+        ensures { λ r. ⌜ r ≡ headOf (started state ends ours advertised theirs mode) ⌝ }
     {
         let keeping = Keeping::fresh(theirs);
-        let sender = Sender::fresh(ours, advertised);
+        let sender = Sender::fresh(ours, advertised, mode);
         Head {
             state,
             ends,
@@ -28,9 +35,9 @@ impl Head {
         }
     }
 
-    // A closed record at one of the host's ports.
-    pub fn closed(port: u16) -> Head
-        ensures { λ r. ⌜ r ≡ headOf (closedAt port) ⌝ }
+    // A closed record at one of the host's ports, in one of the two books.
+    pub fn closed(port: u16, mode: u8) -> Head
+        ensures { λ r. ⌜ r ≡ headOf (closedAt port mode) ⌝ }
     {
         let ends = Ends {
             local_port: port,
@@ -41,7 +48,7 @@ impl Head {
             streams_out: 0,
             options: 0,
         };
-        Head::started(State::Closed, ends, Tsn(1), 0, Tsn(1))
+        Head::started(State::Closed, ends, Tsn(1), 0, Tsn(1), mode)
     }
 }
 
@@ -53,10 +60,10 @@ pub fn clear_cookie(t: &mut [u8; 256])
 }
 
 impl Association {
-    pub fn closed(port: u16) -> Association
-        ensures { λ r. ⌜ r ≡ zeroed (headOf (closedAt port)) ⌝ }
+    pub fn closed(port: u16, mode: u8) -> Association
+        ensures { λ r. ⌜ r ≡ zeroed (headOf (closedAt port mode)) ⌝ }
     {
-        let head = Head::closed(port);
+        let head = Head::closed(port, mode);
         Association {
             head,
             held: [0; 512],

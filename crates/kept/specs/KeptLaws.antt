@@ -43,7 +43,7 @@ path-back p = λ i. record {
 }
 
 sender-back : (s : Sender) → unpackedSender (packedSender s) ≡ s
-sender-back s = λ i. record { acked = s .acked; «next_tsn» = s .«next_tsn»; advertised = s .advertised; oldest = s .oldest; path = path-back (s .path) i }
+sender-back s = λ i. record { acked = s .acked; «next_tsn» = s .«next_tsn»; advertised = s .advertised; oldest = s .oldest; path = path-back (s .path) i; mode = s .mode }
 
 -- a head that a call gave back is read as it was
 pub unpack-pack : (h : Head) → unpacked (packed h) ≡ h
@@ -119,5 +119,6 @@ pack-unpack k h =
           until = k .sender .path .until;
           tries = k .sender .path .tries;
         };
+        mode = k .sender .mode;
       };
     }

@@ -42,6 +42,7 @@ unpackedSender s = record {
   advertised = s .advertised;
   oldest = s .oldest;
   path = unpackedPath (s .path);
+  mode = s .mode;
 }
 
 abbrev pub packedSender : Sender → KeptSender
@@ -51,4 +52,5 @@ packedSender s = record {
   advertised = s .advertised;
   oldest = s .oldest;
   path = packedPath (s .path);
+  mode = s .mode;
 }

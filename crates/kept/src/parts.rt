@@ -43,6 +43,7 @@ pub struct KeptSender {
     pub advertised: u32,
     pub oldest: u32,
     pub path: KeptPath,
+    pub mode: u8,
 }
 
 pub(crate) fn unpack_keeping(k: KeptKeeping) -> Keeping
@@ -131,6 +132,7 @@ pub(crate) fn unpack_sender(s: KeptSender) -> Sender
         advertised: s.advertised,
         oldest: s.oldest,
         path: unpack_path(path),
+        mode: s.mode,
     }
 }
 
@@ -146,5 +148,6 @@ pub(crate) fn pack_sender(s: Sender) -> KeptSender
         advertised: s.advertised,
         oldest: s.oldest,
         path: pack_path(path),
+        mode: s.mode,
     }
 }

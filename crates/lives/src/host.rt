@@ -277,10 +277,18 @@ fn spoils(mut a: Association, w: &[u8]) -> Association {
     a
 }
 
+// The book, 0 where none is said.
+fn mode_of(n: u16) -> u8 {
+    if n < 256 {
+        return n as u8;
+    }
+    255
+}
+
 // A closed record, a spoilt one, or the present one.
 fn made_up(a: Association, line: &[u8]) -> Association {
     match verbs::of(line) {
-        verbs::CLOSED => Association::closed(value16(line, 1)),
+        verbs::CLOSED => Association::closed(value16(line, 1), mode_of(value16(line, 2))),
         verbs::SPOILS => spoils(a, word(line, 1)),
         _ => a,
     }

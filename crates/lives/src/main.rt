@@ -271,7 +271,7 @@ fn turn(both: Both, line: &[u8], into: &mut [u8], from: &mut [u8]) -> Both {
 }
 
 fn begun() -> Both {
-    let a = Association::closed(0);
+    let a = Association::closed(0, 0);
     let s = Side {
         association: a,
         aside: a,

@@ -58,12 +58,13 @@ pub(crate) fn placed_of(places: &[u32; 1024]) -> [u64; 4] {
     [waiting as u64, flying as u64, marked as u64, blocked as u64]
 }
 
-pub(crate) fn going_of(s: Sender) -> [u64; 4] {
+pub(crate) fn going_of(s: Sender) -> [u64; 5] {
     [
         s.acked.0 as u64,
         s.next_tsn.0 as u64,
         s.advertised as u64,
         s.oldest as u64,
+        s.mode as u64,
     ]
 }
 

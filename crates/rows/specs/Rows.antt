@@ -7,7 +7,7 @@ use Rattle.scans.specs.Scan.{pick}
 use Rattle.numbers.specs.Numbering.{circles}
 use Rattle.numbers.specs.Profile.{rail}
 use Rattle.octets.specs.Writing.{wroteBytes}
-use Rattle.path.specs.Sizes.{railSizes}
+use Rattle.path.specs.Sizes.{sizesOf}
 use Rattle.chunks.specs.Frame.{partFrom, bytesIn}
 use Rattle.chunks.specs.InitChunk.{initOf}
 use Rattle.chunks.specs.SackChunk.{sackOf}
@@ -90,7 +90,7 @@ sackIn s = sending.sackOf (sackOf s .point) (sackOf s .window) (blocksOf s)
 
 -- the sender's answer, and the words of the places then
 unfoldable pub heardSack : Sender → List ℕ → List ℕ → Acked
-heardSack q places s = ackedHead railSizes rail q places (sackIn s)
+heardSack q places s = ackedHead (sizesOf (q .mode)) rail q places (sackIn s)
 
 unfoldable pub placesSacked : Sender → List ℕ → List ℕ → List ℕ
 placesSacked q places s = ackedWords rail q places (sackIn s)
@@ -120,7 +120,7 @@ module _ (h : Head) (places : List ℕ) where
 
 -- the sender's answer to its point, and the words of the places then
 unfoldable pub heardPoint : Sender → List ℕ → List ℕ → Acked
-heardPoint q places s = shutHead railSizes rail q places (pointOf s)
+heardPoint q places s = shutHead (sizesOf (q .mode)) rail q places (pointOf s)
 
 unfoldable pub placesShut : Sender → List ℕ → List ℕ → List ℕ
 placesShut q places s = shutWords rail q places (pointOf s)

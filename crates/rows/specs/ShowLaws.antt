@@ -12,7 +12,7 @@ use Rattle.scans.specs.Each.{All}
 use Rattle.numbers.specs.declared.circle.Tsn.{Tsn}
 use Rattle.numbers.specs.Numbering.{ring, circles}
 use Rattle.numbers.specs.Profile.{rail}
-use Rattle.path.specs.Sizes.{Sizes, railSizes}
+use Rattle.path.specs.Sizes.{Sizes, sizesOf}
 use Rattle.octets.specs.Writing.{wroteBytes}
 use Rattle.chunks.specs.declared.init.Init.{Init}
 use Rattle.chunks.specs.declared.kind.Handling.{Handling}
@@ -175,7 +175,7 @@ module _ (h : Head) (held next places nextOut kept s : List ℕ) where
           tabled (clearedIf t 512 held) (clearedIf t 128 next) (clearedIf t 1024 places) (clearedIf t 128 nextOut) (clearedIf t 256 kept) (pick o (ending (refused (bare h) 8 NoCall)) (readEchoed (bare h) source e)))
           ≡ pick o (ending (refused now 8 NoCall)) (readEchoed now source e)
       go true e = refl
-      go false (Good m) = ap (λ (a : Association). accepted a Up (framed 11 0 [])) (started-shows _ _ _ _ _)
+      go false (Good m) = ap (λ (a : Association). accepted a Up (framed 11 0 [])) (started-shows _ _ (m .«my_tsn») (m .window) _ (h .sender .mode))
       go false (Stale m) = refl
       go false Bad = refl
 
@@ -240,6 +240,7 @@ module _ (h : Head) (held next places nextOut kept s : List ℕ) where
             places = ps;
             next = ssnsOf rail nextOut;
             path = h .sender .path;
+            mode = h .sender .mode;
           })) (o .number) (sackCall (o .number))) (stay e)
 
       taken-shows : on (shutdownTaken (bare h) (answerWith o ws [])) ≡ shutdownTaken now (answerWith o ws nextOut)
@@ -269,7 +270,7 @@ module _ (h : Head) (held next places nextOut kept s : List ℕ) where
   module _ (l : length places ≡ 1024) where
     sacked-so : answerWith (heardSack (h .sender) places s) (placesSacked (h .sender) places s) nextOut ≡ heardBy (now .sending) s
     unfolding heardSack placesSacked heardBy
-    sacked-so = acked-shows railSizes rail (h .sender) places nextOut (omega (arith, l)) (sackIn s)
+    sacked-so = acked-shows (sizesOf (h .sender .mode)) rail (h .sender) places nextOut (omega (arith, l)) (sackIn s)
 
     sack-shows : tabled held next (placesSacked (h .sender) places s) nextOut kept (readSackBy h places s) ≡ readSack now s
     unfolding readSackBy readSack
@@ -289,14 +290,14 @@ module _ (h : Head) (held next places nextOut kept s : List ℕ) where
 
     point-so : answerWith (heardPoint (h .sender) places s) (placesShut (h .sender) places s) nextOut ≡ heardShutdown now s
     unfolding heardPoint placesShut heardShutdown
-    point-so = shut-shows railSizes rail (h .sender) places nextOut (omega (arith, l)) (pointOf s)
+    point-so = shut-shows (sizesOf (h .sender .mode)) rail (h .sender) places nextOut (omega (arith, l)) (pointOf s)
 
     point-stays : eqb (heardPoint (h .sender) places s .number) 0 ≡ false → placesOf rail (placesShut (h .sender) places s) ≡ placesOf rail places
     unfolding heardShutdown
     point-stays e =
-        let n : heardPoint (h .sender) places s .number ≡ shutdownPoint railSizes (now .sending) (pointOf s) .number = ap (λ (o : Answer). o .number) point-so in
+        let n : heardPoint (h .sender) places s .number ≡ shutdownPoint (sizesOf (h .sender .mode)) (now .sending) (pointOf s) .number = ap (λ (o : Answer). o .number) point-so in
         ap (λ (o : Answer). o .sending .places) point-so
-        ∙ ap (λ (q : Sending). q .places) (refused-point railSizes (now .sending) (pointOf s) (omega (arith, n, eqb-false (heardPoint (h .sender) places s .number) 0 e)))
+        ∙ ap (λ (q : Sending). q .places) (refused-point (sizesOf (h .sender .mode)) (now .sending) (pointOf s) (omega (arith, n, eqb-false (heardPoint (h .sender) places s .number) 0 e)))
 
     shutdown-shows : tabled held next (placesShut (h .sender) places s) nextOut kept (readShutdownBy h places s) ≡ readShutdown now s
     unfolding readShutdownBy readShutdown

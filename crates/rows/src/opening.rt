@@ -156,7 +156,14 @@ fn established(head: Head, source: u16, m: Made) -> Head
         streams_out: m.streams_out,
         options: m.options,
     };
-    Head::started(State::Established, ends, m.my_tsn, m.window, m.peer_tsn)
+    Head::started(
+        State::Established,
+        ends,
+        m.my_tsn,
+        m.window,
+        m.peer_tsn,
+        head.sender.mode,
+    )
 }
 
 // All tables begin.
