@@ -180,7 +180,7 @@ impl<'a> Arriving<'a> {
             streams_out: m.streams_out,
             options: m.options,
         };
-        *self.a = association::fresh(ESTABLISHED, ends, m.my_tsn, m.window, m.peer_tsn);
+        *self.a = association::fresh(ESTABLISHED, ends, m.my_tsn, m.window, m.peer_tsn, self.a.sending.mode);
         self.reply.add(&write::chunk(read::COOKIE_ACK, 0, &[]));
         event(UP)
     }

@@ -6,14 +6,14 @@ use crate::sending;
 
 pub const NO_COOKIE: Cookie = Cookie { bytes: [0; COOKIE_MOST], len: 0 };
 
-/// "A good echo, or our own INIT, starts from a fresh record".
-pub fn fresh(state: u8, ends: Ends, my_tsn: u32, window: u32, peer_tsn: u32) -> Association {
-    Association { state, tries: 0, ends, cookie: NO_COOKIE, receiving: receiving::fresh(peer_tsn), sending: sending::fresh(my_tsn, window) }
+/// "A good echo, or our own INIT, starts from a fresh record": all but the mode.
+pub fn fresh(state: u8, ends: Ends, my_tsn: u32, window: u32, peer_tsn: u32, mode: u8) -> Association {
+    Association { state, tries: 0, ends, cookie: NO_COOKIE, receiving: receiving::fresh(peer_tsn), sending: sending::fresh(my_tsn, window, mode) }
 }
 
-/// Both points 0, the next TSN 1.
-pub fn closed(port: u16) -> Association {
-    fresh(CLOSED, Ends { local_port: port, ..Ends::default() }, 1, 0, 1)
+/// Both points 0, the next TSN 1; "a mode chosen when the record is made".
+pub fn closed(port: u16, mode: u8) -> Association {
+    fresh(CLOSED, Ends { local_port: port, ..Ends::default() }, 1, 0, 1, mode)
 }
 
 /// The state alone moves; its count of tries starts anew.

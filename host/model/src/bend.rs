@@ -84,7 +84,7 @@ fn place(r: &mut Random, s: &mut Sending) {
 
 fn sending(r: &mut Random, s: &mut Sending) {
     let p = &mut s.path;
-    match r.below(15) {
+    match r.below(16) {
         0 => s.acked = near(r, s.acked),
         1 => s.next_tsn = near(r, s.next_tsn),
         2 => s.oldest = near(r, s.oldest),
@@ -99,6 +99,7 @@ fn sending(r: &mut Random, s: &mut Sending) {
         11 => p.tries = r.pick(&[0, 9, 10, 11, 255]),
         12 => p.running = flag(r),
         13 => p.clock.sampled = flag(r),
+        14 => s.mode = r.pick(&[0, 1, 2, 255]),
         _ => p.until = near(r, p.until),
     }
 }

@@ -250,7 +250,8 @@ fn sending(r: &mut Random) -> Sending {
         tries: r.pick(&[0, 1, 9, 10]),
     };
     let advertised = window(r, &places, oldest);
-    Sending { acked, next_tsn: acked.wrapping_add(sent as u32 + 1), advertised, oldest, places, next, path }
+    let mode = r.pick(&[BOOK_9260, BOOK_4960]);
+    Sending { acked, next_tsn: acked.wrapping_add(sent as u32 + 1), advertised, oldest, places, next, path, mode }
 }
 
 /// A window, often one that the chunk which waits longest just fits, or just does not.

@@ -32,6 +32,8 @@ pub enum Call {
     Closed {
         /// Our port.
         port: u16,
+        /// The book.
+        mode: u8,
     },
     /// `peek`.
     Peek {
@@ -282,8 +284,8 @@ impl<C: Core + Sync> Maker for C {
     fn make(&self, call: &Call, b: &mut Buffers) -> Reply {
         let a = &mut b.a;
         match *call {
-            Call::Closed { port } => {
-                *a = self.closed(port);
+            Call::Closed { port, mode } => {
+                *a = self.closed(port, mode);
                 Reply::Closed
             }
             Call::Peek { ref packet } => Reply::Peeked(self.peek(packet)),

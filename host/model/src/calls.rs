@@ -72,7 +72,7 @@ pub fn associate(a: &mut Association, tag: u32, tsn: u32, port: u16, streams: u1
         options: 0,
     };
     // "after our own INIT, the INIT ACK sets its point": until then it is 0.
-    *a = association::fresh(COOKIE_WAIT, ends, tsn, 0, 1);
+    *a = association::fresh(COOKIE_WAIT, ends, tsn, 0, 1, a.sending.mode);
     told(send_init(a, out))
 }
 

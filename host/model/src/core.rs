@@ -6,7 +6,7 @@ use crate::{arrive, association, calls};
 /// What each call does and answers stands in `include/oilwhisper.h`.
 pub trait Core {
     /// A closed record.
-    fn closed(&self, port: u16) -> Association;
+    fn closed(&self, port: u16, mode: u8) -> Association;
     /// A packet before it arrives.
     fn peek(&self, packet: &[u8]) -> Peeked;
     /// A packet arrives.
@@ -48,8 +48,8 @@ pub trait Core {
 pub struct Model;
 
 impl Core for Model {
-    fn closed(&self, port: u16) -> Association {
-        association::closed(port)
+    fn closed(&self, port: u16, mode: u8) -> Association {
+        association::closed(port, mode)
     }
 
     fn peek(&self, packet: &[u8]) -> Peeked {

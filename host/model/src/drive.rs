@@ -75,13 +75,14 @@ fn patiently(left: &dyn Maker, right: &dyn Maker, seed: u64, patience: usize) ->
     let mut r = Random::new(seed);
     let mood = r.pick(&[Mood::Fair, Mood::Rough, Mood::Hostile]);
     let end = |port| {
-        let mut twin = Twin::new(left, right, association::closed(port));
+        let mut twin = Twin::new(left, right, association::closed(port, BOOK_9260));
         twin.patience = patience;
         twin
     };
     let mut e = Episode { r, mood, ends: [end(1), end(2)], pool: Vec::new(), seed, seen: Coverage::default() };
     for who in 0..2 {
-        e.make(who, &Call::Closed { port: who as u16 + 1 })?;
+        let mode = e.r.pick(&[BOOK_9260, BOOK_4960]);
+        e.make(who, &Call::Closed { port: who as u16 + 1, mode })?;
     }
     while e.seen.calls < EPISODE {
         e.step()?;
@@ -313,7 +314,10 @@ impl<'m> Episode<'m> {
         let streams = self.ends[who].record().ends.streams_out;
         let r = &mut self.r;
         match kind {
-            0 => Call::Closed { port: if self.mood == Mood::Hostile && r.one_in(3) { 0 } else { who as u16 + 1 } },
+            0 => Call::Closed {
+                port: if self.mood == Mood::Hostile && r.one_in(3) { 0 } else { who as u16 + 1 },
+                mode: if self.mood == Mood::Hostile && r.one_in(6) { r.pick(&[2, 255]) } else { r.pick(&[BOOK_9260, BOOK_4960]) },
+            },
             3 => Call::Associate {
                 tag: if r.one_in(30) { 0 } else { r.word() | 1 },
                 tsn: born::tsn(r),

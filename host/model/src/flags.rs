@@ -44,7 +44,7 @@ fn calls() -> Vec<Call> {
 pub fn faults(core: &dyn Maker) -> Vec<String> {
     let mut faults = Vec::new();
     let mut r = Random::new(1);
-    let mut b = Buffers::new(association::closed(1));
+    let mut b = Buffers::new(association::closed(1, BOOK_9260));
     for i in 0..COUNT {
         for junk in [2, 255] {
             let mut a = born::record(&mut r);
@@ -73,7 +73,7 @@ pub fn faults(core: &dyn Maker) -> Vec<String> {
 }
 
 fn established() -> Association {
-    let mut a = association::closed(1);
+    let mut a = association::closed(1, BOOK_9260);
     a.state = ESTABLISHED;
     a.ends = Ends { local_port: 1, peer_port: 2, my_tag: 7, peer_tag: 9, streams_in: 1, streams_out: 1, options: 0 };
     a

@@ -1,5 +1,5 @@
-//! A plain model of the core, written from the scope paper ("01"), the requests that came later ("02"), their decisions and RFC 9260, and a driver that
-//! holds two implementations of the core against each other.
+//! A plain model of the core, written from the scope paper ("01"), the requests that came later ("02"), their decisions, RFC 9260 and, for the older
+//! book, RFC 4960, and a driver that holds two implementations of the core against each other.
 //!
 //! The rules are 01's and 02's. What 01 leaves open in the record's representation is taken from the core:
 //!

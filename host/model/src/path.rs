@@ -1,19 +1,38 @@
 //! Congestion and round trips: the numbers of the one path.
 
 use crate::numbers::tsn_distance;
-use crate::record::{Clock, Control, Path, NO, TRIES, YES};
+use crate::record::{Clock, Control, Path, BOOK_4960, NO, TRIES, YES};
 
 pub const PMDCS: u32 = 528;
+/// "the path MTU, set to 576 here".
+pub const MTU: u32 = 576;
 pub const START: u32 = 2_112;
-pub const FLOOR: u32 = 2_112;
 pub const TOP: u32 = 1_048_576;
 pub const RTO_LEAST: u32 = 1_000;
 pub const RTO_MOST: u32 = 60_000;
 
-pub fn fresh() -> Path {
+/// What the sizes are reckoned from.
+fn unit(mode: u8) -> u32 {
+    match mode {
+        BOOK_4960 => MTU,
+        _ => PMDCS,
+    }
+}
+
+/// RFC 4960, section 7.2.3: "max(cwnd/2, 4*MTU)"; "max(cwnd/2 rounded down, 2,112)", which is four PMDCS.
+fn half(cwnd: u32, mode: u8) -> u32 {
+    (cwnd / 2).max(4 * unit(mode))
+}
+
+/// RFC 4960, sections 7.2.1 and 15: "min (4*MTU, max (2*MTU, 4380 bytes))", "RTO.Initial - 3 seconds".
+pub fn fresh(mode: u8) -> Path {
+    let (cwnd, rto) = match mode {
+        BOOK_4960 => ((4 * MTU).min(4_380.max(2 * MTU)), 3_000),
+        _ => (START, RTO_LEAST),
+    };
     Path {
-        control: Control { cwnd: START, ssthresh: TOP, partial: 0 },
-        clock: Clock { sampled: NO, srtt: 0, rttvar: 0, rto: RTO_LEAST },
+        control: Control { cwnd, ssthresh: TOP, partial: 0 },
+        clock: Clock { sampled: NO, srtt: 0, rttvar: 0, rto },
         flight: 0,
         running: NO,
         until: 0,
@@ -61,13 +80,16 @@ pub struct News {
 }
 
 /// "If cwnd was at or below ssthresh, … If cwnd was above ssthresh: …"
-pub fn grow(p: &mut Path, n: &News) {
+pub fn grow(p: &mut Path, mode: u8, n: &News) {
     let c = &mut p.control;
     if c.cwnd <= c.ssthresh {
         if n.flight >= c.cwnd && n.moved && p.running == NO {
-            c.cwnd = (c.cwnd + n.newly.min(PMDCS)).min(TOP);
+            c.cwnd = (c.cwnd + n.newly.min(unit(mode))).min(TOP);
         }
         return;
+    }
+    if mode == BOOK_4960 {
+        return avoid(c, n);
     }
     c.partial = (c.partial + n.newly).min(TOP);
     if n.flight < c.cwnd {
@@ -78,9 +100,23 @@ pub fn grow(p: &mut Path, n: &News) {
     }
 }
 
+/// RFC 4960, section 7.2.2: "upon each SACK arrival that advances the Cumulative TSN Ack Point, increase partial_bytes_acked …. When partial_bytes_acked is
+/// equal to or greater than cwnd and before the arrival of the SACK the sender had cwnd or more bytes of data outstanding …, increase cwnd by MTU, and reset
+/// partial_bytes_acked to (partial_bytes_acked - cwnd)": the cwnd before.
+fn avoid(c: &mut Control, n: &News) {
+    if !n.moved {
+        return;
+    }
+    c.partial = (c.partial + n.newly).min(TOP);
+    if c.partial >= c.cwnd && n.flight >= c.cwnd {
+        c.partial -= c.cwnd;
+        c.cwnd = (c.cwnd + MTU).min(TOP);
+    }
+}
+
 /// "ssthresh = max(cwnd/2 rounded down, 2,112), cwnd = ssthresh, partial bytes 0"; fast recovery runs until the point reaches the last TSN.
-pub fn strike(p: &mut Path, last: u32) {
-    let ssthresh = (p.control.cwnd / 2).max(FLOOR);
+pub fn strike(p: &mut Path, mode: u8, last: u32) {
+    let ssthresh = half(p.control.cwnd, mode);
     p.control = Control { cwnd: ssthresh, ssthresh, partial: 0 };
     p.running = YES;
     p.until = last;
@@ -93,9 +129,14 @@ pub fn end_recovery(p: &mut Path, point: u32) {
     }
 }
 
-/// "T3: same ssthresh, cwnd 528, partial bytes 0, … RTO doubled", and one try more.
-pub fn expire(p: &mut Path) {
-    p.control = Control { cwnd: PMDCS, ssthresh: (p.control.cwnd / 2).max(FLOOR), partial: 0 };
+/// "T3: same ssthresh, cwnd 528, partial bytes 0, … RTO doubled", and one try more. RFC 4960, section 7.2.3: "cwnd = 1*MTU", and nothing of
+/// partial_bytes_acked.
+pub fn expire(p: &mut Path, mode: u8) {
+    p.control.ssthresh = half(p.control.cwnd, mode);
+    p.control.cwnd = unit(mode);
+    if mode != BOOK_4960 {
+        p.control.partial = 0;
+    }
     double(&mut p.clock);
     p.tries += 1;
 }

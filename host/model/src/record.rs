@@ -61,6 +61,11 @@ pub const MARKED: u8 = 3;
 /// Of a place to send: acknowledged by a gap block.
 pub const BLOCKED: u8 = 4;
 
+/// The mode of a record that keeps to RFC 9260.
+pub const BOOK_9260: u8 = 0;
+/// The mode of a record that keeps to RFC 4960.
+pub const BOOK_4960: u8 = 1;
+
 /// A flag of the record that is not set, but for those of the chunks; a byte that is neither this nor `YES` is outside its bounds.
 pub const NO: u8 = 0;
 /// A flag of the record that is set.
@@ -244,6 +249,8 @@ pub struct Sending {
     pub next: [u16; STREAMS],
     /// The path.
     pub path: Path,
+    /// The book: `BOOK_9260` or `BOOK_4960`.
+    pub mode: u8,
 }
 
 /// The record.

@@ -3,10 +3,12 @@
 use crate::numbers::{ahead, tsn_distance};
 use crate::path::{self, News};
 use crate::read::padded;
-use crate::record::{Chunk, Place, Sending, BLOCKED, FLYING, FREE, MARKED, MESSAGE_MOST, NO, PAYLOAD, PLACES, SENT_MOST, STREAMS, WAITING, YES};
+use crate::record::{
+    Chunk, Place, Sending, BLOCKED, BOOK_4960, FLYING, FREE, MARKED, MESSAGE_MOST, NO, PAYLOAD, PLACES, SENT_MOST, STREAMS, WAITING, YES,
+};
 use crate::write;
 
-pub fn fresh(tsn: u32, window: u32) -> Sending {
+pub fn fresh(tsn: u32, window: u32, mode: u8) -> Sending {
     Sending {
         acked: tsn.wrapping_sub(1),
         next_tsn: tsn,
@@ -14,7 +16,8 @@ pub fn fresh(tsn: u32, window: u32) -> Sending {
         oldest: 0,
         places: [Place::default(); PLACES],
         next: [0; STREAMS],
-        path: path::fresh(),
+        path: path::fresh(mode),
+        mode,
     }
 }
 
@@ -57,9 +60,9 @@ fn sent(s: &Sending) -> i64 {
 
 // ---- Bounds
 
-/// "every limit above; … flight equal to its sum; sent TSNs successive", and what waits has successive orders.
+/// "every limit above; … flight equal to its sum; sent TSNs successive", and what waits has successive orders. "1 covers a record whose mode is unknown".
 pub fn is_sound(s: &Sending) -> bool {
-    if !path::is_sound(&s.path) || ahead(s.acked, s.next_tsn) < 1 {
+    if s.mode > BOOK_4960 || !path::is_sound(&s.path) || ahead(s.acked, s.next_tsn) < 1 {
         return false;
     }
     let (mut flight, mut gone, mut wait) = (0, 0, 0);
@@ -245,11 +248,11 @@ pub fn acknowledge(s: &mut Sending, point: u32, told: Option<(u32, &[(u16, u16)]
     if let Some((window, _)) = told {
         s.advertised = window;
     }
-    path::grow(&mut s.path, &news);
+    path::grow(&mut s.path, s.mode, &news);
     let limit = if running && news.moved { blocks.last().map_or(0, |b| i64::from(b.1)) } else { highest };
     if miss(s, limit) && s.path.running == NO {
         let last = s.places.iter().filter(|p| is_outstanding(p)).map(|p| ahead(point, p.chunk.tsn)).max();
-        path::strike(&mut s.path, point.wrapping_add(last.unwrap_or(0) as u32));
+        path::strike(&mut s.path, s.mode, point.wrapping_add(last.unwrap_or(0) as u32));
     }
     s.path.flight = flight(s);
     if !has_outstanding(s) {
@@ -282,7 +285,7 @@ fn miss(s: &mut Sending, limit: i64) -> bool {
 
 /// "all outstanding marked, misses 0".
 pub fn expire(s: &mut Sending) {
-    path::expire(&mut s.path);
+    path::expire(&mut s.path, s.mode);
     for p in s.places.iter_mut() {
         p.misses = 0;
         if is_outstanding(p) {

@@ -86,7 +86,7 @@ pub struct Soak<'c> {
 
 fn end(core: &dyn Core, port: u16) -> End {
     End {
-        a: core.closed(port),
+        a: core.closed(port, BOOK_9260),
         receive_area: vec![0; AREA],
         send_area: vec![0; AREA],
         out: vec![0; MESSAGE_MOST],

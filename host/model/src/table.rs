@@ -145,8 +145,8 @@ fn way(state: u8) -> Vec<Call> {
 }
 
 fn at(core: &dyn Maker, state: u8) -> Buffers {
-    let mut b = Buffers::new(crate::association::closed(10));
-    core.make(&Call::Closed { port: 10 }, &mut b);
+    let mut b = Buffers::new(crate::association::closed(10, BOOK_9260));
+    core.make(&Call::Closed { port: 10, mode: BOOK_9260 }, &mut b);
     for call in way(state) {
         let reply = core.make(&call, &mut b);
         assert_eq!(reply.number(), 0, "{call:?}");

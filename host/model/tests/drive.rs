@@ -23,7 +23,9 @@ impl Maker for Watched {
         assert_eq!(number == 1, !is_sound(&a) && !matches!(call, Call::Closed { .. }), "{call:?}");
         assert!(number == 0 || b.a == a, "refused, and the record changed: {call:?}");
         assert!(number == 0 || (b.receive == receive && b.send == send), "refused, and an area changed: {call:?}");
-        assert!(number == 1 || is_sound(&b.a), "bounds: {call:?}");
+        // A mode that is no book is kept as it is given, and refused by the next call.
+        let is_known = !matches!(call, Call::Closed { mode, .. } if *mode > BOOK_4960);
+        assert!(number == 1 || is_sound(&b.a) == is_known, "bounds: {call:?}");
         let written = match &reply {
             Reply::Delivered(d) if number == 0 => d.message.length,
             _ => reply.length(),

@@ -2,7 +2,7 @@
 
 use model::numbers::{ssn_distance, tsn_distance};
 use model::record::*;
-use model::{checksum, read, write, Core, Model};
+use model::{checksum, is_sound, read, write, Core, Model};
 
 #[test]
 fn circles() {
@@ -69,9 +69,13 @@ fn data(tsn: u32) -> Vec<u8> {
 }
 
 impl End {
-    /// Established by a good echo: our tag 7, the peer's 9.
     fn new(my_tsn: u32, peer_tsn: u32) -> End {
-        let mut e = End { a: Model.closed(10), area: vec![0; AREA], out: vec![0; OUTPUT] };
+        End::in_book(my_tsn, peer_tsn, BOOK_9260)
+    }
+
+    /// Established by a good echo: our tag 7, the peer's 9.
+    fn in_book(my_tsn: u32, peer_tsn: u32, mode: u8) -> End {
+        let mut e = End { a: Model.closed(10, mode), area: vec![0; AREA], out: vec![0; OUTPUT] };
         let made = Made { my_tag: 7, peer_tag: 9, streams_in: 4, streams_out: 4, my_tsn, peer_tsn, window: 65_536, ..Made::default() };
         let echo = packet(20, 10, 7, &[write::chunk(read::COOKIE_ECHO, 0, b"cookie")]);
         let echoed = Echoed { word: GOOD, made };
@@ -90,6 +94,15 @@ impl End {
 
     fn data(&mut self, tsn: u32) -> u8 {
         self.arrive(&[data(tsn)])[0].number
+    }
+
+    fn acknowledged(&mut self, point: u32, blocks: &[(u16, u16)]) {
+        let none = Blocks { count: blocks.len(), starts: [0; BLOCKS], ends: [0; BLOCKS] };
+        let mut s = Sacked { point, window: 65_536, blocks: none, dups: [0; LISTED], listed: 0 };
+        for (i, block) in blocks.iter().enumerate() {
+            (s.blocks.starts[i], s.blocks.ends[i]) = *block;
+        }
+        assert_eq!(self.arrive(&[write::sack(&s)])[0].number, 0);
     }
 
     fn sack(&mut self) -> Sacked {
@@ -134,6 +147,89 @@ fn third_timer() {
     let c = e.a.sending.path.control;
     assert_eq!((c.ssthresh, c.cwnd, c.partial), (3_000, 528, 0), "C13");
     assert_eq!((e.a.sending.path.flight, e.a.sending.path.clock.rto, e.a.sending.path.tries), (0, 2_000, 1));
+}
+
+/// T-12 of 02, with the numbers of RFC 4960's sections 7.2 and 15: an end in each book.
+#[test]
+fn the_two_books_differ_where_they_should() {
+    struct Row {
+        mode: u8,
+        start: (u32, u32),
+        third_timer: (u32, u32, u32),
+        least: (u32, u32, u32),
+        slow: u32,
+        below: (u32, u32, u32),
+        full: (u32, u32, u32),
+        unmoved: (u32, u32, u32),
+        struck: (u32, u32, u32),
+    }
+    let rows = [
+        Row {
+            mode: BOOK_9260,
+            start: (2_112, 1_000),
+            third_timer: (528, 3_000, 0),
+            least: (528, 2_112, 0),
+            slow: 2_640,
+            below: (5_000, 2_400, 5_000),
+            full: (5_528, 2_400, 528),
+            unmoved: (5_528, 2_400, 328),
+            struck: (2_112, 2_112, 0),
+        },
+        Row {
+            mode: BOOK_4960,
+            start: (2_304, 3_000),
+            third_timer: (576, 3_000, 700),
+            least: (576, 2_304, 0),
+            slow: 2_880,
+            below: (5_000, 2_400, 5_328),
+            full: (5_576, 2_400, 856),
+            unmoved: (5_000, 2_400, 4_800),
+            struck: (2_304, 2_304, 0),
+        },
+    ];
+    let control = |e: &End| (e.a.sending.path.control.cwnd, e.a.sending.path.control.ssthresh, e.a.sending.path.control.partial);
+    for row in rows {
+        let fresh = End::in_book(1, 1, row.mode);
+        assert_eq!((control(&fresh).0, fresh.a.sending.path.clock.rto), row.start);
+        // So many chunks of 512 bytes on the way, and these numbers.
+        let with = |chunks: usize, cwnd: u32, ssthresh: u32, partial: u32| {
+            let mut e = End::in_book(1, 1, row.mode);
+            let mut area = vec![0; AREA];
+            e.a.sending.path.control.cwnd = 6_000;
+            assert_eq!(Model.hand_in(&mut e.a, &mut area, &vec![1; 512 * chunks], 3, 0, 0).chunks, chunks);
+            while Model.transmit(&mut e.a, &area, &mut e.out).length > 0 {}
+            assert_eq!(e.a.sending.path.flight, 528 * chunks as u32);
+            e.a.sending.path.control = Control { cwnd, ssthresh, partial };
+            e
+        };
+        let mut e = with(5, 6_000, 1_048_576, 700);
+        assert_eq!(Model.t3(&mut e.a).number, 0);
+        assert_eq!((control(&e), e.a.sending.path.clock.rto), (row.third_timer, 2 * row.start.1));
+        let mut e = with(5, 4_000, 1_048_576, 0);
+        assert_eq!(Model.t3(&mut e.a).number, 0);
+        assert_eq!(control(&e), row.least);
+        let mut e = with(5, row.start.0, 1_048_576, 0);
+        e.acknowledged(2, &[]);
+        assert_eq!(control(&e).0, row.slow);
+        let mut e = with(5, row.start.0, 1_048_576, 0);
+        e.acknowledged(0, &[(2, 3)]);
+        assert_eq!(control(&e).0, row.start.0);
+        let mut e = with(5, 5_000, 2_400, 4_800);
+        e.acknowledged(1, &[]);
+        assert_eq!(control(&e), row.below);
+        let mut e = with(10, 5_000, 2_400, row.below.2);
+        e.acknowledged(1, &[]);
+        assert_eq!(control(&e), row.full);
+        let mut e = with(10, 5_000, 2_400, 4_800);
+        e.acknowledged(0, &[(2, 2)]);
+        assert_eq!(control(&e), row.unmoved);
+        let mut e = with(5, 4_000, 1_048_576, 99);
+        for last in 2..=4 {
+            e.acknowledged(0, &[(2, last)]);
+        }
+        assert_eq!(control(&e), row.struck);
+    }
+    assert!(!is_sound(&Model.closed(10, 2)));
 }
 
 /// 01's third wrong build: 127 chunks above a hole leave a place for the missing one.
@@ -207,7 +303,7 @@ fn the_last_parameters_padding() {
     v.extend_from_slice(&write::item(0xC001, b"?"));
     let lent = Lent { tag: 7, tsn: 1, streams: 4, options: 0 };
     let answers = [0, 1, 2, 3].map(|counted| {
-        let mut e = End { a: Model.closed(10), area: vec![0; AREA], out: vec![0; OUTPUT] };
+        let mut e = End { a: Model.closed(10, BOOK_9260), area: vec![0; AREA], out: vec![0; OUTPUT] };
         v.resize(16 + 5 + counted, 0);
         let init = packet(20, 10, 0, &[write::chunk(read::INIT, 0, &v)]);
         let r = Model.arrive(&mut e.a, &mut e.area, &init, lent, b"cookie", Echoed::default(), &mut e.out);

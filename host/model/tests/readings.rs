@@ -25,7 +25,7 @@ fn packet(tag: u32, chunks: &[Vec<u8>]) -> Vec<u8> {
 
 impl End {
     fn closed(port: u16) -> End {
-        End { a: Model.closed(port), area: vec![0; AREA], out: vec![0; OUTPUT] }
+        End { a: Model.closed(port, BOOK_9260), area: vec![0; AREA], out: vec![0; OUTPUT] }
     }
 
     /// With a cookie to lend, and a good word on every echo.
@@ -114,7 +114,7 @@ fn no_packet_has_port_0() {
 /// "128 streams each way at most", in every state; a record outside CLOSED has two ports.
 #[test]
 fn the_bounds_of_streams_and_ports() {
-    let mut closed = Model.closed(0);
+    let mut closed = Model.closed(0, BOOK_9260);
     for (streams, within) in [(0, true), (1, true), (128, true), (129, false), (65_535, false)] {
         closed.ends.streams_in = streams;
         closed.ends.streams_out = 128;
@@ -124,7 +124,7 @@ fn the_bounds_of_streams_and_ports() {
         assert_eq!(is_sound(&closed), within);
     }
     for state in COOKIE_WAIT..=SHUTDOWN_ACK_SENT {
-        let mut a = Model.closed(10);
+        let mut a = Model.closed(10, BOOK_9260);
         a.state = state;
         a.cookie.len = 1;
         a.ends = Ends { local_port: 10, peer_port: 20, my_tag: MY_TAG, peer_tag: PEER_TAG, streams_in: 1, streams_out: 128, options: 0 };
@@ -150,7 +150,7 @@ fn an_abort_out_of_the_blue() {
     let number = |tag: u32, chunks: &[Vec<u8>]| {
         let mut e = End::closed(10);
         let r = e.arrive(tag, chunks);
-        assert_eq!(e.a == Model.closed(10), r.number != 0 || chunks[0][0] == read::INIT);
+        assert_eq!(e.a == Model.closed(10, BOOK_9260), r.number != 0 || chunks[0][0] == read::INIT);
         (r.number, r.length)
     };
     assert_eq!(number(MY_TAG, &[echo()]), (0, 16));

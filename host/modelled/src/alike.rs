@@ -139,14 +139,14 @@ pub fn shown(record: &Record) -> Association {
     held.iter_mut().zip(record.chunks_held()).for_each(|(to, place)| *to = place.alike());
     let mut places = [record::Place::default(); record::PLACES];
     places.iter_mut().zip(record.chunks_to_send()).for_each(|(to, place)| *to = place.alike());
-    let ffi::Sender { acked, next_tsn, advertised, oldest, path } = head.sender;
+    let ffi::Sender { acked, next_tsn, advertised, oldest, path, mode } = head.sender;
     Association {
         state: head.state,
         tries: head.tries,
         ends: head.ends.alike(),
         cookie: record::Cookie { bytes: *cookie, len: head.cookie_len },
         receiving: record::Receiving { keeping: head.keeping.alike(), held, next: *next_in },
-        sending: record::Sending { acked, next_tsn, advertised, oldest, places, next: *next_out, path: path.alike() },
+        sending: record::Sending { acked, next_tsn, advertised, oldest, places, next: *next_out, path: path.alike(), mode },
     }
 }
 
@@ -180,14 +180,14 @@ pub fn record_of(a: &Association) -> Record {
 }
 
 fn head_of(a: &Association) -> ffi::Head {
-    let record::Sending { acked, next_tsn, advertised, oldest, path, .. } = a.sending;
+    let record::Sending { acked, next_tsn, advertised, oldest, path, mode, .. } = a.sending;
     ffi::Head {
         state: a.state,
         tries: a.tries,
         cookie_len: a.cookie.len,
         ends: a.ends.alike(),
         keeping: a.receiving.keeping.alike(),
-        sender: ffi::Sender { acked, next_tsn, advertised, oldest, path: path.alike() },
+        sender: ffi::Sender { acked, next_tsn, advertised, oldest, path: path.alike(), mode },
     }
 }
 

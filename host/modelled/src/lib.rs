@@ -41,8 +41,8 @@ fn lent<Theirs: Alike<Ours>, Ours>(record: &mut Record, call: impl FnOnce(&mut A
 }
 
 impl Library for Modelled {
-    fn closed(port: u16) -> Record {
-        record_of(&Model.closed(port))
+    fn closed(port: u16, mode: u8) -> Record {
+        record_of(&Model.closed(port, mode))
     }
 
     fn peek(packet: &[u8]) -> Peeked {

@@ -69,8 +69,8 @@ fn are_left(came: &[u32], left: &[u32], nobodys: &[u32]) -> bool {
 }
 
 impl<L: Library> Core for Linked<L> {
-    fn closed(&self, port: u16) -> Association {
-        shown(&L::closed(port))
+    fn closed(&self, port: u16, mode: u8) -> Association {
+        shown(&L::closed(port, mode))
     }
 
     fn peek(&self, packet: &[u8]) -> record::Peeked {
