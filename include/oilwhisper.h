@@ -55,7 +55,7 @@ extern "C" {
 
 /* Order: for a packet 1, 18, 2, 3, 4, 5, 6, then chunk by chunk 7, 8, 27 and the rest; for other calls 1, 18, 7, 19, 20. "Leaves all" but for 11 and 14. */
 #define OW_DONE 0       /* not refused */
-#define OW_RECORD 1     /* record outside its bounds, its `state` and `tries` name no state, or a flag is neither 0 nor 1 */
+#define OW_RECORD 1     /* record outside its bounds, its `state` and `tries` name no state, its `mode` no book, or a flag is neither 0 nor 1 */
 #define OW_SIZE 2       /* a packet under 16 bytes, over 1,472, or not a multiple of 4 */
 #define OW_CHECKSUM 3   /* the packet's CRC32c */
 #define OW_HEAD 4       /* port or tag; of ow_associate: a port 0; of ow_error_stale: a port 0 or tag 0 */
@@ -144,13 +144,14 @@ struct ow_path {
     uint8_t tries;
 };
 
-/* The sending side: all up to `acked` is acknowledged, `next_tsn` is the next to give, `advertised` the peer's last window. */
+/* The sending side: all up to `acked` is acknowledged, `next_tsn` is the next to give, `advertised` the peer's last window, `mode` the book. */
 struct ow_sender {
     ow_tsn acked;
     ow_tsn next_tsn;
     uint32_t advertised;
     uint32_t oldest;
     struct ow_path path;
+    uint8_t mode; /* OW_BOOK_9260 or OW_BOOK_4960, as ow_closed was told */
 };
 
 struct ow_head {
@@ -249,8 +250,15 @@ static inline struct ow_place ow_place_of(const struct ow_association *associati
 /* Whether the library that is linked is the one that this header is for: ask once, before any other call. */
 static inline bool ow_is_at_hand(void);
 
-/* A closed record at one of the host's ports. Messages that are still to be taken stay in a record that was closed; this one is empty. */
-static inline struct ow_association ow_closed(uint16_t port);
+/* The books that a record can keep to when it sends: RFC 9260, or RFC 4960 (RTO from 3,000 ms, sizes by a path MTU of 576). A peer need not know. */
+#define OW_BOOK_9260 0
+#define OW_BOOK_4960 1
+
+/*
+ * A closed record at one of the host's ports, which keeps to this book whatever happens to it. Messages that are still to be taken stay in a record that was
+ * closed; this one is empty. With another number for `book` every call answers OW_RECORD.
+ */
+static inline struct ow_association ow_closed(uint16_t port, uint8_t book);
 
 /* The answer of most calls. `length`: bytes of the packet in `out`, 0 where none goes out. `over`: an expiry closed the association. */
 struct ow_answer {
@@ -549,7 +557,8 @@ uint32_t ow_version(void);
 void ow_sizes(size_t told[7]);
 
 uint32_t ow_lent_close(struct ow_head *head, uint32_t held[OW_HELD_WORDS * OW_PLACES], ow_ssn next_in[OW_STREAMS],
-    uint32_t places[OW_PLACE_WORDS * OW_PLACES], ow_ssn next_out[OW_STREAMS], uint8_t kept_cookie[OW_COOKIE_MOST], uint16_t port);
+    uint32_t places[OW_PLACE_WORDS * OW_PLACES], ow_ssn next_out[OW_STREAMS], uint8_t kept_cookie[OW_COOKIE_MOST], uint16_t port,
+    uint8_t mode);
 uint32_t ow_lent_associate(struct ow_head *head, uint32_t held[OW_HELD_WORDS * OW_PLACES], ow_ssn next_in[OW_STREAMS],
     uint32_t places[OW_PLACE_WORDS * OW_PLACES], ow_ssn next_out[OW_STREAMS], uint8_t kept_cookie[OW_COOKIE_MOST], uint32_t tag, ow_tsn tsn,
     uint16_t port, uint16_t streams, uint8_t *out, size_t out_len, size_t told[2]);
@@ -605,10 +614,10 @@ static inline struct ow_answer ow_answered(uint32_t number, const size_t *told) 
     return answer;
 }
 
-static inline struct ow_association ow_closed(uint16_t port) {
+static inline struct ow_association ow_closed(uint16_t port, uint8_t book) {
     struct ow_association a;
     memset(&a, 0, sizeof a);
-    ow_lent_close(&a.head, a.held, a.next_in, a.places, a.next_out, a.cookie, port);
+    ow_lent_close(&a.head, a.held, a.next_in, a.places, a.next_out, a.cookie, port, book);
     return a;
 }
 

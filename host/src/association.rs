@@ -4,6 +4,7 @@ use crate::calls::{
     Acknowledged, Answer, Arrived, Cause, Echoed, Expired, Fate, Lent, Made, Named, NotTaken, Peeked, Refusal, Shelf, Standing, State, Taken,
     Transmitted, Turn, Verdict, AREA, PAYLOAD,
 };
+use crate::config::Book;
 use crate::ffi;
 use crate::library::{self, Library};
 use std::marker::PhantomData;
@@ -32,9 +33,9 @@ pub fn peek<L: Library>(packet: &[u8]) -> Peeked {
 }
 
 impl<L: Library> Association<L> {
-    /// A closed association at this port of ours.
-    pub fn closed(port: u16) -> Association<L> {
-        Association::from_record(L::closed(port))
+    /// A closed association at this port of ours, which keeps to this book.
+    pub fn closed(port: u16, book: Book) -> Association<L> {
+        Association::from_record(L::closed(port, book.mode()))
     }
 
     /// An association from a record of any origin: the core tests it at each call.

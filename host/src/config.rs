@@ -1,9 +1,28 @@
 //! What an endpoint is set to.
 
 use crate::admission::Network;
+use crate::ffi;
 use crate::heartbeat;
 use crate::silence;
 use std::time::Duration;
+
+/// The book that is kept to when sending. The peer need not know: what is read and what is delivered is the same in both.
+#[derive(Clone, Copy, Debug, PartialEq, Eq)]
+pub enum Book {
+    /// RFC 9260: the RTO starts at 1 s.
+    Rfc9260,
+    /// RFC 4960, as some borrowed rails want it: the RTO starts at 3 s, and the window of congestion goes by a path MTU of 576 bytes.
+    Rfc4960,
+}
+
+impl Book {
+    pub(crate) fn mode(self) -> u8 {
+        match self {
+            Book::Rfc9260 => ffi::BOOK_9260,
+            Book::Rfc4960 => ffi::BOOK_4960,
+        }
+    }
+}
 
 /// What an endpoint, and every association of a hub, is set to.
 #[derive(Clone, Debug)]
@@ -14,6 +33,8 @@ pub struct Config {
     pub streams: u16,
     /// Our first TSN, where it is not to be random.
     pub first_tsn: Option<u32>,
+    /// The book that is kept to when sending.
+    pub book: Book,
     /// How long an idle path waits for its next heartbeat, to which an RTO is added.
     pub heartbeat: Duration,
     /// So many heartbeats may go unanswered; after one more the association is over.
@@ -35,6 +56,7 @@ impl Config {
             port,
             streams: 8,
             first_tsn: None,
+            book: Book::Rfc9260,
             heartbeat: heartbeat::INTERVAL,
             unanswered: heartbeat::UNANSWERED_MOST,
             quiet: silence::QUIET,

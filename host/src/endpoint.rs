@@ -12,7 +12,7 @@ use crate::session::{Session, Tools};
 use std::net::SocketAddr;
 use std::time::{Duration, Instant};
 
-pub use crate::config::Config;
+pub use crate::config::{Book, Config};
 pub use crate::event::{Event, Why};
 pub use crate::packet::Datagram;
 

@@ -21,7 +21,12 @@ pub const PLACE_WORDS: usize = 8;
 pub const VERDICT_WORDS: usize = 4;
 
 /// What `ow_version` answers.
-pub const VERSION: u32 = 1;
+pub const VERSION: u32 = 2;
+
+/// Mode of a record that keeps to RFC 9260.
+pub const BOOK_9260: u8 = 0;
+/// Mode of a record that keeps to RFC 4960.
+pub const BOOK_4960: u8 = 1;
 
 /// The number of a buffer that is too short.
 pub const SHORT: u8 = 18;
@@ -190,6 +195,8 @@ pub struct Sender {
     pub oldest: u32,
     /// The path.
     pub path: Path,
+    /// The book: one of those above.
+    pub mode: u8,
 }
 
 /// The record without its tables.
@@ -348,6 +355,7 @@ extern "C" {
         next_out: *mut [u16; STREAMS],
         kept_cookie: *mut [u8; COOKIE_MOST],
         port: u16,
+        mode: u8,
     ) -> u32;
     pub(crate) fn ow_version() -> u32;
     pub(crate) fn ow_sizes(told: *mut [usize; 7]);

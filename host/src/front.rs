@@ -32,7 +32,7 @@ pub struct Front<L> {
 impl<L: Library> Front<L> {
     pub fn new(config: &Config, tools: &mut Tools, now: Instant) -> Front<L> {
         Front {
-            closed: Association::closed(config.port),
+            closed: Association::closed(config.port, config.book),
             door: Door::new(config, &mut tools.random, now),
             strays: Strays::default(),
             port: config.port,

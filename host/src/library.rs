@@ -145,8 +145,8 @@ pub struct Acknowledged {
 
 /// What each call does and answers stands in `include/oilwhisper.h`.
 pub trait Library {
-    /// A closed record.
-    fn closed(port: u16) -> Record;
+    /// A closed record, in the mode of a book.
+    fn closed(port: u16, mode: u8) -> Record;
     /// A packet before it arrives.
     fn peek(packet: &[u8]) -> Peeked;
     /// A packet arrives.
@@ -237,6 +237,7 @@ mod proved {
                     until: 0,
                     tries: 0,
                 },
+                mode: 0,
             },
         },
         held: [0; HELD_WORDS * PLACES],
@@ -267,11 +268,11 @@ mod proved {
     // Each `unsafe` rests on one thing: a reference is a pointer that is not null to a whole head or table, a slice one to as many bytes as its length says, and
     // Rust lets no `&mut` overlap another borrow. The header asks for no more.
     impl Library for Proved {
-        fn closed(port: u16) -> Record {
+        fn closed(port: u16, mode: u8) -> Record {
             check_linked();
             let mut record = EMPTY;
             let Record { head, held, next_in, places, next_out, cookie } = &mut record;
-            unsafe { ffi::ow_lent_close(head, held, next_in, places, next_out, cookie, port) };
+            unsafe { ffi::ow_lent_close(head, held, next_in, places, next_out, cookie, port, mode) };
             record
         }
 

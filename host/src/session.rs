@@ -84,7 +84,7 @@ impl<L: Library> Session<L> {
     /// One that nothing has happened to yet.
     pub fn new(config: &Config, tools: &mut Tools) -> Session<L> {
         Session {
-            core: Association::closed(config.port),
+            core: Association::closed(config.port, config.book),
             path: Path::default(),
             timers: Timers::default(),
             sack: DelayedSack::default(),
@@ -135,7 +135,7 @@ impl<L: Library> Session<L> {
         tools: &mut Tools,
         now: Instant,
     ) -> Answer<Association<L>> {
-        let mut core = Association::closed(config.port);
+        let mut core = Association::closed(config.port, config.book);
         let tsn = tools.first_tsn();
         let answer = core.associate(my_tag, tsn, port, config.streams, &mut tools.out);
         let length = self.counted(answer)?;
@@ -147,7 +147,7 @@ impl<L: Library> Session<L> {
 
     /// A packet with a good cookie opens an association, in place of the one that ended, whose record is given back. None where the core refuses it all the same.
     pub fn open(&mut self, incoming: Incoming, prepared: &Prepared, config: &Config, tools: &mut Tools) -> Option<Association<L>> {
-        let mut core = Association::closed(config.port);
+        let mut core = Association::closed(config.port, config.book);
         let before = core.standing();
         let answer = core.arrive(incoming.packet, &prepared.lent, prepared.echoed, &mut tools.out);
         let arrived = self.counted(answer).ok()?;

@@ -5,7 +5,7 @@ mod pair;
 use model::checksum;
 use modelled::on_both;
 use oilwhisper::calls::{Cause, Refusal, State};
-use oilwhisper::endpoint::{Config, Event, Why};
+use oilwhisper::endpoint::{Book, Config, Event, Why};
 use oilwhisper::library::Library;
 use pair::*;
 use rail::relay::Weather;
@@ -110,6 +110,23 @@ fn gives_up_on_a_peer_that_never_answers<L: Library>() {
     assert!(pair.run_until(MINUTE * 10, |pair| pair.state(0) == State::Closed));
     assert_eq!(pair.ends[0].events, [Event::Quiet(Duration::from_secs(5)), Event::Down(Why::NoAnswer)]);
     assert_eq!(sent(&pair, 0, INIT), 9);
+}
+
+/// Neither end knows the other's book.
+fn an_end_of_the_older_book_waits_three_seconds<L: Library>() {
+    let older = Config { book: Book::Rfc4960, ..config(0) };
+    let mut pair = Pair::<L>::with(slow(20), 4, [older, config(1)]);
+    pair.ends[0].loses = Box::new(|_| true);
+    pair.associate();
+    assert_eq!(pair.ends[0].endpoint.standing().rto, Duration::from_secs(3));
+    pair.run_for(Duration::from_millis(2_999));
+    assert_eq!(sent(&pair, 0, INIT), 1);
+    pair.run_for(Duration::from_millis(2));
+    assert_eq!(sent(&pair, 0, INIT), 2);
+    pair.ends[0].loses = Box::new(|_| false);
+    assert!(pair.run_until(MINUTE, |pair| pair.are(State::Established)));
+    pair.ends[0].endpoint.hand_in(b"by the older book", 0, false, 0).expect("there is room");
+    assert!(pair.run_until(MINUTE, |pair| pair.ends[1].taken.len() == 1));
 }
 
 fn gives_up_on_a_peer_that_vanished_with_data_outstanding<L: Library>() {
@@ -438,6 +455,7 @@ on_both! {
     opens_though_every_handshake_packet_is_lost_twice
     closes_though_every_farewell_is_lost_twice
     gives_up_on_a_peer_that_never_answers
+    an_end_of_the_older_book_waits_three_seconds
     gives_up_on_a_peer_that_vanished_with_data_outstanding
     beats_while_idle_and_notices_silence
     acknowledges_the_first_data_at_once

@@ -46,7 +46,7 @@ fn claims() -> String {
         ow_control Control { cwnd ssthresh partial }
         ow_clock Clock { sampled srtt rttvar rto }
         ow_path Path { control clock flight running until tries }
-        ow_sender Sender { acked next_tsn advertised oldest path }
+        ow_sender Sender { acked next_tsn advertised oldest path mode }
         ow_head Head { state tries cookie_len ends keeping sender }
         ow_association Record { head held next_in places next_out cookie }
     }
@@ -66,6 +66,8 @@ fn claims() -> String {
         OW_PLACE_WORDS ffi::PLACE_WORDS,
         OW_VERDICT_WORDS ffi::VERDICT_WORDS,
         OW_VERSION ffi::VERSION,
+        OW_BOOK_9260 ffi::BOOK_9260,
+        OW_BOOK_4960 ffi::BOOK_4960,
         OW_HEAD Refusal::TAG.0,
         OW_STATE Refusal::STATE.0,
         OW_DUPLICATE Refusal::DUPLICATE.0,

@@ -36,12 +36,13 @@ AT(keeping, 1, come);
 AT(keeping, 2, dups);
 AT(keeping, 3, listed);
 
-SIZE(sender, 5);
+SIZE(sender, 6);
 AT(sender, 0, acked);
 AT(sender, 1, next_tsn);
 AT(sender, 2, advertised);
 AT(sender, 3, oldest);
 AT(sender, 4, path);
+AT(sender, 5, mode);
 
 SIZE(path, 6);
 AT(path, 0, control);

@@ -44,8 +44,15 @@ static void opens(void) {
     struct ow_answer r;
     size_t n;
 
-    ours.record = ow_closed(36412);
-    theirs.record = ow_closed(36412);
+    ours.record = ow_closed(36412, 2);
+    CHECK(ow_associate(&ours.record, 0x11111111, 1000, 36412, 10, packet, sizeof packet).number == OW_RECORD);
+    ours.record = ow_closed(36412, OW_BOOK_4960);
+    CHECK(ours.record.head.sender.mode == OW_BOOK_4960 && ours.record.head.sender.path.clock.rto == 3000);
+    CHECK(ow_associate(&ours.record, 0x11111111, 1000, 36412, 10, packet, sizeof packet).number == OW_DONE);
+    CHECK(ours.record.head.sender.mode == OW_BOOK_4960 && ours.record.head.sender.path.control.cwnd == 2304);
+    ours.record = ow_closed(36412, OW_BOOK_9260);
+    theirs.record = ow_closed(36412, OW_BOOK_9260);
+    CHECK(ours.record.head.sender.path.clock.rto == 1000);
     CHECK(ow_t1(&ours.record, packet, sizeof packet).number == OW_STATE);
     CHECK(ow_associate(&ours.record, 0x11111111, 1000, 36412, 10, packet, sizeof packet - 1).number == OW_SHORT);
     CHECK(ow_associate(&ours.record, 0, 1000, 36412, 10, packet, sizeof packet).number == OW_OPENING);

@@ -4,7 +4,7 @@ use crate::parcel::is_name;
 use crate::relay::Weather;
 use crate::Failure;
 use oilwhisper::admission::Network;
-use oilwhisper::endpoint::Config;
+use oilwhisper::endpoint::{Book, Config};
 use oilwhisper::pcap::ENCAPSULATION;
 use std::net::{Ipv4Addr, Ipv6Addr, SocketAddr, ToSocketAddrs};
 use std::path::PathBuf;
@@ -33,6 +33,8 @@ pub struct Demo {
     pub messages: u64,
     pub seed: u64,
     pub weather: Weather,
+    /// What both ends keep to when they send.
+    pub book: Book,
     pub pcap: Option<PathBuf>,
 }
 
@@ -121,6 +123,7 @@ fn demo(mut options: Options) -> Result<Demo, Failure> {
             reorder: options.percent("--reorder", 2.0)?,
             damage: options.percent("--damage", 0.2)?,
         },
+        book: options.book()?,
         pcap: options.path("--pcap"),
     };
     options.end().map(|()| demo)
@@ -254,6 +257,15 @@ impl Options {
         }
     }
 
+    /// The number of an RFC.
+    fn book(&mut self) -> Result<Book, Failure> {
+        match self.text("--book").as_deref() {
+            None | Some("9260") => Ok(Book::Rfc9260),
+            Some("4960") => Ok(Book::Rfc4960),
+            Some(text) => Err(Failure(format!("--book takes 9260 or 4960, not '{}'", text))),
+        }
+    }
+
     fn beats(&mut self) -> Result<Beats, Failure> {
         let usual = Config::on_a_rail(0);
         let heartbeat = Duration::from_secs(self.number("--heartbeat", usual.heartbeat.as_secs(), 1, 3600)?);
@@ -343,9 +355,12 @@ mod tests {
                 assert_eq!(demo.weather.repeat, 0.01);
                 assert_eq!(demo.seed, 9);
                 assert_eq!(demo.pcap, Some(PathBuf::from("/tmp/x")));
+                assert_eq!(demo.book, Book::Rfc9260);
             }
             other => panic!("{:?}", other),
         }
+        assert!(matches!(parsed("demo --book 4960"), Ok(Command::Demo(Demo { book: Book::Rfc4960, .. }))));
+        assert!(matches!(parsed("demo --book 9260"), Ok(Command::Demo(Demo { book: Book::Rfc9260, .. }))));
     }
 
     #[test]
@@ -413,6 +428,7 @@ mod tests {
     #[test]
     fn what_is_wrong_is_named() {
         assert!(complaint("paint").contains("'paint' is no command"));
+        assert!(complaint("demo --book 7").contains("--book takes 9260 or 4960, not '7'"));
         assert!(complaint("demo --loss 101").contains("--loss takes percent"));
         assert!(complaint("demo --loss").contains("--loss needs a value"));
         assert!(complaint("demo --messages 0").contains("--messages takes a number from 1"));

@@ -10,8 +10,9 @@ use crate::stop::{Stop, Wish};
 use crate::taker::{Field, Sink};
 use crate::tiles::{Album, Plan, BANDS};
 use crate::{bind, end_capture, start_capture, Failure};
+use oilwhisper::association::Association;
 use oilwhisper::counts::Counts;
-use oilwhisper::endpoint::{Config, Endpoint};
+use oilwhisper::endpoint::{Book, Config, Endpoint};
 use oilwhisper::hub::{Hub, Settings};
 use oilwhisper::library::Library;
 use oilwhisper::pcap::{Capture, Tap};
@@ -139,7 +140,7 @@ fn run_ends<L: Library>(demo: &Demo, stop: &Stop, capture: Option<&Capture>, pro
     let field_address = field_socket.local_addr().map_err(Failure::of_network)?;
     let posts: Vec<Post> = (0..demo.heads).map(|n| Post::new(n, field_address)).collect::<Result<_, _>>()?;
     let shared = Shared::default();
-    announce(demo, field_address, progress);
+    announce::<L>(demo, field_address, progress);
     let began = Instant::now();
     let tap = |here: SocketAddr| capture.map(|capture| Tap::new(capture.clone(), here));
     let field_tap = posts.iter().fold(tap(field_address), |tap, post| tap.map(|tap| tap.shows_behind(post.to_head, post.address)));
@@ -174,8 +175,8 @@ fn run_ends<L: Library>(demo: &Demo, stop: &Stop, capture: Option<&Capture>, pro
     Ok(judge(demo, &heads, &field??, all, took))
 }
 
-fn announce(demo: &Demo, field: SocketAddr, progress: &mut dyn Write) {
-    let Demo { messages, weather, heads, .. } = demo;
+fn announce<L: Library>(demo: &Demo, field: SocketAddr, progress: &mut dyn Write) {
+    let Demo { messages, weather, heads, book, .. } = demo;
     let percent = [weather.loss, weather.repeat, weather.reorder, weather.damage].map(|part| part * 100.0);
     let [loss, repeat, reorder, damage] = percent;
     // A closed standard output must not end the run: the exit status still tells.
@@ -191,6 +192,12 @@ fn announce(demo: &Demo, field: SocketAddr, progress: &mut dyn Write) {
         reorder,
         damage
     );
+    let number = match book {
+        Book::Rfc9260 => 9260,
+        Book::Rfc4960 => 4960,
+    };
+    let first_rto = Association::<L>::closed(HEAD_PORT, *book).standing().rto;
+    let _ = writeln!(progress, "  sent by RFC {}: the first RTO is {:.1} s", number, first_rto.as_secs_f64());
 }
 
 fn joined<T>(thread: thread::ScopedJoinHandle<T>) -> Result<T, Failure> {
@@ -202,7 +209,7 @@ fn random() -> Result<Random, Failure> {
 }
 
 fn run_head<L: Library>(demo: &Demo, n: usize, post: &Post, tap: Option<Tap>, shared: &Shared, stop: &Stop) -> Result<HeadOutcome, Failure> {
-    let config = Config { streams: BANDS, first_tsn: Some(FIRST_TSN), ..Config::at_port(HEAD_PORT) };
+    let config = Config { streams: BANDS, first_tsn: Some(FIRST_TSN), book: demo.book, ..Config::at_port(HEAD_PORT) };
     let socket = post.socket.try_clone().map_err(Failure::of_network)?;
     let line = Line::<L>::new(Endpoint::new(config, random()?, Instant::now()), socket, tap);
     // A line that is lost here is a fault.
@@ -249,7 +256,7 @@ fn run_head<L: Library>(demo: &Demo, n: usize, post: &Post, tap: Option<Tap>, sh
 }
 
 fn run_field<L: Library>(demo: &Demo, socket: UdpSocket, tap: Option<Tap>, shared: &Shared) -> Result<FieldOutcome, Failure> {
-    let config = Config { streams: BANDS, ..Config::at_port(FIELD_PORT) };
+    let config = Config { streams: BANDS, book: demo.book, ..Config::at_port(FIELD_PORT) };
     let hub = Hub::<L>::new(Settings::for_heads(config, demo.heads), random()?, Instant::now());
     // It ends when the heads do.
     let mut field = Field::new(Station::new(hub, socket, tap), Sink::Compare(BTreeMap::new()), &Stop::default());
@@ -396,7 +403,7 @@ mod tests {
     const MESSAGES: u64 = 65_600;
 
     fn demo() -> Demo {
-        Demo { heads: 2, messages: MESSAGES, seed: 3, weather: Weather::FAIR, pcap: None }
+        Demo { heads: 2, messages: MESSAGES, seed: 3, weather: Weather::FAIR, book: Book::Rfc9260, pcap: None }
     }
 
     fn head() -> HeadOutcome {

@@ -55,6 +55,17 @@ fn a_circle_that_does_not_close_is_not_said_to() {
 }
 
 #[test]
+fn a_demonstration_tells_its_book() {
+    for (line, told) in [
+        ("demo --messages 40 --heads 1", "  sent by RFC 9260: the first RTO is 1.0 s\n"),
+        ("demo --messages 40 --heads 1 --book 4960", "  sent by RFC 4960: the first RTO is 3.0 s\n"),
+    ] {
+        let (_, said) = well(line);
+        assert!(said.contains(told), "{}", said);
+    }
+}
+
+#[test]
 fn both_circles_close_in_fair_weather() {
     let (ended, said) = well("demo --loss 0 --repeat 0 --reorder 0 --damage 0 --messages 65600 --heads 2");
     for head in 1..=2 {

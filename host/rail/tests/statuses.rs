@@ -41,6 +41,12 @@ fn a_bad_address_is_named() {
 }
 
 #[test]
+fn a_book_that_is_none_is_named() {
+    let said = "rail: --book takes 9260 or 4960, not '7'\n'rail help' tells what there is.\n";
+    assert_eq!(ended(Command::new(RAIL), "demo --book 7"), (Some(2), said.to_string()));
+}
+
+#[test]
 fn a_port_in_use_is_named() {
     let taken = UdpSocket::bind("127.0.0.1:0").and_then(|socket| socket.local_addr().map(|address| (socket, address)));
     let (_socket, at) = taken.expect("there is a free port");

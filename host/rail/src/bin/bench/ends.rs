@@ -2,6 +2,7 @@
 
 use oilwhisper::association::{peek, Association};
 use oilwhisper::calls::{Echoed, Lent, Peeked, State, OUTPUT};
+use oilwhisper::config::Book;
 use oilwhisper::library::Proved;
 
 const PORTS: [u16; 2] = [5000, 5001];
@@ -18,7 +19,7 @@ pub struct Opened {
 }
 
 pub fn open() -> Opened {
-    let (mut sender, mut receiver) = (End::closed(PORTS[0]), End::closed(PORTS[1]));
+    let (mut sender, mut receiver) = (End::closed(PORTS[0], Book::Rfc9260), End::closed(PORTS[1], Book::Rfc9260));
     let mut out = [0; OUTPUT];
     let length = sender.associate(1, FIRST_TSN, PORTS[1], STREAMS, &mut out).expect("a closed record can associate");
     let init = out[..length].to_vec();

@@ -5,6 +5,7 @@ use crate::checksum;
 use crate::clock::copied;
 use crate::ends::{open, Opened};
 use crate::filling::{fill, Filled, Lone};
+use oilwhisper::ffi::BOOK_9260;
 use oilwhisper::library::{Echoed, Lent, Library, Proved};
 use std::alloc::{alloc, dealloc, Layout};
 use std::ffi::c_void;
@@ -68,7 +69,7 @@ fn overwritten(mut call: Call) -> usize {
 /// What each call needs beyond what a thread with no call does; the deepest first. Each call is made of an end of its own.
 pub fn all() -> Vec<Needs> {
     let Filled { arriving, holding, handing_in, transmitting, sent, data, sack } = fill(127);
-    let closed = Lone::new(Proved::closed(5001));
+    let closed = Lone::new(Proved::closed(5001, BOOK_9260));
     let Opened { init, .. } = open();
     let unknown = checksum::packet(1472);
     let lent = Lent { tag: 2, tsn: 3, streams: 8 };
