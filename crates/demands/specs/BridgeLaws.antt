@@ -12,7 +12,7 @@ use Rattle.numbers.specs.declared.circle.StreamId.{StreamId}
 use Rattle.numbers.specs.declared.circle.Tsn.{Tsn}
 use Rattle.numbers.specs.Numbering.{circles}
 use Rattle.numbers.specs.Profile.{rail}
-use Rattle.path.specs.Sizes.{railSizes}
+use Rattle.path.specs.Sizes.{sizesOf}
 use Rattle.holding.specs.declared.taking.Answer.{Answer as Taking}
 use Rattle.holding.specs.declared.taking.Answer.the-variants.{Taken, Nothing, Short}
 use Rattle.holding.specs.Taking.{written}
@@ -89,7 +89,7 @@ module _ (a : Association) (b : Buffers) where
   unfolding expiringThird
   third-still =
       unless-still (barred a false call.ThirdTimer) _
-      (pick-keeps Still (eqb (expired railSizes (a .sending) .number) 0) _ _ (pick-keeps Still (expired railSizes (a .sending) .over) _ _ refl refl) refl)
+      (pick-keeps Still (eqb (expired (sizesOf (a .sending .mode)) (a .sending) .number) 0) _ _ (pick-keeps Still (expired (sizesOf (a .sending .mode)) (a .sending) .over) _ _ refl refl) refl)
 
   sample-still : (ms : ℕ) → Still (sampling a ms)
   unfolding sampling

@@ -1,5 +1,5 @@
 -- Whichever function is called, a record within its bounds stays within them. Assumes nothing.
-use Prim.Native.Nat.{ℕ, _<_, _^_}
+use Prim.Native.Nat.{ℕ, _<_, _≤_, _^_}
 use mathlib.Core.Path.{_≡_, sym, ap, subst, _∙_}
 use mathlib.Core.Bool.{false}
 use mathlib.Core.List.{List, [], _∷_}
@@ -59,13 +59,13 @@ head-sound : (g : Head) (ts : Tables) (a : Association) → shown g (ts .held) (
 head-sound g ts a e k = subst Kept (sym (ap (λ (x : Head). shown x (ts .held) (ts .next) (ts .places) (ts .nextOut) (ts .kept)) (unpack-pack g) ∙ e)) k
 
 -- whatever stood there
-pub closed-within : (b : Store) (words : length (b .verdicts) ≡ 1460) (port : ℕ) {t : Told} {x : Tables} → Closes port t x → Within (withTables b (t .kept) x (b .out))
-closed-within b words port e =
+pub closed-within : (b : Store) (words : length (b .verdicts) ≡ 1460) (port mode : ℕ) {t : Told} {x : Tables} → mode ≤ 1 → Closes port mode t x → Within (withTables b (t .kept) x (b .out))
+closed-within b words port mode m e =
     subst (λ (l : Left Tables). Within (withTables b (l .told .kept) (l .lent) (b .out))) (sym e)
     (record {
       whole = record { held = length-replicate {A = ℕ} 512 0; next = length-replicate {A = ℕ} 128 0; places = length-replicate {A = ℕ} 1024 0; nextOut = length-replicate {A = ℕ} 128 0; kept = length-replicate {A = ℕ} 256 0 };
       words = words;
-      sound = head-sound (headOf (closedAt port)) zeros (closedAt port) (closed-shows port) (kept-closedAt port);
+      sound = head-sound (headOf (closedAt port mode)) zeros (closedAt port mode) (closed-shows port mode) (kept-closedAt port mode m);
     })
 
 module _ (b : Store) (w : Within b) where

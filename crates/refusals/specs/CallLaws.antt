@@ -11,7 +11,7 @@ use Rattle.scans.specs.Scan.{pick}
 use Rattle.numbers.specs.declared.circle.StreamId.{StreamId}
 use Rattle.numbers.specs.Numbering.{circles}
 use Rattle.numbers.specs.Profile.{rail}
-use Rattle.path.specs.Sizes.{railSizes}
+use Rattle.path.specs.Sizes.{sizesOf}
 use Rattle.path.specs.Path as way
 use Rattle.holding.specs.declared.taking.Answer as took
 use Rattle.holding.specs.declared.taking.Answer.the-variants.{Taken, Nothing, Short}
@@ -129,14 +129,14 @@ module _ (n : ℕ) (h : Head) (places : List ℕ) where
   lapsed-left = go (eqb n 0)
     where
       by : (x y : Bool)
-          → (let e : Expired = pick x (pick y (record { number = 0; over = true; head = h .sender }) (record { number = 0; over = false; head = overdueHead railSizes rail (h .sender) places })) (record { number = 7; over = false; head = h .sender }) in
+          → (let e : Expired = pick x (pick y (record { number = 0; over = true; head = h .sender }) (record { number = 0; over = false; head = overdueHead (sizesOf (h .sender .mode)) rail (h .sender) places })) (record { number = 7; over = false; head = h .sender }) in
           0 < lapsedBy h e .number → (lapsedBy h e .head ≡ h) × (pick x (pick y places (overdueWords rail places)) places ≡ places))
       by true true p = absurd (omega arith)
       by true false p = absurd (omega arith)
       by false y p = (refl, refl)
 
       go : (t : Bool)
-          → (let x : Lapse = pick t (record { answer = lapsedBy h (expiredHead railSizes rail (h .sender) places); places = expiredWords railSizes rail (h .sender) places }) (record { answer = record { number = n; length = 0; over = false; head = h }; places = places }) in
+          → (let x : Lapse = pick t (record { answer = lapsedBy h (expiredHead (sizesOf (h .sender .mode)) rail (h .sender) places); places = expiredWords (sizesOf (h .sender .mode)) rail (h .sender) places }) (record { answer = record { number = n; length = 0; over = false; head = h }; places = places }) in
           0 < x .answer .number → (x .answer .head ≡ h) × (x .places ≡ places))
-      go true p = by (hasOutstanding (seen rail (h .sender) places [])) (way.isOver railSizes (h .sender .path)) p
+      go true p = by (hasOutstanding (seen rail (h .sender) places [])) (way.isOver (sizesOf (h .sender .mode)) (h .sender .path)) p
       go false p = (refl, refl)

@@ -1,6 +1,6 @@
 -- The table's column "Leaves" at the library's face: of every function that a host links, by its promise. "All" is the head, every word of both tables, the next
 -- SSNs both ways, the cookie's bytes, both areas, the words for verdicts and the output.
-use Prim.Native.Nat.{ℕ, _<_, _^_}
+use Prim.Native.Nat.{ℕ, _<_, _≤_, _^_}
 use mathlib.Core.Path.{_≡_}
 use mathlib.Core.List.{List}
 use lib.ListN.{length, getD}
@@ -69,7 +69,8 @@ fromPacket b k x = storeOf k (tablesOf (x .held) (x .next) (x .places) (x .nextO
 -- a call of a function that the host links told t, and made e of b: its promise, with what the types say of its numbers. What it is lent to read, or not at all,
 -- it cannot change. What is told beside the number, with a SACK's lists, is no part of a store; `ow_lent_peek`, `ow_version` and `ow_sizes` are lent none
 pub data Called (b : Store) (t : Told) (e : Store) : Type 0 where
-  close : (port : ℕ) (x : Tables) → Closes port t x → e ≡ withTables b (t .kept) x (b .out) → Called b t e
+  -- in a book that is known: closed in another, a record is outside its bounds
+  close : (port mode : ℕ) (x : Tables) → mode ≤ 1 → Closes port mode t x → e ≡ withTables b (t .kept) x (b .out) → Called b t e
   associate : (tag tsn port streams : ℕ) (x : AssociatedLent) → tsn < 2 ^ 32 → Associates (b .kept) tag tsn port streams (associatedLent (b .tables) (b .out)) t x
       → e ≡ withTables b (t .kept) (x .tables) (x .out) → Called b t e
   arrive : (packet : List ℕ) (lent : Lent) (cookie : List ℕ) (word : Echoed) (x : ArrivedLent) → All Octet packet → Worded word

@@ -72,7 +72,7 @@ module _ (b : Store) (t : Told) (e : Store) where
       same-out (answered-leaves (b .kept) (ts .held) (ts .next) (ts .places) (ts .nextOut) (ts .kept) (rule a (b .out)) (b .out) l (c (ts .next) (ts .nextOut) (ts .kept)) p)
 
   pub refusal-leaves : RefusalLeaves b t e
-  refusal-leaves (close port x c q) p = absurd (omega (arith, p, ap (λ (l : Left Tables). l .told .number) c))
+  refusal-leaves (close port mode x m c q) p = absurd (omega (arith, p, ap (λ (l : Left Tables). l .told .number) c))
   refusal-leaves (associate tag tsn port streams x f c q) p =
       let plan : Plan = associating a tag (record { 0 = tsn }) port streams (b .out) in
       let n : ℕ = answerOf plan (b .out) .number in
@@ -169,7 +169,7 @@ module _ (b : Store) (t : Told) (e : Store) where
   sends-within rule w s k c = answered-within b w (rule a (b .out)) s k (c (ts .next) (ts .nextOut) (ts .kept))
 
   pub stays-within : StaysWithin b t e
-  stays-within (close port x c q) w = subst Within (sym q) (closed-within b (w .words) port c)
+  stays-within (close port mode x m c q) w = subst Within (sym q) (closed-within b (w .words) port mode m c)
   stays-within (associate tag tsn port streams x f c q) w = subst Within (sym q) (associate-within b w tag tsn port streams f c)
   stays-within (arrive packet lent cookie word x f g c q) w = subst Within (sym q) (arrive-within b w packet lent cookie word f g c)
   stays-within (handIn message stream unordered ppid x f g c q) w = subst Within (sym q) (hand-in-within b w message stream unordered ppid f g c)

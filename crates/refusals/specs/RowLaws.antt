@@ -11,7 +11,7 @@ use Rattle.scans.specs.Scan.{pick}
 use Rattle.scans.specs.Upto.{pick-keeps}
 use Rattle.numbers.specs.Numbering.{circles}
 use Rattle.numbers.specs.Profile.{rail}
-use Rattle.path.specs.Sizes.{railSizes}
+use Rattle.path.specs.Sizes.{sizesOf}
 use Rattle.chunks.specs.declared.kind.Handling.{Handling}
 use Rattle.chunks.specs.declared.kind.Handling.the-variants.{Stop, StopAndReport, Skip, SkipAndReport}
 use Rattle.octets.specs.Writing.{wroteCount}
@@ -201,16 +201,16 @@ module _ (h : Head) (held next places nextOut kept area s : List ℕ) where
 
   sack-leaves : Points (placesSacked (h .sender) places s) (readSackBy h places s)
   unfolding readSackBy heardSack placesSacked ackedHead ackedWords
-  sack-leaves = sack-refusal sackJudged (acceptedHead railSizes rail (h .sender) places (sackIn s)) (acceptedWords rail (h .sender) places (sackIn s)) (eqb sackJudged 0)
+  sack-leaves = sack-refusal sackJudged (acceptedHead (sizesOf (h .sender .mode)) rail (h .sender) places (sackIn s)) (acceptedWords rail (h .sender) places (sackIn s)) (eqb sackJudged 0)
 
   pending-leaves : Points (placesSacked (h .sender) places s) (readSackPendingBy h places s)
   unfolding readSackPendingBy heardSack placesSacked ackedHead ackedWords
-  pending-leaves = then-refusal sackJudged (acceptedHead railSizes rail (h .sender) places (sackIn s)) (acceptedWords rail (h .sender) places (sackIn s)) shutdownOwed (λ a. took) (eqb sackJudged 0)
+  pending-leaves = then-refusal sackJudged (acceptedHead (sizesOf (h .sender .mode)) rail (h .sender) places (sackIn s)) (acceptedWords rail (h .sender) places (sackIn s)) shutdownOwed (λ a. took) (eqb sackJudged 0)
 
   received-leaves : Points (placesSacked (h .sender) places s) (readSackReceivedBy h places s)
   unfolding readSackReceivedBy heardSack placesSacked ackedHead ackedWords
   received-leaves =
-      then-refusal sackJudged (acceptedHead railSizes rail (h .sender) places (sackIn s)) (acceptedWords rail (h .sender) places (sackIn s)) (λ (q : Association). shutdownAcked q (ShutdownAckSent 0)) (λ a. took) (eqb sackJudged 0)
+      then-refusal sackJudged (acceptedHead (sizesOf (h .sender .mode)) rail (h .sender) places (sackIn s)) (acceptedWords rail (h .sender) places (sackIn s)) (λ (q : Association). shutdownAcked q (ShutdownAckSent 0)) (λ a. took) (eqb sackJudged 0)
 
   abbrev point : Sack
   point = shutOf (seen rail (h .sender) [] []) (pointOf s)
@@ -220,11 +220,11 @@ module _ (h : Head) (held next places nextOut kept area s : List ℕ) where
 
   shutdown-leaves : Points (placesShut (h .sender) places s) (readShutdownBy h places s)
   unfolding readShutdownBy heardPoint placesShut shutHead shutWords ackedHead ackedWords
-  shutdown-leaves = shutdown-refusal pointJudged (acceptedHead railSizes rail (h .sender) places point) (acceptedWords rail (h .sender) places point) (eqb pointJudged 15)
+  shutdown-leaves = shutdown-refusal pointJudged (acceptedHead (sizesOf (h .sender .mode)) rail (h .sender) places point) (acceptedWords rail (h .sender) places point) (eqb pointJudged 15)
 
   shut-leaves : (state : State) → Points (placesShut (h .sender) places s) (answerShutdownBy h places state s)
   unfolding answerShutdownBy heardPoint placesShut shutHead shutWords ackedHead ackedWords
-  shut-leaves state = shut-refusal pointJudged (acceptedHead railSizes rail (h .sender) places point) (acceptedWords rail (h .sender) places point) state (eqb pointJudged 15)
+  shut-leaves state = shut-refusal pointJudged (acceptedHead (sizesOf (h .sender .mode)) rail (h .sender) places point) (acceptedWords rail (h .sender) places point) state (eqb pointJudged 15)
 
   -- ---- what opens and closes
 
