@@ -45,10 +45,15 @@ pub fn taken_in(k: Sack, t: &mut [u32; 1024], from: Tsn) -> Took
         } else {
             let p = tables::place::place_at(t, i);
             let q = k.settled(p);
-            newly += sack::newly_bytes(p, q);
-            highest = path::measure::greater(highest, sack::newly_offset(p, q, from));
-            tables::place::put_state(t, i, q);
-            i += 1;
+            if q.status == p.status {
+                tables::place::put_state(t, i, q);
+                i += 1;
+            } else {
+                newly += sack::newly_bytes(p, q);
+                highest = path::measure::greater(highest, sack::newly_offset(p, q, from));
+                tables::place::put_state(t, i, q);
+                i += 1;
+            }
         }
     }
     Took {
@@ -72,13 +77,21 @@ pub fn missed_all(t: &mut [u32; 1024], from: Tsn, limit: u64) -> Missing
             i += 1;
         } else {
             let p = tables::place::place_at(t, i);
-            let q = p.missed(from, limit);
-            struck = all::either(struck, p.reaches(from, limit));
-            flight += q.flight();
-            left = all::either(left, q.is_outstanding());
-            last = path::measure::greater(last, q.last(from));
-            tables::place::put_state(t, i, q);
-            i += 1;
+            if p.gets(from, limit) {
+                let q = p.missed(from, limit);
+                struck = all::either(struck, p.reaches(from, limit));
+                flight += q.flight();
+                left = all::either(left, q.is_outstanding());
+                last = path::measure::greater(last, q.last(from));
+                tables::place::put_state(t, i, q);
+                i += 1;
+            } else {
+                flight += p.flight();
+                left = all::either(left, p.is_outstanding());
+                last = path::measure::greater(last, p.last(from));
+                tables::place::put_state(t, i, p);
+                i += 1;
+            }
         }
     }
     Missing {

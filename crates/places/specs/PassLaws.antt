@@ -2,7 +2,7 @@
 -- its chunk; a free place stays and adds nothing. Assumes nothing.
 use Prim.Native.Nat.{ℕ, _+_, _<_}
 use mathlib.Core.Path.{_≡_, refl, ap}
-use mathlib.Core.Bool.{Bool, true, false}
+use mathlib.Core.Bool.{Bool, true, false, not}
 use mathlib.Core.List.{List, [], _∷_, map}
 use native.Mathlib.Omega.{arith}
 use borrow.Author.Tests.{ne-eqb, ltb-true}
@@ -135,3 +135,37 @@ module _ (p : Place) (h : p .status ≡ 0) where
   pub free-reaches : (from : Tsn) (limit : ℕ) → reaches from limit p ≡ false
   unfolding reaches
   free-reaches from limit = rw (free-gets from limit)
+
+-- ---- a place that a pass leaves as it is
+
+not-both : (b : Bool) → pick b (not b) false ≡ false
+not-both true = refl
+not-both false = refl
+
+-- one that keeps its status is not newly acknowledged
+module _ (p q : Place) (e : q .status ≡ p .status) where
+  same-outstanding : isOutstanding q ≡ isOutstanding p
+  unfolding isOutstanding
+  same-outstanding = rw e
+
+  same-newly : isNewly p q ≡ false
+  unfolding isNewly
+  same-newly = rw same-outstanding (not-both (isOutstanding p))
+
+  pub same-bytes : newlyBytes p q ≡ 0
+  unfolding newlyBytes
+  same-bytes = rw same-newly
+
+  pub same-offset : (from : Tsn) → newlyOffset from p q ≡ 0
+  unfolding newlyOffset
+  same-offset from = rw same-newly
+
+-- one that gets no miss stays as it is
+module _ (from : Tsn) (limit : ℕ) (p : Place) (e : gets from limit p ≡ false) where
+  pub unmissed : missed from limit p ≡ p
+  unfolding missed
+  unmissed = rw e
+
+  pub unreached : reaches from limit p ≡ false
+  unfolding reaches
+  unreached = rw e

@@ -8,17 +8,16 @@ use mathlib.Core.Path.{_≡_, refl, sym, ap, _∙_}
 use borrow.Author.Tests.{eq-eqb, ne-eqb}
 use Rattle.numbers.specs.Profile.{rail}
 use Rattle.scans.specs.Upto.{larger, Topping, top-start, top-more, top-end}
-use Rattle.scans.specs.Scan.{either, Counting, count-start, count-yes, count-no, count-end, Summing, sum-start, sum-more, sum-end, Asking, ask-more, ask-end}
+use Rattle.scans.specs.Scan.{either, Summing, sum-start, sum-more, sum-end, Asking, ask-more, ask-end}
 use Rattle.places.specs.declared.place.Place.{Place}
-use Rattle.places.specs.Places.{hasStatus, isOutstanding, flightOf, payloadOf, lastOf, marked, missed, reaches}
+use Rattle.places.specs.Places.{hasStatus, isOutstanding, flightOf, lastOf, missed, reaches}
 use Rattle.places.specs.Sack.{settled, newlyBytes, newlyOffset}
-use Rattle.places.specs.PassLaws.{taken-newly, taken-highest, tallied-is, empty-is, total-over, free-idle, free-light, free-last, free-bytes, free-offset, free-missed, free-reaches}
-use Rattle.tables.specs.Open.{by}
-use Rattle.tables.specs.Place.{placesOf, placeAt, vacant}
+use Rattle.places.specs.PassLaws.{taken-newly, taken-highest, free-idle, free-light, free-last, free-bytes, free-offset, free-missed, free-reaches, same-bytes, same-offset, unmissed, unreached}
+use Rattle.tables.specs.Place.{placesOf, vacant}
 use Rattle.tables.specs.PlaceLaws.{places-long}
 use Rattle.tables.specs.PlaceStates.{Stating, state-start, state-next, state-more, state-skip, state-end}
 use Rattle.marks.specs.Skip.{sum-skip, top-skip, ask-skip}
-use Rattle.marks.specs.Marking.{never, missing-by}
+use Rattle.marks.specs.Marking.{missing-by}
 use Rattle.marks.proofs.taken_in.Statement.{statement}
 use Rattle.marks.proofs.taken_in.Tie as tie
 use Rattle.marks.proofs.taken_in.Reads as reads
@@ -65,27 +64,11 @@ place-at-requires c κs = search needs
 settled-requires : tie.Need-settled-requires Inv-loop μ-loop
 settled-requires c κs = search needs
 
--- src/lib.rt:48:22
-newly-bytes-requires : tie.Need-newly-bytes-requires Inv-loop μ-loop
-newly-bytes-requires c κs = search needs
-
--- src/lib.rt:48:13
-add-newly : tie.Need-add-newly Inv-loop μ-loop
-add-newly c = search needs
-
--- src/lib.rt:49:55
-newly-offset-requires : tie.Need-newly-offset-requires Inv-loop μ-loop
-newly-offset-requires c κs = search needs
-
--- src/lib.rt:49:13
-greater-requires : tie.Need-greater-requires Inv-loop μ-loop
-greater-requires c κs = search needs
-
--- src/lib.rt:50:13
+-- src/lib.rt:49:17
 put-state-requires : tie.Need-put-state-requires Inv-loop μ-loop
 put-state-requires c κs = search needs
 
--- src/lib.rt:51:13
+-- src/lib.rt:50:17
 add-i-2 : tie.Need-add-i-2 Inv-loop μ-loop
 add-i-2 c = search needs
 
@@ -95,7 +78,39 @@ loop-less-2 c = search needs
 
 -- src/lib.rt:42:5
 loop-again-2 : tie.Need-loop-again-2 Inv-loop μ-loop
-loop-again-2 c = let w = c .before .before .before .before .before .before .before .before .before .before .before .before .loop .inv in let h = c .before .before .before .before .before .before .before .before .before .before .before .loop-test .taken in let e = c .before .before .before .before .before .before .place-at .ensures in let f = e ∙ state-next (w .0) h in (state-more (w .0) h (ap (λ (s : ℕ). eqb s 0) (sym (c .before .before .before .before .before .before .before .before .before .status-at .ensures)) ∙ ne-eqb _ _ (c .before .before .before .before .before .before .before .before .if1 .left)) (c .before .before .before .before .before .settled .ensures ∙ ap (settled (c .before .before .before .before .before .before .before .before .before .before .before .before .before .args .k)) e) (c .put-state .ensures), sum-more (w .1) vacant _ h (rw f at (rw (c .before .before .before .before .before .settled .ensures) at (c .before .before .before .before .newly-bytes .ensures .0))) (c .before .before .before .before .newly-bytes .ensures .1), top-more (w .2) vacant _ h (rw f at (rw (c .before .before .before .newly-offset .ensures, c .before .before .before .before .before .settled .ensures) at (c .before .before .greater .ensures))))
+loop-again-2 c = let w = c .before .before .before .before .before .before .before .before .before .before .before .before .loop .inv in let h = c .before .before .before .before .before .before .before .before .before .before .before .loop-test .taken in let e = c .before .before .before .before .before .before .place-at .ensures in let f = e ∙ state-next (w .0) h in let s = c .before .before .before .before .before .settled .ensures in let u = c .before .before .if2 .taken in (state-more (w .0) h (ap (λ (s : ℕ). eqb s 0) (sym (c .before .before .before .before .before .before .before .before .before .status-at .ensures)) ∙ ne-eqb _ _ (c .before .before .before .before .before .before .before .before .if1 .left)) (s ∙ ap (settled (c .before .before .before .before .before .before .before .before .before .before .before .before .before .args .k)) e) (c .put-state .ensures), sum-skip (w .1) vacant h (rw f at (rw s at (same-bytes (c .before .before .before .before .before .before .place-at .result) (c .before .before .before .before .before .settled .result) u))), top-skip (w .2) vacant h (rw f at (rw s at (same-offset (c .before .before .before .before .before .before .place-at .result) (c .before .before .before .before .before .settled .result) u (c .before .before .before .before .before .before .before .before .before .before .before .before .before .args .from)))))
+
+-- src/lib.rt:52:26
+newly-bytes-requires : tie.Need-newly-bytes-requires Inv-loop μ-loop
+newly-bytes-requires c κs = search needs
+
+-- src/lib.rt:52:17
+add-newly : tie.Need-add-newly Inv-loop μ-loop
+add-newly c = search (needs, c .before .before .before .before .before .before .before .before .before .before .before .loop .inv .1 .below, c .before .before .before .before .before .before .before .before .before .before .before .loop .inv .1 .within, c .before .before .before .before .before .before .before .before .before .before .loop-test .taken, c .newly-bytes .ensures .1)
+
+-- src/lib.rt:53:59
+newly-offset-requires : tie.Need-newly-offset-requires Inv-loop μ-loop
+newly-offset-requires c κs = search needs
+
+-- src/lib.rt:53:17
+greater-requires : tie.Need-greater-requires Inv-loop μ-loop
+greater-requires c κs = search needs
+
+-- src/lib.rt:54:17
+put-state-requires-2 : tie.Need-put-state-requires-2 Inv-loop μ-loop
+put-state-requires-2 c κs = search needs
+
+-- src/lib.rt:55:17
+add-i-3 : tie.Need-add-i-3 Inv-loop μ-loop
+add-i-3 c = search needs
+
+-- src/lib.rt:42:5
+loop-less-3 : tie.Need-loop-less-3 Inv-loop μ-loop
+loop-less-3 c = search needs
+
+-- src/lib.rt:42:5
+loop-again-3 : tie.Need-loop-again-3 Inv-loop μ-loop
+loop-again-3 c = let w = c .before .before .before .before .before .before .before .before .before .before .before .before .before .before .before .loop .inv in let h = c .before .before .before .before .before .before .before .before .before .before .before .before .before .before .loop-test .taken in let e = c .before .before .before .before .before .before .before .before .before .place-at .ensures in let f = e ∙ state-next (w .0) h in let s = c .before .before .before .before .before .before .before .before .settled .ensures in (state-more (w .0) h (ap (λ (s : ℕ). eqb s 0) (sym (c .before .before .before .before .before .before .before .before .before .before .before .before .status-at .ensures)) ∙ ne-eqb _ _ (c .before .before .before .before .before .before .before .before .before .before .before .if1 .left)) (s ∙ ap (settled (c .before .before .before .before .before .before .before .before .before .before .before .before .before .before .before .before .args .k)) e) (c .put-state2 .ensures), sum-more (w .1) vacant _ h (rw f at (rw s at (c .before .before .before .before .newly-bytes .ensures .0))) (c .before .before .before .before .newly-bytes .ensures .1), top-more (w .2) vacant _ h (rw f at (rw (c .before .before .before .newly-offset .ensures, s) at (c .before .before .greater .ensures))))
 
 -- src/lib.rt:35:1
 returns : tie.Need-returns Inv-loop μ-loop
@@ -114,12 +129,16 @@ taken-in-spec =
     loop-again
     place-at-requires
     settled-requires
-    newly-bytes-requires
-    add-newly
-    newly-offset-requires
-    greater-requires
     put-state-requires
     add-i-2
     loop-less-2
     loop-again-2
+    newly-bytes-requires
+    add-newly
+    newly-offset-requires
+    greater-requires
+    put-state-requires-2
+    add-i-3
+    loop-less-3
+    loop-again-3
     returns)
