@@ -141,8 +141,8 @@ fn is_expected(next: &[u16; Rail::STREAMS], h: Held) -> bool
 fn is_open(next: &[u16; Rail::STREAMS], h: Held) -> bool
     ensures { λ y. ⌜ y ≡ opens (ring (2 ^ 16)) rail (ssnsOf rail (now (next .entry))) h ⌝ }
 {
-    if message::is_left_end(h) {
-        return is_expected(next, h);
+    if is_expected(next, h) {
+        return message::is_left_end(h);
     }
     false
 }
@@ -202,9 +202,7 @@ pub(crate) fn choose_by(
     };
     let mut i: usize = 0;
     while i < Rail::PLACES {
-        if are_free(words, i) {
-            i += 8;
-        } else {
+        if held::is_used(words, i) {
             let h = held::held_at(words, i);
             if is_better(next, point, best, h) {
                 best = try_at(words, point, best, i, h, at);
@@ -212,6 +210,10 @@ pub(crate) fn choose_by(
             } else {
                 i += 1;
             }
+        } else if are_free(words, i) {
+            i += 8;
+        } else {
+            i += 1;
         }
     }
     best
