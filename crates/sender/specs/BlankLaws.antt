@@ -1,20 +1,25 @@
--- Places side by side that are free and have no misses, in the pass that looks at every place. Assumes nothing.
-use Prim.Native.Nat.{ℕ, zero, suc, _+_, _-_, _≤_}
+-- The pass that looks at every place: over places side by side that are free and have no misses, and a place by its status. Assumes nothing.
+use Prim.Native.Nat.{ℕ, zero, suc, _+_, _-_, _<_, _≤_}
 use mathlib.Core.Path.{_≡_, refl, sym, ap, _∙_, subst}
 use mathlib.Core.Bool.{Bool, true, false, not}
-use mathlib.Core.List.{List}
+use mathlib.Core.List.{List, [], _∷_}
 use native.Mathlib.Omega.{arith}
-use borrow.Author.Tests.{le-ltb, ne-eqb, ltb-false, eqb-true}
-use lib.ListN.{take, replicate, length-replicate}
+use borrow.Author.Tests.{le-ltb, eq-eqb, ne-eqb, ltb-false, eqb-true}
+use lib.ListN.{take, set, getD, replicate, length-replicate}
 use lib.Seq.{take-all}
 use lib.Dec.{eqb, ltb}
+use mir.Val.{boolByte}
 use Rattle.numbers.specs.declared.circle.Tsn.{Tsn}
 use Rattle.numbers.specs.Profile.{Profile}
-use Rattle.scans.specs.Scan.{pick, either}
+use Rattle.scans.specs.Scan.{pick, either, Folding}
 use Rattle.scans.specs.Each.{clash, after-so, pick-self}
 use Rattle.places.specs.declared.place.Place.{Place}
-use Rattle.sending.specs.Bounds.{isOdd}
-use Rattle.sending.specs.Survey.{Surveyed, Surveying, survey-start, survey-free, survey-end}
+use Rattle.places.specs.Places.{hasStatus, isSent, weightOf, flightOf, offsetOf}
+use Rattle.places.specs.Laws.{flight-flying, flight-other, status-sent, unsent}
+use Rattle.sending.specs.Sending.{noPlace}
+use Rattle.sending.specs.Bounds.{isOdd, keyOf, spotOf}
+use Rattle.sending.specs.BoundsLaws.{spot-none, noting}
+use Rattle.sending.specs.Survey.{Surveyed, Surveying, survey-start, survey-free, survey-more, survey-end}
 use Rattle.tables.specs.Place.{placesOf, placeAt}
 use Rattle.tables.specs.PlaceLaws.{places-long}
 use Rattle.sender.specs.Seen.{isBlank, blankFor}
@@ -91,3 +96,84 @@ pub next-follows : (d : ℕ) (f : ℕ → Bool) (b : Bool) → f 0 ≡ false →
 next-follows zero f b e g = refl
 next-follows (suc zero) f b e g = rw (e, g)
 next-follows (suc (suc d)) f b e g = rw (ne-eqb (suc (suc d)) 1 (λ q. omega arith), le-ltb (suc (suc d)) 1 (omega arith), ne-eqb 0 (suc (suc d) - 1) (λ q. omega arith))
+
+-- ---- a place by its status
+
+take-past : {A : Type 0} (l : List A) (n j : ℕ) (v : A) → n ≤ j → take n (set l j v) ≡ take n l
+take-past l zero j v h = refl
+take-past [] (suc n) j v h = refl
+take-past (x ∷ l) (suc n) zero v h = absurd (omega arith)
+take-past {A} (x ∷ l) (suc n) (suc j) v h = ap (λ (r : List A). x ∷ r) (take-past l n j v (omega arith))
+
+flying-flight : (p : Place) → p .status ≡ 2 → weightOf p ≡ flightOf p
+flying-flight p e = sym (flight-flying p (eq-eqb (p .status) 2 e))
+
+flying-sent : (p : Place) → p .status ≡ 2 → isSent p ≡ true
+flying-sent p e = status-sent p (omega arith) (omega arith)
+
+sent-key : (acked : Tsn) (oldest : ℕ) (p : Place) → isSent p ≡ true → offsetOf acked p ≡ keyOf true acked oldest p
+unfolding keyOf
+sent-key acked oldest p e = rw e
+
+waiting-key : (acked : Tsn) (oldest : ℕ) (p : Place) → p .status ≡ 1 → keyOf true acked oldest p ≡ 0
+unfolding keyOf
+waiting-key acked oldest p e = rw (unsent p (omega arith))
+
+other-key : (acked : Tsn) (oldest : ℕ) (p : Place) → (p .status ≡ 1 → ⊥) → keyOf false acked oldest p ≡ 0
+unfolding keyOf
+other-key acked oldest p e = rw (ne-eqb (p .status) 1 e)
+
+-- a note at the spot of no number is none
+unnoted : {P : Profile} {acked : Tsn} {oldest : ℕ} {ps : List Place} {i f : ℕ} {o : Bool} {s t : ℕ} {a b : List Bool} → Surveying P acked oldest ps i f o s t (set a (P .places) true) b
+    → Surveying P acked oldest ps i f o s t a b
+unnoted {P} {acked} {oldest} {ps} {i} {f} {o} {s} {t} {a} {b} w = record {
+  flight = w .flight;
+  odd = w .odd;
+  sent = w .sent;
+  waiting = w .waiting;
+  numbers = subst (λ (l : List Bool). Folding (noting P true acked oldest) (replicate (P .places) false) ps (P .places) i l) (take-past a (P .places) (P .places) true (omega arith)) (w .numbers);
+  orders = w .orders;
+}
+
+unordered : {P : Profile} {acked : Tsn} {oldest : ℕ} {ps : List Place} {i f : ℕ} {o : Bool} {s t : ℕ} {a b : List Bool} → Surveying P acked oldest ps i f o s t a (set b (P .places) true)
+    → Surveying P acked oldest ps i f o s t a b
+unordered {P} {acked} {oldest} {ps} {i} {f} {o} {s} {t} {a} {b} w = record {
+  flight = w .flight;
+  odd = w .odd;
+  sent = w .sent;
+  waiting = w .waiting;
+  numbers = w .numbers;
+  orders = subst (λ (l : List Bool). Folding (noting P false acked oldest) (replicate (P .places) false) ps (P .places) i l) (take-past b (P .places) (P .places) true (omega arith)) (w .orders);
+}
+
+module _ {P : Profile} {acked : Tsn} {oldest : ℕ} {ps : List Place} {i flight : ℕ} {odd : Bool} {sent waiting : ℕ} {numbers orders : List Bool}
+    (w : Surveying P acked oldest ps i flight odd sent waiting numbers orders) (h : i < P .places) (p : Place) (e : p ≡ getD ps i noPlace) {o : Bool} (eo : o ≡ either odd (isOdd P p)) where
+  as-read : o ≡ either odd (isOdd P (getD ps i noPlace))
+  as-read = eo ∙ ap (λ (q : Place). either odd (isOdd P q)) e
+
+  -- it does not wait
+  sends : (p .status ≡ 1 → ⊥) → {f : ℕ} → f ≡ flightOf p → f ≤ 65551 → {s : Bool} → s ≡ isSent p → {j : ℕ} → j ≡ spotOf P (keyOf true acked oldest p)
+      → Surveying P acked oldest ps (i + 1) (flight + f) o (sent + boolByte s) waiting (set numbers j true) orders
+  sends n ef lf es ej =
+      let z : waiting + 0 ≡ waiting = omega arith in
+      let k : P .places ≡ spotOf P (keyOf false acked oldest (getD ps i noPlace)) = sym (ap (spotOf P) (ap (keyOf false acked oldest) (sym e) ∙ other-key acked oldest p n) ∙ spot-none P 0 (omega arith)) in
+      rw z at (unordered {b = orders} (survey-more w h (ef ∙ ap flightOf e) lf as-read (es ∙ ap isSent e) {t = false} (sym (ap (hasStatus 1) (sym e) ∙ ne-eqb (p .status) 1 n)) (ej ∙ ap (λ (q : Place). spotOf P (keyOf true acked oldest q)) e) k))
+
+  pub survey-flying : p .status ≡ 2 → {f : ℕ} → f ≡ weightOf p → f ≤ 65551 → {j : ℕ} → j ≡ spotOf P (offsetOf acked p)
+      → Surveying P acked oldest ps (i + 1) (flight + f) o (sent + 1) waiting (set numbers j true) orders
+  survey-flying s ef lf ej =
+      sends (λ q. omega arith) (ef ∙ flying-flight p s) lf {s = true} (sym (flying-sent p s)) (ej ∙ ap (spotOf P) (sent-key acked oldest p (flying-sent p s)))
+
+  -- one that neither waits nor counts in flight
+  pub survey-apart : (p .status ≡ 2 → ⊥) → (p .status ≡ 1 → ⊥) → {s : Bool} → s ≡ isSent p → {j : ℕ} → j ≡ spotOf P (keyOf true acked oldest p)
+      → Surveying P acked oldest ps (i + 1) flight o (sent + boolByte s) waiting (set numbers j true) orders
+  survey-apart m n es ej =
+      let z : flight + 0 ≡ flight = omega arith in
+      rw z at (sends n {f = 0} (sym (flight-other p (ne-eqb (p .status) 2 m))) (omega arith) es ej)
+
+  pub survey-waiting-one : p .status ≡ 1 → {k : ℕ} → k ≡ spotOf P (keyOf false acked oldest p) → Surveying P acked oldest ps (i + 1) flight o sent (waiting + 1) numbers (set orders k true)
+  survey-waiting-one s ek =
+      let y : flight + 0 ≡ flight = omega arith in
+      let z : sent + 0 ≡ sent = omega arith in
+      let j : P .places ≡ spotOf P (keyOf true acked oldest (getD ps i noPlace)) = sym (ap (spotOf P) (ap (keyOf true acked oldest) (sym e) ∙ waiting-key acked oldest p s) ∙ spot-none P 0 (omega arith)) in
+      rw (y, z) at (unnoted {a = numbers} (survey-more w h {f = 0} (sym (ap flightOf (sym e) ∙ flight-other p (ne-eqb (p .status) 2 (λ q. omega arith)))) (omega arith) as-read {s = false} (sym (ap isSent (sym e) ∙ unsent p (omega arith))) {t = true} (sym (ap (hasStatus 1) (sym e) ∙ eq-eqb (p .status) 1 s)) j (ek ∙ ap (λ (q : Place). spotOf P (keyOf false acked oldest q)) e)))

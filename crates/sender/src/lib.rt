@@ -171,18 +171,27 @@ fn survey_of(t: &[u32; 1024], start: usize, acked: Tsn, oldest: u32) -> Survey
             i += 8;
         } else {
             let p = tables::place::place_at(t, i);
-            if p.status == Place::FREE {
+            if p.status == Place::FLYING {
                 v.odd = bounds::or_odd(v.odd, p);
+                v.flight += p.weight();
+                v.sent += 1;
+                let j = bounds::spot_of(p.offset(acked) as u64);
+                v.seen_sent[j] = true;
+                i += 1;
+            } else if p.status == Place::FREE {
+                v.odd = bounds::or_odd(v.odd, p);
+                i += 1;
+            } else if p.status == Place::WAITING {
+                v.odd = bounds::or_odd(v.odd, p);
+                v.waiting += 1;
+                let k = bounds::spot_of(bounds::key_of(p, false, acked, oldest));
+                v.seen_waiting[k] = true;
                 i += 1;
             } else {
                 v.odd = bounds::or_odd(v.odd, p);
-                v.flight += p.flight();
                 v.sent += p.is_sent() as usize;
-                v.waiting += (p.status == Place::WAITING) as usize;
                 let j = bounds::spot_of(bounds::key_of(p, true, acked, oldest));
                 v.seen_sent[j] = true;
-                let k = bounds::spot_of(bounds::key_of(p, false, acked, oldest));
-                v.seen_waiting[k] = true;
                 i += 1;
             }
         }
