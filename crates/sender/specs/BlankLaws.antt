@@ -12,6 +12,7 @@ use mir.Val.{boolByte}
 use Rattle.numbers.specs.declared.circle.Tsn.{Tsn}
 use Rattle.numbers.specs.Profile.{Profile}
 use Rattle.scans.specs.Scan.{pick, either, Folding}
+use Rattle.scans.specs.Upto.{anyUpto, upto-start, upto-one, upto-end}
 use Rattle.scans.specs.Each.{clash, after-so, pick-self}
 use Rattle.places.specs.declared.place.Place.{Place}
 use Rattle.places.specs.Places.{hasStatus, isSent, weightOf, flightOf, offsetOf}
@@ -177,3 +178,23 @@ module _ {P : Profile} {acked : Tsn} {oldest : ℕ} {ps : List Place} {i flight 
       let z : sent + 0 ≡ sent = omega arith in
       let j : P .places ≡ spotOf P (keyOf true acked oldest (getD ps i noPlace)) = sym (ap (spotOf P) (ap (keyOf true acked oldest) (sym e) ∙ waiting-key acked oldest p s) ∙ spot-none P 0 (omega arith)) in
       rw (y, z) at (unnoted {a = numbers} (survey-more w h {f = 0} (sym (ap flightOf (sym e) ∙ flight-other p (ne-eqb (p .status) 2 (λ q. omega arith)))) (omega arith) as-read {s = false} (sym (ap isSent (sym e) ∙ unsent p (omega arith))) {t = true} (sym (ap (hasStatus 1) (sym e) ∙ eq-eqb (p .status) 1 s)) j (ek ∙ ap (λ (q : Place). spotOf P (keyOf false acked oldest q)) e)))
+
+-- ---- a loop that asks of every number up to n, and does not end early
+
+pub record Gapping (p : ℕ → Bool) (n i : ℕ) (gap : Bool) : Type 0 where
+  pub within : i ≤ n
+  pub rest : either gap (anyUpto p i (n - i)) ≡ anyUpto p 0 n
+
+pub gap-start : (p : ℕ → Bool) (n : ℕ) → Gapping p n 0 false
+gap-start p n = record { within = omega arith; rest = upto-start (anyUpto p 0) n refl }
+
+module _ {p : ℕ → Bool} {n i : ℕ} {gap : Bool} (w : Gapping p n i gap) where
+  pub gap-more : {v : Bool} → i < n → v ≡ either gap (p i) → Gapping p n (i + 1) v
+  gap-more h e = record { within = omega arith; rest = rw e (go gap (p i) (anyUpto p (i + 1) (n - (i + 1))) ∙ upto-one (λ (m : ℕ). either gap (anyUpto p i m)) n i (w .rest) h) }
+    where
+      go : (a b c : Bool) → either (either a b) c ≡ either a (either b c)
+      go true b c = refl
+      go false b c = refl
+
+  pub gap-end : n ≤ i → gap ≡ anyUpto p 0 n
+  gap-end h = sym (pick-self gap) ∙ upto-end (λ (m : ℕ). either gap (anyUpto p i m)) n i (w .rest) h

@@ -4,6 +4,7 @@ use numbers::Tsn;
 use path::BookPath;
 use path::Path;
 use places::Place;
+use places::all;
 use sending::bounds;
 use sending::bounds::Survey;
 ghost use mathlib.Core.Path.{_≡_};
@@ -151,8 +152,8 @@ fn blank_before(t: &[u32; 1024]) -> usize
     i
 }
 
-// What one pass finds, where the places before `start` are free with no misses. Whether a place is odd is asked in both arms: of a free one only the
-// misses are left to look at.
+// What one pass finds, where the places before `start` are free with no misses. Each arm does only what a place of its status asks for: where many are
+// used, most are in flight. Whether eight are free is asked of none that is in flight.
 fn survey_of(t: &[u32; 1024], start: usize, acked: Tsn, oldest: u32) -> Survey
     requires { ⌜ (blankFor rail (now t) 0 start ≡ true) × (start ≤ 128) ⌝ }
     ensures { λ r. ⌜ Surveyed rail acked oldest (placesOf rail (now (t .entry))) r ⌝ }
@@ -167,52 +168,48 @@ fn survey_of(t: &[u32; 1024], start: usize, acked: Tsn, oldest: u32) -> Survey
     };
     let mut i: usize = start;
     while i < Rail::PLACES {
-        if are_blank(t, i) {
+        let p = tables::place::place_at(t, i);
+        if p.status == Place::FLYING {
+            v.odd = bounds::or_odd(v.odd, p);
+            v.flight += p.weight();
+            v.sent += 1;
+            let j = bounds::spot_of(p.offset(acked) as u64);
+            v.seen_sent[j] = true;
+            i += 1;
+        } else if are_blank(t, i) {
             i += 8;
+        } else if p.status == Place::FREE {
+            v.odd = bounds::or_odd(v.odd, p);
+            i += 1;
+        } else if p.status == Place::WAITING {
+            v.odd = bounds::or_odd(v.odd, p);
+            v.waiting += 1;
+            let k = bounds::spot_of(bounds::key_of(p, false, acked, oldest));
+            v.seen_waiting[k] = true;
+            i += 1;
         } else {
-            let p = tables::place::place_at(t, i);
-            if p.status == Place::FLYING {
-                v.odd = bounds::or_odd(v.odd, p);
-                v.flight += p.weight();
-                v.sent += 1;
-                let j = bounds::spot_of(p.offset(acked) as u64);
-                v.seen_sent[j] = true;
-                i += 1;
-            } else if p.status == Place::FREE {
-                v.odd = bounds::or_odd(v.odd, p);
-                i += 1;
-            } else if p.status == Place::WAITING {
-                v.odd = bounds::or_odd(v.odd, p);
-                v.waiting += 1;
-                let k = bounds::spot_of(bounds::key_of(p, false, acked, oldest));
-                v.seen_waiting[k] = true;
-                i += 1;
-            } else {
-                v.odd = bounds::or_odd(v.odd, p);
-                v.sent += p.is_sent() as usize;
-                let j = bounds::spot_of(bounds::key_of(p, true, acked, oldest));
-                v.seen_sent[j] = true;
-                i += 1;
-            }
+            v.odd = bounds::or_odd(v.odd, p);
+            v.sent += p.is_sent() as usize;
+            let j = bounds::spot_of(bounds::key_of(p, true, acked, oldest));
+            v.seen_sent[j] = true;
+            i += 1;
         }
     }
     v
 }
 
-// Whether one of the first n is missing.
+// Whether one of the first n is missing. The loop does not end early, so that a machine may take many flags at a time.
 fn has_gap(seen: &[bool; bounds::SPOTS], n: usize) -> bool
     requires { ⌜ n ≤ 128 ⌝ }
     ensures { λ r. ⌜ r ≡ hasGap (now (seen .entry)) n ⌝ }
 {
+    let mut gap = false;
     let mut j: usize = 0;
     while j < n {
-        if seen[j] {
-            j += 1;
-        } else {
-            return true;
-        }
+        gap = all::either(gap, !seen[j]);
+        j += 1;
     }
-    false
+    gap
 }
 
 // Whether there are n, and each of the numbers 1 to n is among theirs.
