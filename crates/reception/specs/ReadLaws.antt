@@ -1,21 +1,23 @@
 -- The loops over the held chunks, by the place that was read from its words. Assumes nothing.
-use Prim.Native.Nat.{ℕ, _+_, _%_, _<_, _≤_}
-use mathlib.Core.Path.{_≡_, refl, ap, _∙_}
+use Prim.Native.Nat.{ℕ, zero, suc, _+_, _%_, _<_, _≤_}
+use mathlib.Core.Path.{_≡_, refl, sym, ap, _∙_}
 use mathlib.Core.Bool.{Bool, true, false, not}
-use mathlib.Core.List.{List}
+use mathlib.Core.List.{List, [], _∷_}
 use native.Mathlib.Omega.{arith}
 use native.Mathlib.Decide.{decLt}
 use borrow.Author.Tests.{lt-ltb, le-ltb}
 use lib.ListN.{length, getD, set, take, replicate}
+use lib.Dec.{ltb}
 use mir.Val.{boolByte}
 use Rattle.numbers.specs.declared.keeping.Keeping.{Keeping}
 use Rattle.numbers.specs.Numbering.{Numbering}
 use Rattle.numbers.specs.Profile.{Profile}
 use Rattle.scans.specs.Scan.{pick, any, either, Counting, count-start, count-no, Seeking, seek-no}
+use Rattle.scans.specs.Each.{neither}
 use Rattle.holding.specs.declared.held.Held.{Held}
 use Rattle.holding.specs.Held.{noHeld, holds}
 use Rattle.delivery.specs.Receiving.{isLow}
-use Rattle.delivery.specs.LowLaws.{low-free}
+use Rattle.delivery.specs.LowLaws.{lowBy, low-free}
 use Rattle.delivery.specs.Contradiction.{contradictsNext}
 use Rattle.delivery.specs.LookLaws.{Looking, look-used, look-free, orFree}
 use Rattle.delivery.specs.Bounds.{isTwice, isUnfit}
@@ -23,6 +25,30 @@ use Rattle.delivery.specs.BoundsLaws.{unfit-free}
 use Rattle.taking.specs.Taking.{freeFor}
 use Rattle.taking.specs.FreeLaws.{over-free, free-first}
 use Rattle.reception.specs.NoteLaws.{Checking, check-start, check-free, check-new, check-held, check-same}
+
+-- a flag as it is
+abbrev pub itself : Bool → Bool
+itself flag = flag
+
+pub not-so : (b : Bool) → not b ≡ true → b ≡ false
+not-so true e = sym e
+not-so false e = refl
+
+-- where none is set, no one that is read is
+pub none-set : (flags : List Bool) → any itself flags ≡ false → (j : ℕ) → getD flags j false ≡ false
+none-set [] e zero = refl
+none-set [] e (suc j) = refl
+none-set (flag ∷ flags) e zero = neither flag (any itself flags) e .0
+none-set (flag ∷ flags) e (suc j) = none-set flags (neither flag (any itself flags) e .1) j
+
+-- a held chunk whose flag is not set is low
+pub low-unset : (P : Profile) (d : ℕ) {flag : Bool} → flag ≡ false → true ≡ lowBy P d flag
+low-unset P d e = rw e (go (ltb d 1) (ltb (P .places) d))
+  where
+    go : (a b : Bool) → true ≡ pick a true (pick b true true)
+    go true b = refl
+    go false true = refl
+    go false false = refl
 
 -- a used place, as it was read, in the pass that an arrival makes
 module _ {T : Numbering} {P : Profile} {k : Keeping} {hs : List Held} {h : Held} {i a : ℕ} {b d : Bool} {f : ℕ} (w : Looking T P k hs h i a b d f)
