@@ -11,12 +11,13 @@ use Rattle.numbers.specs.declared.circle.Ssn.{Ssn}
 use Rattle.numbers.specs.Numbering.{Numberings}
 use Rattle.numbers.specs.Profile.{Profile}
 use Rattle.scans.specs.Scan.{pick, Counting, count-yes}
-use Rattle.scans.specs.Each.{clash}
+use Rattle.scans.specs.Each.{clash, fails-behind}
 use Rattle.holding.specs.declared.held.Held.{Held}
 use Rattle.holding.specs.Held.{noHeld, isFree}
 use Rattle.holding.specs.declared.message.Best.{Best}
-use Rattle.holding.specs.MessageLaws.{Choosing, choose-worse}
-use Rattle.holding.specs.TableLaws.{free-not-better}
+use Rattle.holding.specs.Message.{isLeftEnd, isExpected}
+use Rattle.holding.specs.MessageLaws.{isBetter, Choosing, choose-worse}
+use Rattle.holding.specs.TableLaws.{opens-is, better-is, free-not-better}
 use Rattle.taking.specs.Taking.{freeFor}
 
 -- one, and one more
@@ -91,3 +92,7 @@ pub choose-free : (N : Numberings) (P : Profile) (hs : List Held) (next : List S
 choose-free N P hs next point {m} {i} {best} w l e =
     over-free (λ (k : ℕ). Choosing N P hs next point m k best) hs 8 i e
     (λ k a b u v. choose-worse N P hs next point v (omega arith) (free-not-better N P next point best (getD hs k noHeld) u)) w
+
+-- nor is a chunk whose message is not the next expected
+pub late-not-better : (N : Numberings) (P : Profile) (next : List Ssn) (point : ℕ) (best : Best) (h : Held) → isExpected (N .ssn) P next h ≡ false → isBetter N P next point best h ≡ false
+late-not-better N P next point best h e = rw (better-is N P next point best h, opens-is (N .ssn) P next h, fails-behind (isLeftEnd h) e)

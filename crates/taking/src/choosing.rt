@@ -137,6 +137,14 @@ fn is_expected(next: &[u16; Rail::STREAMS], h: Held) -> bool
     false
 }
 
+// Whether the message of the chunk in the place is unordered, or the next expected of its stream: of most places that are used this is all that is read.
+fn is_next_at(words: &[u32; held::WORDS], next: &[u16; Rail::STREAMS], place: usize) -> bool
+    ensures { λ y. ⌜ y ≡ isExpected (ring (2 ^ 16)) rail (ssnsOf rail (now (next .entry))) (getD (heldOf rail (now (words .entry))) place noHeld) ⌝ }
+{
+    let h = held::held_at(words, place);
+    is_expected(next, h)
+}
+
 // Whether a message that can be taken may begin with the chunk.
 fn is_open(next: &[u16; Rail::STREAMS], h: Held) -> bool
     ensures { λ y. ⌜ y ≡ opens (ring (2 ^ 16)) rail (ssnsOf rail (now (next .entry))) h ⌝ }
@@ -203,10 +211,14 @@ pub(crate) fn choose_by(
     let mut i: usize = 0;
     while i < Rail::PLACES {
         if held::is_used(words, i) {
-            let h = held::held_at(words, i);
-            if is_better(next, point, best, h) {
-                best = try_at(words, point, best, i, h, at);
-                i += 1;
+            if is_next_at(words, next, i) {
+                let h = held::held_at(words, i);
+                if is_better(next, point, best, h) {
+                    best = try_at(words, point, best, i, h, at);
+                    i += 1;
+                } else {
+                    i += 1;
+                }
             } else {
                 i += 1;
             }
