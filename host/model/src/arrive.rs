@@ -3,6 +3,7 @@
 use crate::association::{self, move_to};
 use crate::calls::kept_cookie;
 use crate::letting::{check, heeded};
+use crate::meeting::{self, Action};
 use crate::read::{self, padded, Seen};
 use crate::receiving;
 use crate::record::*;
@@ -56,7 +57,7 @@ fn named(number: u8, cause: u8, value: u32) -> Verdict {
 }
 
 pub fn arrive(a: &mut Association, area: &mut [u8], packet: &[u8], lent: Lent, cookie: &[u8], echoed: Echoed, out: &mut [u8]) -> Arrived {
-    let echoed = heeded(echoed);
+    let echoed = heeded(a, echoed);
     let number = check(a, area, packet, &echoed, out);
     let mut answer = Arrived { number, count: 0, verdicts: [NO_VERDICT; VERDICTS], length: 0 };
     if number != 0 {
@@ -97,32 +98,45 @@ impl<'a> Arriving<'a> {
         }
     }
 
-    // ---- Opening (section 5.1)
+    // ---- Opening (sections 5.1 and 5.2)
 
+    /// "INIT is no longer answered 7 in any state" (T-08). No INIT changes the record.
     fn init(&mut self, c: Seen<'_>) -> Verdict {
         let i = read::init(c);
-        if self.a.state != CLOSED {
-            return refused(7);
-        }
+        let own = self.own_init();
         let odd_cookie = self.cookie.is_empty() || self.cookie.len() > COOKIE_MOST;
-        let is_lent = self.lent.tag != 0 && self.lent.streams != 0 && self.lent.options == 0;
-        if !is_lent || odd_cookie || is_poor(&i) {
+        let is_closing = self.a.state == SHUTDOWN_ACK_SENT;
+        let options = if self.a.state == CLOSED { self.lent.options } else { self.a.ends.options };
+        let is_lent = own.tag != 0 && own.outs != 0 && options == 0 && !odd_cookie;
+        if is_poor(&i) || !is_closing && !is_lent {
             return refused(8);
+        }
+        // "it discards the INIT chunk and retransmits the SHUTDOWN ACK chunk" (section 9.2), to the peer that the association is with.
+        if is_closing {
+            self.reply.add(&write::chunk(read::SHUTDOWN_ACK, 0, &[]));
+            return accepted();
         }
         self.reply.tag = i.tag;
         if let Some(name) = read::host_name(c) {
             self.reply.add(&write::caused(read::ABORT, 5, name));
             return accepted();
         }
-        let ours = read::Init {
-            tag: self.lent.tag,
-            window: AREA as u32,
-            outs: self.lent.streams.min(STREAMS as u16).min(i.ins),
-            ins: STREAMS as u16,
-            tsn: self.lent.tsn,
-        };
+        let ours = read::Init { outs: own.outs.min(STREAMS as u16).min(i.ins), ..own };
         self.reply.add(&write::init_ack(ours, self.cookie, &read::reported_parameters(c)));
         accepted()
+    }
+
+    /// What an INIT ACK says of us. "the same parameters it sent in its original INIT chunk (including its Initiate Tag, unchanged)" where we sent one
+    /// (section 5.2.1); "a new Initiate Tag (randomly generated)", and "Other parameters … copied from the existing parameters of the association
+    /// (e.g., number of outbound streams)" where we are up (5.2.2).
+    fn own_init(&self) -> read::Init {
+        let lent = read::Init { tag: self.lent.tag, window: AREA as u32, outs: self.lent.streams, ins: STREAMS as u16, tsn: self.lent.tsn };
+        let outs = self.a.ends.streams_out;
+        match self.a.state {
+            CLOSED => lent,
+            COOKIE_WAIT | COOKIE_ECHOED => read::Init { tag: self.a.ends.my_tag, tsn: self.a.sending.next_tsn, outs, ..lent },
+            _ => read::Init { outs, ..lent },
+        }
     }
 
     fn init_ack(&mut self, c: Seen<'_>) -> Verdict {
@@ -155,9 +169,9 @@ impl<'a> Arriving<'a> {
         accepted()
     }
 
-    /// Only as the first chunk of its packet; refused 8 or 27, it leaves the rest unread (section 5.1.5).
+    /// Only as the first chunk of its packet; one that is not acted on leaves the rest unread (section 5.1.5, 5.2.4).
     fn cookie_echo(&mut self, c: Seen<'_>) -> Verdict {
-        if self.a.state != CLOSED || c.at != 12 {
+        if c.at != 12 {
             return refused(7);
         }
         let len = c.value().len();
@@ -170,6 +184,43 @@ impl<'a> Arriving<'a> {
             LATE => return named(27, CAUSE_STALE, 0),
             _ => return refused(27),
         }
+        if self.a.state == CLOSED {
+            return self.start(UP);
+        }
+        let action = meeting::action(self.a, &self.echoed.made);
+        let opens = matches!(self.a.state, COOKIE_WAIT | COOKIE_ECHOED);
+        self.ended = match action {
+            Some(Action::A) => self.a.state == SHUTDOWN_ACK_SENT,
+            Some(Action::B | Action::D) => false,
+            Some(Action::C) | None => true,
+        };
+        match action {
+            // "it MUST NOT set up a new association but instead resend the SHUTDOWN ACK and send an ERROR chunk with a 'Cookie Received While
+            // Shutting Down' error cause".
+            Some(Action::A) if self.a.state == SHUTDOWN_ACK_SENT => {
+                self.reply.add(&write::chunk(read::SHUTDOWN_ACK, 0, &[]));
+                self.reply.add(&write::caused(read::ERROR, 10, &[]));
+                accepted()
+            }
+            Some(Action::A) => self.start(RESTARTED),
+            // "stay in or enter the ESTABLISHED state": what has left it already is not led back.
+            Some(Action::B | Action::D) if opens => self.start(UP),
+            Some(Action::B) => {
+                self.a.ends.peer_tag = self.echoed.made.peer_tag;
+                self.reply.add(&write::chunk(read::COOKIE_ACK, 0, &[]));
+                event(RETAGGED)
+            }
+            Some(Action::D) => {
+                self.reply.add(&write::chunk(read::COOKIE_ACK, 0, &[]));
+                accepted()
+            }
+            Some(Action::C) => accepted(),
+            None => refused(7),
+        }
+    }
+
+    /// "a good echo starts from a fresh record only where it restarts (A) or enters ESTABLISHED".
+    fn start(&mut self, why: u8) -> Verdict {
         let m = self.echoed.made;
         let ends = Ends {
             local_port: self.a.ends.local_port,
@@ -182,7 +233,7 @@ impl<'a> Arriving<'a> {
         };
         *self.a = association::fresh(ESTABLISHED, ends, m.my_tsn, m.window, m.peer_tsn, self.a.sending.mode);
         self.reply.add(&write::chunk(read::COOKIE_ACK, 0, &[]));
-        event(UP)
+        event(why)
     }
 
     fn cookie_ack(&mut self) -> Verdict {

@@ -16,6 +16,11 @@ pub fn closed(port: u16, mode: u8) -> Association {
     fresh(CLOSED, Ends { local_port: port, ..Ends::default() }, 1, 0, 1, mode)
 }
 
+/// There is an association, and an INIT ACK or a cookie has told the peer's tag.
+pub fn knows_peer(a: &Association) -> bool {
+    a.state != CLOSED && a.state != COOKIE_WAIT
+}
+
 /// The state alone moves; its count of tries starts anew.
 pub fn move_to(a: &mut Association, state: u8) {
     a.state = state;

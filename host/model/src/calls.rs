@@ -34,6 +34,7 @@ fn is_short(out: &[u8]) -> bool {
 }
 
 const OPEN: [u8; 7] = [COOKIE_WAIT, COOKIE_ECHOED, ESTABLISHED, SHUTDOWN_PENDING, SHUTDOWN_SENT, SHUTDOWN_RECEIVED, SHUTDOWN_ACK_SENT];
+const EVERY: [u8; 8] = [CLOSED, COOKIE_WAIT, COOKIE_ECHOED, ESTABLISHED, SHUTDOWN_PENDING, SHUTDOWN_SENT, SHUTDOWN_RECEIVED, SHUTDOWN_ACK_SENT];
 const READS_DATA: [u8; 3] = [ESTABLISHED, SHUTDOWN_PENDING, SHUTDOWN_SENT];
 const READS_SACK: [u8; 3] = [ESTABLISHED, SHUTDOWN_PENDING, SHUTDOWN_RECEIVED];
 
@@ -257,8 +258,9 @@ pub fn error_stream(a: &mut Association, stream: u16, out: &mut [u8]) -> Answer 
     }
 }
 
+/// In every state: so is a stale cookie met.
 pub fn error_stale(a: &mut Association, port: u16, tag: u32, late: u32, out: &mut [u8]) -> Answer {
-    match bar(a, is_short(out), &[CLOSED]) {
+    match bar(a, is_short(out), &EVERY) {
         0 if a.ends.local_port == 0 || port == 0 || tag == 0 => refused(4),
         0 => {
             let to = Ends { peer_port: port, peer_tag: tag, ..a.ends };

@@ -3,6 +3,7 @@
 use crate::association::is_sound;
 use crate::call::{Call, Reply};
 use crate::letting::{heeded, is_addressed};
+use crate::meeting::{self, Action};
 use crate::read::{self, Seen};
 use crate::record::*;
 
@@ -17,7 +18,7 @@ pub struct Met<'a> {
 type Case = (&'static str, fn(&Met<'_>) -> bool);
 
 #[rustfmt::skip]
-pub const CASES: [Case; 32] = [
+pub const CASES: [Case; 44] = [
     ("an INIT with a Host Name ahead of what stops", |m| m.first(read::INIT).map_or(false, |c| host_name(c) < stop(c) && has_stop(c))),
     ("an INIT with a Host Name behind what stops", |m| m.first(read::INIT).map_or(false, is_passed)),
     ("an INIT ACK with a Host Name ahead of what stops",
@@ -53,6 +54,18 @@ pub const CASES: [Case; 32] = [
     ("a SACK with a window of 512 and nothing new: T3's tries kept", |m| m.is_nothing_new(read::SACK, |m, w| w == 512 && m.after.sending.path.tries > 0)),
     ("a SHUTDOWN with nothing new, the window closed: T3's tries kept",
         |m| m.is_nothing_new(read::SHUTDOWN, |m, _| m.before.sending.advertised < 512 && m.after.sending.path.tries > 0)),
+    ("a restart with messages held", |m| m.is_meeting(Some(Action::A), ESTABLISHED) && m.before.receiving.held.iter().any(|h| h.used)),
+    ("a restart in COOKIE-ECHOED", |m| m.is_meeting(Some(Action::A), COOKIE_ECHOED)),
+    ("a restart where we wait for SHUTDOWN COMPLETE", |m| m.is_meeting(Some(Action::A), SHUTDOWN_ACK_SENT)),
+    ("colliding INITs in COOKIE-WAIT", |m| m.is_meeting(Some(Action::B), COOKIE_WAIT)),
+    ("colliding INITs in COOKIE-ECHOED", |m| m.is_meeting(Some(Action::B), COOKIE_ECHOED)),
+    ("another tag of the peer in ESTABLISHED", |m| m.is_meeting(Some(Action::B), ESTABLISHED)),
+    ("our own cookie, late", |m| m.is_meeting(Some(Action::C), ESTABLISHED)),
+    ("an echo again in COOKIE-ECHOED", |m| m.is_meeting(Some(Action::D), COOKIE_ECHOED)),
+    ("an echo again in ESTABLISHED", |m| m.is_meeting(Some(Action::D), ESTABLISHED)),
+    ("an echo again that is stale", |m| m.is_meeting(Some(Action::D), ESTABLISHED) && m.word() == Some(LATE)),
+    ("an echo that the table does not show in COOKIE-WAIT", |m| m.is_meeting(None, COOKIE_WAIT)),
+    ("an echo that the table does not show in ESTABLISHED", |m| m.is_meeting(None, ESTABLISHED)),
 ];
 
 impl<'a> Met<'a> {
@@ -86,10 +99,29 @@ impl<'a> Met<'a> {
     fn is_blue(&self, number: u8, is: fn(&[u8], bool) -> bool) -> bool {
         match self.call {
             Call::Arrive { packet, echoed, .. } if self.before.state == CLOSED && self.reply.number() == number => {
-                let echoed = heeded(*echoed);
+                let echoed = heeded(self.before, *echoed);
                 is_addressed(self.before, packet, &echoed) && is(packet, echoed.word == GOOD)
             }
             _ => false,
+        }
+    }
+
+    /// A good echo that was let in in this state, and the table's action for it.
+    fn is_meeting(&self, action: Option<Action>, state: u8) -> bool {
+        match (self.call, self.arrived()) {
+            (Call::Arrive { echoed, .. }, Some((packet, r))) if self.before.state == state && r.number == 0 && packet[12] == read::COOKIE_ECHO => {
+                let is_read = !matches!(r.verdicts[0].number, 8 | 27);
+                is_read && meeting::action(self.before, &heeded(self.before, *echoed).made) == action
+            }
+            _ => false,
+        }
+    }
+
+    /// The host's own word on an echo.
+    fn word(&self) -> Option<u8> {
+        match self.call {
+            Call::Arrive { echoed, .. } => Some(echoed.word),
+            _ => None,
         }
     }
 

@@ -38,18 +38,20 @@ pub fn lent(r: &mut Random) -> Lent {
     Lent { tag, tsn: born::tsn(r), streams, options }
 }
 
-/// Mostly good, on values that an association can start from.
-pub fn echoed(r: &mut Random) -> Echoed {
+/// Mostly good, on values that an association can start from, with tags and ties that the record knows and others.
+pub fn echoed(r: &mut Random, a: &Association) -> Echoed {
+    let (ours, peers) = (a.ends.my_tag, a.ends.peer_tag);
+    let (my_tie, peer_tie) = r.pick(&[(0, 0), (ours, peers), (ours, peers), (ours, 0), (0, peers), (ours, peers ^ 1), (ours ^ 1, peers)]);
     let mut made = Made {
-        my_tag: r.word() | 1,
-        peer_tag: r.word() | 1,
+        my_tag: if r.one_in(2) { ours } else { r.word() | 1 },
+        peer_tag: if r.one_in(2) { peers } else { r.word() | 1 },
         streams_in: born::streams(r),
         streams_out: born::streams(r),
         my_tsn: born::tsn(r),
         peer_tsn: born::tsn(r),
         window: r.pick(&[1_500, 1_501, 65_536, u32::MAX]),
-        my_tie: r.pick(&[0, 0, 1, u32::MAX]),
-        peer_tie: r.pick(&[0, 0, 1, u32::MAX]),
+        my_tie,
+        peer_tie,
         options: 0,
     };
     match r.below(40) {
@@ -287,6 +289,9 @@ fn first_kind(r: &mut Random, state: u8) -> u8 {
     if r.one_in(3) {
         return r.below(16) as u8;
     }
+    if r.one_in(6) {
+        return r.pick(&[read::INIT, read::COOKIE_ECHO, read::COOKIE_ECHO]);
+    }
     let kinds: &[u8] = match state {
         CLOSED => &[read::INIT, read::COOKIE_ECHO, read::COOKIE_ECHO],
         COOKIE_WAIT => &[read::INIT_ACK, read::INIT_ACK, read::SHUTDOWN_ACK, read::ERROR, 200],
@@ -314,7 +319,7 @@ fn tag(r: &mut Random, a: &Association, first: &[u8], e: &Echoed) -> u32 {
     match first[0] {
         read::INIT => 0,
         read::ABORT | read::SHUTDOWN_COMPLETE if first[1] & 1 == 1 => a.ends.peer_tag,
-        read::COOKIE_ECHO if a.state == CLOSED => e.made.my_tag,
+        read::COOKIE_ECHO => e.made.my_tag,
         _ => a.ends.my_tag,
     }
 }
@@ -356,7 +361,7 @@ fn chunk_of_abort(r: &mut Random) -> Vec<u8> {
 
 /// A packet to an end with this record.
 pub fn packet(r: &mut Random, a: &Association) -> Crafted {
-    let echoed = echoed(r);
+    let echoed = echoed(r, a);
     let kind = first_kind(r, a.state);
     let first = chunk(r, a, kind);
     let tag = tag(r, a, &first, &echoed);

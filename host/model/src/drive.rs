@@ -3,7 +3,7 @@
 use std::sync::atomic::{AtomicBool, AtomicUsize, Ordering};
 use std::sync::Mutex;
 
-use crate::association;
+use crate::association::{self, knows_peer};
 use crate::bend;
 use crate::born;
 use crate::call::{Bytes, Call, Maker, Reply, GUARD};
@@ -176,16 +176,14 @@ impl<'m> Episode<'m> {
             self.make(who, &Call::Peek { packet: Bytes(c.packet.clone()) })?;
         }
         let (area, out) = (self.area(), self.out());
-        let kind = c.packet.get(12).copied();
         let call = Call::Arrive { packet: Bytes(c.packet), lent: c.lent, cookie: Bytes(c.cookie), echoed: c.echoed, area, out };
         let reply = self.make(who, &call)?;
         if reply.number() == 4 {
             // Packets of an association that is no more: one is enough.
             self.pool.retain(|p| p.0 != who);
         }
-        // A peer that starts anew while we are up: 01 leaves it to the host to abort.
-        let is_anew = matches!(kind, Some(read::INIT | read::COOKIE_ECHO));
-        if matches!(reply, Reply::Arrived(r) if is_anew && r.verdicts[0].number == 7) && self.mood != Mood::Hostile && self.r.one_in(2) {
+        // A peer with another tag may have other TSNs too: the host may abort.
+        if matches!(reply, Reply::Arrived(r) if r.verdicts[0].event == RETAGGED) && self.mood != Mood::Hostile && self.r.one_in(2) {
             let call = self.call(who, 13);
             self.make(who, &call)?;
         }
@@ -208,19 +206,26 @@ impl<'m> Episode<'m> {
 
     /// What a host lends with a packet: a cookie for an INIT, its word on the cookie of an echo.
     fn host(&mut self, who: usize, packet: Vec<u8>) -> Result<Crafted, Difference> {
-        let mut c = Crafted { lent: craft::lent(&mut self.r), echoed: craft::echoed(&mut self.r), cookie: Vec::new(), packet };
+        let a = *self.ends[who].record();
+        let mut c = Crafted { lent: craft::lent(&mut self.r), echoed: craft::echoed(&mut self.r, &a), cookie: Vec::new(), packet };
         let call = Call::Peek { packet: Bytes(c.packet.clone()) };
         let seen = match self.make(who, &call)? {
             Reply::Peeked(seen) => seen,
             _ => return Ok(c),
         };
         if seen.kind == SAW_INIT {
-            let tag = c.lent.tag;
-            let streams = u32::from(seen.outs.min(128)) << 16 | u32::from(seen.ins.min(c.lent.streams).min(128));
-            for n in [tag, c.lent.tsn, seen.tag, seen.tsn, seen.window, streams] {
+            // What the INIT ACK will say, by sections 5.2.1 and 5.2.2.
+            let (tag, tsn) = match a.state {
+                COOKIE_WAIT | COOKIE_ECHOED => (a.ends.my_tag, a.sending.next_tsn),
+                _ => (c.lent.tag, c.lent.tsn),
+            };
+            let outs = if a.state == CLOSED { c.lent.streams } else { a.ends.streams_out };
+            let ties = if knows_peer(&a) { (a.ends.my_tag, a.ends.peer_tag) } else { (0, 0) };
+            let streams = u32::from(seen.outs.min(128)) << 16 | u32::from(seen.ins.min(outs).min(128));
+            for n in [tag, tsn, seen.tag, seen.tsn, seen.window, streams, ties.0, ties.1] {
                 c.cookie.extend_from_slice(&n.to_be_bytes());
             }
-        } else if seen.kind == SAW_COOKIE_ECHO && seen.len == 24 {
+        } else if seen.kind == SAW_COOKIE_ECHO && seen.len == 32 {
             let at = |i: usize| read::be32(&c.packet, seen.at + 4 * i);
             c.echoed.made = Made {
                 my_tag: at(0),
@@ -230,7 +235,9 @@ impl<'m> Episode<'m> {
                 window: at(4),
                 streams_in: (at(5) >> 16) as u16,
                 streams_out: at(5) as u16,
-                ..Made::default()
+                my_tie: at(6),
+                peer_tie: at(7),
+                options: 0,
             };
             if !self.r.one_in(30) {
                 c.echoed.word = GOOD;

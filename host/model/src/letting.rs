@@ -1,18 +1,29 @@
 //! What lets a packet in: the order of its checks, and the ports and the tag that it must carry.
 
-use crate::association::{self, are_streams};
+use crate::association::{self, are_streams, knows_peer};
 use crate::read;
 use crate::record::*;
 
-/// A good word on values that no association can start from counts as bad, and so does a word that there is not.
-pub fn heeded(mut e: Echoed) -> Echoed {
+/// A good word on values that no association can start from counts as bad, and so does a word that there is not. "If both Verification Tags in the
+/// State Cookie match the Verification Tags of the current association, consider the State Cookie valid … even if the lifespan is exceeded" (section
+/// 5.2.4, 3).
+pub fn heeded(a: &Association, mut e: Echoed) -> Echoed {
     let m = &e.made;
     let is_agreed = are_streams(m.streams_in) && are_streams(m.streams_out) && m.options == 0;
     let is_made = m.my_tag != 0 && m.peer_tag != 0 && is_agreed && m.window >= WINDOW_LEAST;
     if e.word > GOOD || (e.word == GOOD && !is_made) {
         e.word = BAD;
     }
+    let both_match = knows_peer(a) && m.my_tag == a.ends.my_tag && m.peer_tag == a.ends.peer_tag;
+    if e.word == LATE && is_made && both_match {
+        e.word = GOOD;
+    }
     e
+}
+
+/// "a COOKIE ECHO … the cookie's, if good": in every state, since a peer that began anew has the tag that it was given then.
+fn is_of_cookie(tag: u32, e: &Echoed) -> bool {
+    e.word != GOOD || tag == e.made.my_tag
 }
 
 /// "4 port or tag"; "The first chunk settles which tag rule holds."
@@ -27,13 +38,14 @@ pub fn is_addressed(a: &Association, packet: &[u8], e: &Echoed) -> bool {
         return h.source != 0
             && match kind {
                 read::INIT => h.tag == 0,
-                read::COOKIE_ECHO => e.word != GOOD || h.tag == e.made.my_tag,
+                read::COOKIE_ECHO => is_of_cookie(h.tag, e),
                 _ => false,
             };
     }
     h.source == a.ends.peer_port
         && match kind {
             read::INIT => h.tag == 0,
+            read::COOKIE_ECHO => is_of_cookie(h.tag, e),
             read::ABORT | read::SHUTDOWN_COMPLETE if t => a.state != COOKIE_WAIT && h.tag == a.ends.peer_tag,
             _ => h.tag == a.ends.my_tag,
         }

@@ -34,6 +34,7 @@ mod craft;
 pub mod drive;
 pub mod flags;
 mod letting;
+mod meeting;
 pub mod numbers;
 mod path;
 pub mod random;

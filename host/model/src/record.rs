@@ -305,9 +305,9 @@ pub struct Made {
     pub peer_tsn: u32,
     /// The peer's window.
     pub window: u32,
-    /// Our tie-tag, 0 for none: nothing reads it yet.
+    /// Our tag of an association that stood when it was made; 0 for none.
     pub my_tie: u32,
-    /// The peer's tie-tag, 0 for none: nothing reads it yet.
+    /// The peer's tag of that association; 0 for none.
     pub peer_tie: u32,
     /// Options: there is none yet.
     pub options: u8,
@@ -406,6 +406,10 @@ pub const DOWN_STALE: u8 = 3;
 pub const DOWN_HOST_NAME: u8 = 4;
 /// Event of a chunk: closed, shut down by both.
 pub const DOWN_SHUT_DOWN: u8 = 5;
+/// Event of a chunk: the peer began anew; the record is fresh, and established.
+pub const RESTARTED: u8 = 6;
+/// Event of a chunk: the peer has another tag; nothing else of the record changed.
+pub const RETAGGED: u8 = 7;
 
 /// The call that a verdict names: none.
 pub const CAUSE_NONE: u8 = 0;

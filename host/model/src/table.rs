@@ -44,9 +44,11 @@ fn rows() -> Vec<(&'static str, Vec<u8>, [Cell; 8])> {
     let point = |p: u32| p.to_be_bytes();
     let stop: &[u8] = &[];
     vec![
-        ("INIT", write::chunk(read::INIT, 0, &write::init_fields(init)), [Is(CL, &[2], 0), N7, N7, N7, N7, N7, N7, N7]),
+        ("INIT", write::chunk(read::INIT, 0, &write::init_fields(init)), 
+            [Is(CL, &[2], 0), Is(CW, &[2], 0), Is(CE, &[2], 0), Is(ES, &[2], 0), Is(SP, &[2], 0), Is(SS, &[2], 0), Is(SR, &[2], 0), ACKS]),
         ("INIT ACK", write::chunk(read::INIT_ACK, 0, &with_cookie), [Tag, Is(CE, &[10], 0), N7, N7, N7, N7, N7, N7]),
-        ("COOKIE ECHO", write::chunk(read::COOKIE_ECHO, 0, b"cookie"), [Is(ES, &[11], UP), N7, N7, N7, N7, N7, N7, N7]),
+        ("COOKIE ECHO", write::chunk(read::COOKIE_ECHO, 0, b"cookie"),
+            [Is(ES, &[11], UP), Is(ES, &[11], UP), Is(ES, &[11], UP), Is(ES, &[11], 0), Is(SP, &[11], 0), Is(SS, &[11], 0), Is(SR, &[11], 0), Is(SA, &[11], 0)]),
         ("COOKIE ACK", write::chunk(read::COOKIE_ACK, 0, &[]), [Tag, N7, Is(ES, &[], UP), N7, N7, N7, N7, N7]),
         ("DATA", write::data(&data, b"tile"), [Tag, N7, N7, Is(ES, &[], 0), Is(SP, &[], 0), Is(SS, &[7], 0), N7, N7]),
         ("SACK of all", write::chunk(read::SACK, 0, &sack(FIRST)), [Tag, N7, N7, Not(16), Is(SS, &[7], 0), N7, ACKS, N7]),
@@ -69,6 +71,35 @@ fn rows() -> Vec<(&'static str, Vec<u8>, [Cell; 8])> {
         ("unknown, 01", write::chunk(0x40, 0, stop), [Tag, Unknown(4, &[]), Unknown(5, &[9]), Unknown(5, &[9]), Unknown(5, &[9]), Unknown(5, &[9]), Unknown(5, &[9]), Unknown(5, &[9])]),
         ("unknown, 10", write::chunk(0x80, 0, stop), [Tag, Unknown(2, &[]), Unknown(2, &[]), Unknown(2, &[]), Unknown(2, &[]), Unknown(2, &[]), Unknown(2, &[]), Unknown(2, &[])]),
         ("unknown, 11", write::chunk(0xC0, 0, stop), [Tag, Unknown(2, &[]), Unknown(3, &[9]), Unknown(3, &[9]), Unknown(3, &[9]), Unknown(3, &[9]), Unknown(3, &[9]), Unknown(3, &[9])]),
+    ]
+}
+
+/// Tags and ties of a good cookie, and what its echo comes to where there is an association, which has the tags 7 and 9: RFC 9260 section 5.2.4.
+#[rustfmt::skip]
+fn echoes() -> Vec<([u32; 4], [Cell; 7])> {
+    let up = Is(ES, &[11], UP);
+    let anew = Is(ES, &[11], RESTARTED);
+    let moved = |s: u8| Is(s, &[11], RETAGGED);
+    let again = |s: u8| Is(s, &[11], 0);
+    let late = |s: u8| Is(s, &[], 0);
+    let (x, y) = (MY_TAG + 1, PEER_TAG + 1);
+    let all = [N7; 7];
+    vec![
+        ([x, y, MY_TAG, PEER_TAG], [N7, anew, anew, anew, anew, anew, Is(SA, &[8, 9], 0)]),
+        ([MY_TAG, y, 0, 0], [up, up, moved(ES), moved(SP), moved(SS), moved(SR), moved(SA)]),
+        ([MY_TAG, y, MY_TAG, PEER_TAG], [up, up, moved(ES), moved(SP), moved(SS), moved(SR), moved(SA)]),
+        ([MY_TAG, y, 1, 2], [up, up, moved(ES), moved(SP), moved(SS), moved(SR), moved(SA)]),
+        ([x, PEER_TAG, 0, 0], [N7, late(CE), late(ES), late(SP), late(SS), late(SR), late(SA)]),
+        ([MY_TAG, PEER_TAG, 0, 0], [up, up, again(ES), again(SP), again(SS), again(SR), again(SA)]),
+        ([MY_TAG, PEER_TAG, MY_TAG, PEER_TAG], [up, up, again(ES), again(SP), again(SS), again(SR), again(SA)]),
+        ([x, y, 0, 0], all),
+        ([x, y, MY_TAG, 0], all),
+        ([x, y, 0, PEER_TAG], all),
+        ([x, y, MY_TAG, y], all),
+        ([x, y, x, PEER_TAG], all),
+        ([x, PEER_TAG, MY_TAG, PEER_TAG], all),
+        ([x, PEER_TAG, MY_TAG, 0], all),
+        ([x, PEER_TAG, 0, PEER_TAG], all),
     ]
 }
 
@@ -95,7 +126,8 @@ fn calls() -> Vec<(Call, [Outcome; 8])> {
         (Call::Abort { cause: 12, tsn: 0, out }, [no, (0, CL, 255), (0, CL, 6), (0, CL, 6), (0, CL, 6), (0, CL, 6), (0, CL, 6), (0, CL, 6)]),
         (Call::Heartbeat { value: [3; 8], out }, [no, no, no, stays(ES, 4), stays(SP, 4), no, stays(SR, 4), no]),
         (Call::Rtt { sample: 3 }, [no, stays(CW, 255), stays(CE, 255), stays(ES, 255), stays(SP, 255), stays(SS, 255), stays(SR, 255), stays(SA, 255)]),
-        (Call::ErrorStale { port: 20, tag: 9, late: 1, out }, [stays(CL, 9), no, no, no, no, no, no, no]),
+        (Call::ErrorStale { port: 20, tag: 9, late: 1, out }, 
+            [stays(CL, 9), stays(CW, 9), stays(CE, 9), stays(ES, 9), stays(SP, 9), stays(SS, 9), stays(SR, 9), stays(SA, 9)]),
     ]
 }
 
@@ -108,8 +140,12 @@ fn packet(tag: u32, chunk: &[u8]) -> Bytes {
 }
 
 fn arriving(tag: u32, chunk: &[u8]) -> Call {
-    let made =
-        Made { my_tag: MY_TAG, peer_tag: PEER_TAG, streams_in: 4, streams_out: 4, my_tsn: FIRST, peer_tsn: 1, window: 65_536, ..Made::default() };
+    arriving_with(tag, chunk, [MY_TAG, PEER_TAG, 0, 0])
+}
+
+/// With a good word on a cookie that has these tags and ties.
+fn arriving_with(tag: u32, chunk: &[u8], [my_tag, peer_tag, my_tie, peer_tie]: [u32; 4]) -> Call {
+    let made = Made { my_tag, peer_tag, streams_in: 4, streams_out: 4, my_tsn: FIRST, peer_tsn: 1, window: 65_536, my_tie, peer_tie, options: 0 };
     Call::Arrive {
         packet: packet(tag, chunk),
         lent: Lent { tag: MY_TAG, tsn: FIRST, streams: 4, options: 0 },
@@ -161,9 +197,13 @@ fn sent(b: &Buffers, length: usize) -> Vec<u8> {
 }
 
 fn is(core: &dyn Maker, state: u8, chunk: &[u8]) -> Cell {
-    let mut b = at(core, state);
     let tag = if chunk[0] == read::INIT { 0 } else { MY_TAG };
-    let reply = core.make(&arriving(tag, chunk), &mut b);
+    is_by(core, state, &arriving(tag, chunk))
+}
+
+fn is_by(core: &dyn Maker, state: u8, arriving: &Call) -> Cell {
+    let mut b = at(core, state);
+    let reply = core.make(arriving, &mut b);
     let r = match reply {
         Reply::Arrived(r) if r.number == 0 => r,
         _ => return Tag,
@@ -180,6 +220,7 @@ fn is(core: &dyn Maker, state: u8, chunk: &[u8]) -> Cell {
         [10] => &[10],
         [11] => &[11],
         [14] => &[14],
+        [8, 9] => &[8, 9],
         _ => &[255],
     };
     match v.fate {
@@ -197,6 +238,14 @@ pub fn faults(core: &dyn Maker) -> Vec<String> {
             let found = is(core, state as u8, &chunk);
             if found != *cell {
                 faults.push(format!("{name} in state {state}: {found:?}, and not {cell:?}"));
+            }
+        }
+    }
+    for (tags, cells) in echoes() {
+        for (state, cell) in (CW..).zip(cells) {
+            let found = is_by(core, state, &arriving_with(tags[0], &write::chunk(read::COOKIE_ECHO, 0, b"cookie"), tags));
+            if found != cell {
+                faults.push(format!("COOKIE ECHO with {tags:?} in state {state}: {found:?}, and not {cell:?}"));
             }
         }
     }

@@ -107,7 +107,7 @@ fn no_packet_has_port_0() {
     }
     let mut e = End::closed(10);
     assert_eq!(Model.associate(&mut e.a, MY_TAG, 100, 20, 4, &mut e.out).number, 0);
-    assert_eq!(Model.error_stale(&mut e.a, 0, 0, 1, &mut e.out).number, 7);
+    assert_eq!(Model.error_stale(&mut e.a, 0, 0, 1, &mut e.out).number, 4);
     assert_eq!(Model.associate(&mut e.a, 0, 100, 0, 0, &mut e.out).number, 7);
 }
 
