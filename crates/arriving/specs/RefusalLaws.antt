@@ -167,11 +167,11 @@ not-two false n h = refl
 
 module _ (a : Association) (area packet : List ℕ) (lent : Lent) (cookie : List ℕ) (e : Echoed) (out : List ℕ) where
   abbrev turn : Turn
-  turn = passed a area packet lent cookie (heeded e)
+  turn = passed a area packet lent cookie (heeded (a .state) (a .ends) e)
 
   let-in-short : numberOf a area packet e out ≡ 0 → length packet ≤ 1472
   unfolding numberOf packetNumber
-  let-in-short z = size-most packet (not-two (eqb (sizeNumber packet) 2) _ (earlier-none (lentNumber a (length area) (length out)) (packetNumber a packet (heeded e)) z .1))
+  let-in-short z = size-most packet (not-two (eqb (sizeNumber packet) 2) _ (earlier-none (lentNumber a (length area) (length out)) (packetNumber a packet (heeded (a .state) (a .ends) e)) z .1))
 
   abbrev told : Arrived
   told = arrivedOf a area packet lent cookie e out
@@ -179,7 +179,7 @@ module _ (a : Association) (area packet : List ℕ) (lent : Lent) (cookie : List
   let-in-same : numberOf a area packet e out ≡ 0 → AllBarred told → Same a area turn
   unfolding arrivedOf
   let-in-same z w =
-      passed-same a area packet lent cookie (let-in-short z) (heeded e)
+      passed-same a area packet lent cookie (let-in-short z) (heeded (a .state) (a .ends) e)
       (subst (λ (t : Bool). AllBarred (pick t (acceptedAs (turn .walked) (answeredLength (turn .walked) packet (turn .reply) out)) (refusedWith a (numberOf a area packet e out)))) (eq-eqb (numberOf a area packet e out) 0 z) w)
 
   record-same : AllBarred told → (told .association ≡ a) × (areaOf a area packet lent cookie e out ≡ area)

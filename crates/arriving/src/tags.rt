@@ -60,10 +60,10 @@ fn rule_of(kind: u8, t: bool, state: State, ends: Ends, echoed: Echoed) -> Rule
     if kind == 1 {
         return Rule::Tag(0);
     }
+    if kind == 10 {
+        return echo_rule(echoed);
+    }
     if state.is_closed() {
-        if kind == 10 {
-            return echo_rule(echoed);
-        }
         return Rule::Never;
     }
     if is_reflecting(kind, t) {

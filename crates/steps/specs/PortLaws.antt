@@ -14,13 +14,17 @@ use Rattle.chunks.specs.InitChunk.{initOf}
 use Rattle.parameters.specs.Parameter.{valueOf, isThere, COOKIE, NAME}
 use Rattle.parameters.specs.Stale.{staleIn}
 use Rattle.states.specs.declared.rows.Row.{Row}
-use Rattle.states.specs.declared.rows.Row.the-variants.{Refused, ReadData, ReadLateData, AnswerInit, TakeInitAck, ReadSack, ReadSackPending, ReadSackReceived, EchoHeartbeat, ClearTries, BecomeClosed, ReadShutdown, CrossShutdown, RepeatShutdownAck, ReflectComplete, SendComplete, PassError, ReadError, ReadEcho, BecomeEstablished, BecomeComplete, PassUnknown, TellUnknown}
+use Rattle.states.specs.declared.rows.Row.the-variants.{Refused, ReadData, ReadLateData, AnswerInit, TakeInitAck, ReadSack, ReadSackPending, ReadSackReceived, EchoHeartbeat, ClearTries, BecomeClosed, ReadShutdown, CrossShutdown, RepeatShutdownAck, RepeatAck, ReflectComplete, SendComplete, PassError, ReadError, ReadEcho, BecomeEstablished, BecomeComplete, PassUnknown, TellUnknown}
 use Rattle.association.specs.declared.ends.Association.{Association}
 use Rattle.steps.specs.declared.chunk.Beside.{Beside}
+use Rattle.steps.specs.declared.lent.Made.{Made}
+use Rattle.steps.specs.declared.meeting.Action.{Action}
+use Rattle.steps.specs.declared.meeting.Action.the-variants.{Restart, Retag, Late, Again, Outside}
 use Rattle.steps.specs.declared.lent.Echoed.{Echoed}
 use Rattle.steps.specs.declared.lent.Echoed.the-variants.{Bad, Stale, Good}
 use Rattle.steps.specs.Verdict.{Step}
-use Rattle.steps.specs.Opening.{isPoor, isOdd, isPoorLent, answerInit, established, readEcho, echoing, echoedBack, takeInitAck}
+use Rattle.steps.specs.Opening.{isPoor, isOdd, isPoorLent, answerInit, established, echoing, echoedBack, takeInitAck}
+use Rattle.steps.specs.Meeting.{offered, repeatAck, actionOf, starts, withPeerTag, stays, acts, readEcho}
 use Rattle.steps.specs.Carrying.{isKept, arrivalOf, dataRead, readData, readLateData, heardSack, isLast, readSack, readSackPending, readSackReceived, echoHeartbeat, clearTries}
 use Rattle.steps.specs.Closing.{readError, heardShutdown, readShutdown, answerShutdown}
 use Rattle.steps.specs.Unknown.{passUnknown, tellUnknown}
@@ -33,9 +37,21 @@ module _ (room : ℕ) (a : Association) (b : Beside) (cookie s : List ℕ) where
   either : (t : Bool) (x y : Step) → Ported x → Ported y → Ported (pick t x y)
   either = pick-keeps Ported
 
-  echo-ported : (e : Echoed) → Ported (readEcho a e (b .source) s)
-  unfolding readEcho established
-  echo-ported (Good m) = either (isOdd (partFrom 4 s .len)) _ _ refl refl
+  stays-ported : (m : Made) (x : Action) → Ported (stays room a m x)
+  unfolding withPeerTag
+  stays-ported m Restart = refl
+  stays-ported m Retag = refl
+  stays-ported m Again = refl
+  stays-ported m Late = refl
+  stays-ported m Outside = refl
+
+  acts-ported : (m : Made) (x : Action) → Ported (acts room a (b .source) m x)
+  unfolding acts established
+  acts-ported m x = either (starts x (a .state)) _ _ refl (stays-ported m x)
+
+  echo-ported : (e : Echoed) → Ported (readEcho room a e (b .source) s)
+  unfolding readEcho
+  echo-ported (Good m) = either (isOdd (partFrom 4 s .len)) _ _ refl (acts-ported m (actionOf (a .state) (a .ends) m))
   echo-ported (Stale m) = either (isOdd (partFrom 4 s .len)) _ _ refl refl
   echo-ported Bad = either (isOdd (partFrom 4 s .len)) _ _ refl refl
 
@@ -52,9 +68,10 @@ module _ (room : ℕ) (a : Association) (b : Beside) (cookie s : List ℕ) where
   tell-ported SkipAndReport = refl
 
   row-ported : (r : Row) → Ported (rowStep room a b cookie s r)
-  unfolding answerInit takeInitAck echoedBack echoing dataRead readData readLateData readSack readSackPending readSackReceived echoHeartbeat clearTries readError readShutdown answerShutdown
-  row-ported AnswerInit = either (isPoorLent (b .lent) (length cookie)) _ _ refl (either (isPoor (initOf s)) _ _ refl (either (isThere NAME s) _ _ refl refl))
+  unfolding answerInit repeatAck takeInitAck echoedBack echoing dataRead readData readLateData readSack readSackPending readSackReceived echoHeartbeat clearTries readError readShutdown answerShutdown
+  row-ported AnswerInit = either (isPoorLent (offered a (b .lent)) (length cookie)) _ _ refl (either (isPoor (initOf s)) _ _ refl (either (isThere NAME s) _ _ refl refl))
   row-ported TakeInitAck = either (isPoor (initOf s)) _ _ refl (either (isOdd (valueOf COOKIE 4 s .len)) _ _ refl (either (isThere NAME s) _ _ refl refl))
+  row-ported RepeatAck = either (isPoor (initOf s)) _ _ refl refl
   row-ported ReadEcho = echo-ported (b .echoed)
   row-ported ReadLateData = either (isKept (arrivalOf a s .verdict)) _ _ refl refl
   row-ported ReadSackPending = either (isLast (heardSack a s)) _ _ refl refl
