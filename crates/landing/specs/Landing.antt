@@ -68,5 +68,5 @@ letIn t packet out =
 unfoldable pub landed : List ℕ → Lent → List ℕ → Echoed → Head → List ℕ → List ℕ → List ℕ → List ℕ → List ℕ → List ℕ → List ℕ → List ℕ → After
 landed packet lent cookie e h held next places nextOut kept area verdicts out =
     pick (eqb (numberOf (shown h held next places nextOut kept) area packet e out) 0)
-    (letIn (passed packet lent cookie (heeded e) h held next places nextOut kept area verdicts) packet out)
+    (letIn (passed packet lent cookie (heeded (h .state) (h .ends) e) h held next places nextOut kept area verdicts) packet out)
     (afterOf (refusedAs h (numberOf (shown h held next places nextOut kept) area packet e out)) held next places nextOut kept area verdicts out)

@@ -43,7 +43,7 @@ module _ (packet : List ℕ) (lent : Lent) (cookie : List ℕ) (e : Echoed) (h :
   Leaves x = x ≡ landed packet lent cookie e h held next places nextOut kept area verdicts out
 
   abbrev choice : Bool → After
-  choice t = pick t (letIn (passed packet lent cookie (heeded e) h held next places nextOut kept area verdicts) packet out) (afterOf (refusedAs h number) held next places nextOut kept area verdicts out)
+  choice t = pick t (letIn (passed packet lent cookie (heeded (h .state) (h .ends) e) h held next places nextOut kept area verdicts) packet out) (afterOf (refusedAs h number) held next places nextOut kept area verdicts out)
 
   -- ports and tag ask nothing of the tables
   packet-bare : (w : Echoed) → packetNumber (bare h) packet w ≡ packetNumber all packet w
@@ -60,14 +60,14 @@ module _ (packet : List ℕ) (lent : Lent) (cookie : List ℕ) (e : Echoed) (h :
     unfolding numberOf
     refused-lent z p =
         let l : n ≡ first = k next nextOut kept in
-        refused-by (l ∙ ap (λ (t : Bool). pick t (packetNumber all packet (heeded e)) first) (sym (ne-eqb first 0 (λ q. z (l ∙ q))))) z p
+        refused-by (l ∙ ap (λ (t : Bool). pick t (packetNumber all packet (heeded (h .state) (h .ends) e)) first) (sym (ne-eqb first 0 (λ q. z (l ∙ q))))) z p
 
-    module _ (z : n ≡ 0) {word : Echoed} (w : word ≡ heeded e) {m : ℕ} (q : m ≡ packetNumber (bare h) packet word) where
+    module _ (z : n ≡ 0) {word : Echoed} (w : word ≡ heeded (h .state) (h .ends) e) {m : ℕ} (q : m ≡ packetNumber (bare h) packet word) where
       is-packet : m ≡ number
       unfolding numberOf
       is-packet =
-          q ∙ ap (λ (x : Echoed). packetNumber (bare h) packet x) w ∙ packet-bare (heeded e)
-          ∙ ap (λ (t : Bool). pick t (packetNumber all packet (heeded e)) first) (sym (eq-eqb first 0 (sym (k next nextOut kept) ∙ z)))
+          q ∙ ap (λ (x : Echoed). packetNumber (bare h) packet x) w ∙ packet-bare (heeded (h .state) (h .ends) e)
+          ∙ ap (λ (t : Bool). pick t (packetNumber all packet (heeded (h .state) (h .ends) e)) first) (sym (eq-eqb first 0 (sym (k next nextOut kept) ∙ z)))
 
       pub refused-packet : (m ≡ 0 → ⊥) → {r : Landed} → r ≡ refusedAs h m → Leaves (afterOf r held next places nextOut kept area verdicts out)
       refused-packet = refused-by is-packet

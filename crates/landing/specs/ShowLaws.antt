@@ -269,10 +269,10 @@ module _ (packet : List ℕ) (octets : All Octet packet) (lent : Lent) (cookie :
   a = shown h held next places nextOut kept
 
   abbrev turns : Turn
-  turns = passed packet lent cookie (heeded e) h held next places nextOut kept area verdicts
+  turns = passed packet lent cookie (heeded (h .state) (h .ends) e) h held next places nextOut kept area verdicts
 
   abbrev turnsOf : value.Turn
-  turnsOf = value-arrival.passed a area packet lent cookie (heeded e)
+  turnsOf = value-arrival.passed a area packet lent cookie (heeded (h .state) (h .ends) e)
 
   refused-shows : (n : ℕ) → Arriving (afterOf (refusedAs h n) held next places nextOut kept area verdicts out) (refusedWith a n) area out verdicts
   unfolding refusedWith
@@ -303,7 +303,7 @@ module _ (packet : List ℕ) (octets : All Octet packet) (lent : Lent) (cookie :
           verdicts
       go true =
           let-in-shows verdicts turns turnsOf packet out
-          (passed-shows packet octets lent cookie h held next places nextOut kept area verdicts sized words (heeded e))
+          (passed-shows packet octets lent cookie h held next places nextOut kept area verdicts sized words (heeded (h .state) (h .ends) e))
       go false = refused-shows (numberOf a area packet e out)
 
 -- ---- the words lent for verdicts have no part in all else
@@ -354,9 +354,9 @@ module _ (packet : List ℕ) (lent : Lent) (cookie : List ℕ) (e : Echoed) (h :
       number = numberOf (shown h held next places nextOut kept) area packet e out
 
       go : (x : Bool)
-          → wordless (pick x (letIn (passed packet lent cookie (heeded e) h held next places nextOut kept area verdicts) packet out) (afterOf (refusedAs h number) held next places nextOut kept area verdicts out))
-          ≡ wordless (pick x (letIn (passed packet lent cookie (heeded e) h held next places nextOut kept area words) packet out) (afterOf (refusedAs h number) held next places nextOut kept area words out))
-      go true = let-in-any (heeded e)
+          → wordless (pick x (letIn (passed packet lent cookie (heeded (h .state) (h .ends) e) h held next places nextOut kept area verdicts) packet out) (afterOf (refusedAs h number) held next places nextOut kept area verdicts out))
+          ≡ wordless (pick x (letIn (passed packet lent cookie (heeded (h .state) (h .ends) e) h held next places nextOut kept area words) packet out) (afterOf (refusedAs h number) held next places nextOut kept area words out))
+      go true = let-in-any (heeded (h .state) (h .ends) e)
       go false = refl
 
 -- read back, the words are the verdicts, where each is within its words: a packet has no more than 1,472 bytes, and each number its type

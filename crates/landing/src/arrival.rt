@@ -17,6 +17,7 @@ ghost use Prim.Native.Nat.{ℕ, _≤_};
 ghost use lib.ListN.{length, take};
 ghost use Rattle.flat.specs.Shown.{bare, shown};
 ghost use Rattle.arriving.specs.Arrival.{lentNumber, packetNumber, answeredLength, answeredOut};
+ghost use Rattle.steps.specs.Lent.{heeded};
 ghost use Rattle.landing.specs.Walk.{bareWalked};
 ghost use Rattle.landing.specs.Landing.{afterOf, refusedAs, passed, letIn, landed};
 
@@ -145,6 +146,15 @@ fn let_in(
     }
 }
 
+// The host's word on an echo, as it counts for this record.
+fn heed(head: Head, echoed: Echoed) -> Echoed
+    ensures { λ r. ⌜ r ≡ heeded (head .state) (head .ends) echoed ⌝ }
+{
+    let state = head.state;
+    let ends = head.ends;
+    echoed.heeded(state, ends)
+}
+
 // A packet: 1, 18, 2, 3, 4, 5, 6 for the whole, which then leaves all that is lent; else each chunk with its own verdict. The words of the verdicts
 // behind the last one stay. The first `length` bytes of `out` are the reply.
 pub fn arrive(
@@ -169,7 +179,7 @@ pub fn arrive(
     if n != 0 {
         return refused(head, n);
     }
-    let word = echoed.heeded();
+    let word = heed(head, echoed);
     let m = check(head, packet, word);
     if m != 0 {
         return refused(head, m);

@@ -172,7 +172,7 @@ arrive-passes a area packet lent cookie e out = go (arriving a area packet lent 
     go : {n : ℕ} {exit : List ℕ} → Arriving a area packet lent cookie e out n exit → Passing longestReply out n exit
     go (left p q) = untouched p q
     go (answered h s) =
-        let t : Turn = passed a area packet lent cookie (heeded e) in
-        let l = whole-small (t .walked) (t .reply) (passed-small a area packet lent cookie (heeded e)) in
-        sealed-as (closed (walk-holds a area packet lent cookie (heeded e) (let-in-shape a area packet lent cookie e out h)) (closing (t .walked) (t .reply)))
+        let t : Turn = passed a area packet lent cookie (heeded (a .state) (a .ends) e) in
+        let l = whole-small (t .walked) (t .reply) (passed-small a area packet lent cookie (heeded (a .state) (a .ends) e)) in
+        sealed-as (closed (walk-holds a area packet lent cookie (heeded (a .state) (a .ends) e) (let-in-shape a area packet lent cookie e out h)) (closing (t .walked) (t .reply)))
         (omega (arith, l)) l (let-in-long a area packet lent cookie e out h) s

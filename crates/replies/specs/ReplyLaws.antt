@@ -33,7 +33,7 @@ use Rattle.passing.specs.Passing.{shutdown-passes, init-ack-passes}
 use Rattle.steps.specs.declared.verdict.Owed.{Owed}
 use Rattle.steps.specs.declared.verdict.Owed.the-variants.{To}
 use Rattle.steps.specs.Replying.{Replying}
-use Rattle.steps.specs.Replying.Replying.{silent, heartbeat-ack, abort, shutdown-ack, error, cookie-ack, cookie-echo, init-ack}
+use Rattle.steps.specs.Replying.Replying.{silent, heartbeat-ack, abort, shutdown-ack, error, cookie-ack, cookie-echo, shutting, init-ack}
 use Rattle.replies.specs.Reply.{Shareable, Shared, Fits, Packed}
 use Rattle.replies.specs.Reply.Fits.{several, single}
 
@@ -110,6 +110,8 @@ reply-fits (shutdown-ack e) = several (shared-as e (shared-one (plain-shares 8 0
 reply-fits {s = s} (error e) = several (shared-as e (shared-one (plain-shares 9 0 (caused 6 (take (ended s) s)) refl (λ z. omega (arith, z)))))
 reply-fits (cookie-ack e) = several (shared-as e (shared-one (plain-shares 11 0 [] refl (λ z. omega (arith, z)))))
 reply-fits {room} {s = s} (cookie-echo c e) = several (shared-as e (both-share room (echo-shares c) (report-shares s)))
+reply-fits {room} (shutting e) =
+    several (shared-as e (both-share room (shared-one (plain-shares 8 0 [] refl (λ z. omega (arith, z)))) (shared-one (plain-shares 9 0 (caused 10 []) refl (λ z. omega (arith, z))))))
 reply-fits {cookie = cookie} {s = s} (init-ack v tag k o e) = rw e (ack-fits v tag cookie s k o (init-ack-carried v cookie s))
 
 pub fits-fitting : (room : ℕ) {s : List ℕ} {o : Owed} {bs : List ℕ} → Fits s o bs → Fits s o (fitting room bs)

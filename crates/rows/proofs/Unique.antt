@@ -27,6 +27,7 @@ use Rattle.rows.proofs.closing.send_complete.Reads as send-complete-rea
 use Rattle.rows.proofs.closing.become_complete.Reads as become-complete-reads
 use Rattle.rows.proofs.opening.answer_init.Reads as answer-init-reads
 use Rattle.rows.proofs.opening.take_init_ack.Reads as take-init-ack-reads
+use Rattle.rows.proofs.opening.repeat_ack.Reads as repeat-ack-reads
 use Rattle.rows.proofs.opening.read_echo.Reads as read-echo-reads
 use Rattle.rows.proofs.unknown.pass_unknown.Reads as pass-unknown-reads
 use Rattle.rows.proofs.unknown.tell_unknown.Reads as tell-unknown-reads
@@ -103,6 +104,9 @@ become-complete-unique κs a r q s t x y = x ∙ sym y
 
 pub answer-init-unique : (κs : _) (a : _) (r q : _) (s t : _) → answer-init-reads.Post κs a r s → answer-init-reads.Post κs a q t → (r ≡ q) × (now (s .1 .1 .1 .1 .0) ≡ now (t .1 .1 .1 .1 .0))
 answer-init-unique κs a r q s t x y = (x .0 ∙ sym (y .0), x .1 ∙ sym (y .1))
+
+pub repeat-ack-unique : (κs : _) (a : _) (r q : _) (s t : _) → repeat-ack-reads.Post κs a r s → repeat-ack-reads.Post κs a q t → (r ≡ q) × (now (s .1 .1 .0) ≡ now (t .1 .1 .0))
+repeat-ack-unique κs a r q s t x y = (x .0 ∙ sym (y .0), x .1 ∙ sym (y .1))
 
 pub take-init-ack-unique : (κs : _) (a : _) (r q : _) (s t : _) → take-init-ack-reads.Post κs a r s → take-init-ack-reads.Post κs a q t → (r ≡ q) × (now (s .1 .0) ≡ now (t .1 .0)) × (now (s .1 .1 .0) ≡ now (t .1 .1 .0)) × (now (s .1 .1 .1 .0) ≡ now (t .1 .1 .1 .0)) × (now (s .1 .1 .1 .1 .1 .0) ≡ now (t .1 .1 .1 .1 .1 .0))
 take-init-ack-unique κs a r q s t x y = (x .0 ∙ sym (y .0), x .1 ∙ sym (y .1), x .2 ∙ sym (y .2), x .3 ∙ sym (y .3), x .4 ∙ sym (y .4))

@@ -3,3 +3,4 @@ pub mod Stepped
 pub mod Rows
 pub mod RowsLaws
 pub mod ShowLaws
+pub mod ShortLaws

@@ -28,7 +28,8 @@ use Rattle.acks.specs.Acks.{ackedHead, ackedWords, shutHead, shutWords}
 use Rattle.states.specs.declared.state.State.{State}
 use Rattle.states.specs.declared.state.State.the-variants.{Established, ShutdownAckSent}
 use Rattle.states.specs.declared.rows.Row.{Row}
-use Rattle.states.specs.declared.rows.Row.the-variants.{Refused, ReadData, ReadLateData, AnswerInit, TakeInitAck, ReadSack, ReadSackPending, ReadSackReceived, EchoHeartbeat, ClearTries, BecomeClosed, ReadShutdown, CrossShutdown, RepeatShutdownAck, ReflectComplete, SendComplete, PassError, ReadError, ReadEcho, BecomeEstablished, BecomeComplete, PassUnknown, TellUnknown}
+use Rattle.states.specs.declared.rows.Row.the-variants.{Refused, ReadData, ReadLateData, AnswerInit, TakeInitAck, ReadSack, ReadSackPending, ReadSackReceived, EchoHeartbeat, ClearTries, BecomeClosed, ReadShutdown, CrossShutdown, RepeatShutdownAck, RepeatAck, ReflectComplete, SendComplete, PassError, ReadError, ReadEcho, BecomeEstablished, BecomeComplete, PassUnknown, TellUnknown}
+use Rattle.association.specs.declared.ends.Ends.{Ends}
 use Rattle.association.specs.declared.ends.Association.{Association}
 use Rattle.association.specs.Fresh.{withState}
 use Rattle.steps.specs.declared.chunk.Beside.{Beside}
@@ -38,6 +39,7 @@ use Rattle.steps.specs.declared.verdict.Event.the-variants.{NoEvent, Up}
 use Rattle.steps.specs.declared.verdict.Named.the-variants.{NoCall}
 use Rattle.steps.specs.Verdict.{Step, accepted, refused}
 use Rattle.steps.specs.Opening as opening
+use Rattle.steps.specs.Meeting.{offered, repeatAck, actionOf, starts, readEcho}
 use Rattle.steps.specs.Carrying.{chunkOf, payloadOf, blocksOf, dataRead, lateDataRead, shutdownOwed, shutdownAcked, areaIn, sackRead, sackReadThen, echoHeartbeat, clearTries}
 use Rattle.steps.specs.Closing.{becomeClosed, readError, shutdownTaken, shutdownAnswered, reflectComplete, sendComplete, becomeComplete}
 use Rattle.steps.specs.Unknown.{passUnknown, tellUnknown}
@@ -146,14 +148,14 @@ isTaken s =
     (pick (opening.isOdd (valueOf COOKIE 4 s .len)) false
     (pick (isThere NAME s) false true))
 
--- a good echo: all begins
-abbrev pub isGood : Echoed → Bool
-isGood (Good m) = true
-isGood (Stale m) = false
-isGood Bad = false
+-- an echo from which all begins
+abbrev pub begins : State → Ends → Echoed → Bool
+begins state ends (Good m) = starts (actionOf state ends m) state
+begins state ends (Stale m) = false
+begins state ends Bad = false
 
-unfoldable pub isStarting : Echoed → List ℕ → Bool
-isStarting e s = pick (opening.isOdd (partFrom 4 s .len)) false (isGood e)
+unfoldable pub isStarting : State → Ends → Echoed → List ℕ → Bool
+isStarting state ends e s = pick (opening.isOdd (partFrom 4 s .len)) false (begins state ends e)
 
 -- so many zeros in place of a table
 abbrev pub clearedIf : Bool → ℕ → List ℕ → List ℕ
@@ -208,20 +210,20 @@ module _ (h : Head) (held next places nextOut kept area s : List ℕ) where
   abbrev pub echoLeft : Echoed → Step → Left
   echoLeft e d = record {
     step = d;
-    held = clearedIf (isStarting e s) 512 held;
-    next = clearedIf (isStarting e s) 128 next;
-    places = clearedIf (isStarting e s) 1024 places;
-    nextOut = clearedIf (isStarting e s) 128 nextOut;
-    kept = clearedIf (isStarting e s) 256 kept;
+    held = clearedIf (isStarting (h .state) (h .ends) e s) 512 held;
+    next = clearedIf (isStarting (h .state) (h .ends) e s) 128 next;
+    places = clearedIf (isStarting (h .state) (h .ends) e s) 1024 places;
+    nextOut = clearedIf (isStarting (h .state) (h .ends) e s) 128 nextOut;
+    kept = clearedIf (isStarting (h .state) (h .ends) e s) 256 kept;
     area = area;
   }
 
   -- what a row leaves, for the chunk at the head of s; `room` is what is left of the reply
   abbrev pub rowLeft : ℕ → Beside → List ℕ → Row → Left
   rowLeft room b cookie Refused = headLeft (refused (bare h) 7 NoCall)
-  rowLeft room b cookie AnswerInit = headLeft (opening.answerInit (bare h) (b .lent) cookie s)
+  rowLeft room b cookie AnswerInit = headLeft (opening.answerInit (bare h) (offered (bare h) (b .lent)) cookie s)
   rowLeft room b cookie TakeInitAck = ackLeft (opening.takeInitAck room (bare h) s)
-  rowLeft room b cookie ReadEcho = echoLeft (b .echoed) (opening.readEcho (bare h) (b .echoed) (b .source) s)
+  rowLeft room b cookie ReadEcho = echoLeft (b .echoed) (readEcho room (bare h) (b .echoed) (b .source) s)
   rowLeft room b cookie BecomeEstablished = headLeft (accepted (withState (bare h) Established) Up [])
   rowLeft room b cookie ReadData = dataLeft (readDataBy h held next s)
   rowLeft room b cookie ReadLateData = dataLeft (readLateDataBy h held next s)
@@ -236,6 +238,7 @@ module _ (h : Head) (held next places nextOut kept area s : List ℕ) where
   rowLeft room b cookie ReadShutdown = placesLeft (placesShut (h .sender) places s) (readShutdownBy h places s)
   rowLeft room b cookie CrossShutdown = placesLeft (placesShut (h .sender) places s) (answerShutdownBy h places (ShutdownAckSent 0) s)
   rowLeft room b cookie RepeatShutdownAck = placesLeft (placesShut (h .sender) places s) (answerShutdownBy h places (h .state) s)
+  rowLeft room b cookie RepeatAck = headLeft (repeatAck (bare h) s)
   rowLeft room b cookie ReflectComplete = headLeft (reflectComplete (bare h))
   rowLeft room b cookie SendComplete = headLeft (sendComplete (bare h))
   rowLeft room b cookie BecomeComplete = headLeft (becomeComplete (bare h))

@@ -23,7 +23,7 @@ use Rattle.parameters.specs.Report.{errorParametersBytes}
 use Rattle.reception.specs.ReceptionLaws.{after-long}
 use Rattle.acks.specs.AcksLaws.{acked-long, shut-long}
 use Rattle.states.specs.declared.rows.Row.{Row}
-use Rattle.states.specs.declared.rows.Row.the-variants.{Refused, ReadData, ReadLateData, AnswerInit, TakeInitAck, ReadSack, ReadSackPending, ReadSackReceived, EchoHeartbeat, ClearTries, BecomeClosed, ReadShutdown, CrossShutdown, RepeatShutdownAck, ReflectComplete, SendComplete, PassError, ReadError, ReadEcho, BecomeEstablished, BecomeComplete, PassUnknown, TellUnknown}
+use Rattle.states.specs.declared.rows.Row.the-variants.{Refused, ReadData, ReadLateData, AnswerInit, TakeInitAck, ReadSack, ReadSackPending, ReadSackReceived, EchoHeartbeat, ClearTries, BecomeClosed, ReadShutdown, CrossShutdown, RepeatShutdownAck, RepeatAck, ReflectComplete, SendComplete, PassError, ReadError, ReadEcho, BecomeEstablished, BecomeComplete, PassUnknown, TellUnknown}
 use Rattle.states.specs.Rows.{rowOf}
 use Rattle.steps.specs.declared.chunk.Beside.{Beside}
 use Rattle.steps.specs.declared.lent.Echoed.{Echoed}
@@ -129,7 +129,7 @@ module _ (h : Head) (held next places nextOut kept area space s : List ℕ) wher
   ack-rowed d t = λ i. rowedOf (t .0 i) (t .1 i) (t .2 i) places nextOut (t .3 i) area (t .4 i)
 
   pub echo-rowed : (e : Echoed) (d : Step) {r : Stepped} {ws ns ps ms bytes exit : List ℕ}
-      → (r ≡ steppedIn space d) × (ws ≡ clearedIf (isStarting e s) 512 held) × (ns ≡ clearedIf (isStarting e s) 128 next) × (ps ≡ clearedIf (isStarting e s) 1024 places) × (ms ≡ clearedIf (isStarting e s) 128 nextOut) × (bytes ≡ clearedIf (isStarting e s) 256 kept) × (exit ≡ wroteBytes space (d .reply))
+      → (r ≡ steppedIn space d) × (ws ≡ clearedIf (isStarting (h .state) (h .ends) e s) 512 held) × (ns ≡ clearedIf (isStarting (h .state) (h .ends) e s) 128 next) × (ps ≡ clearedIf (isStarting (h .state) (h .ends) e s) 1024 places) × (ms ≡ clearedIf (isStarting (h .state) (h .ends) e s) 128 nextOut) × (bytes ≡ clearedIf (isStarting (h .state) (h .ends) e s) 256 kept) × (exit ≡ wroteBytes space (d .reply))
       → rowedOf r ws ns ps ms bytes area exit ≡ rowedBy space (echoLeft h held next places nextOut kept area s e d)
   echo-rowed e d t = λ i. rowedOf (t .0 i) (t .1 i) (t .2 i) (t .3 i) (t .4 i) (t .5 i) area (t .6 i)
 
@@ -227,11 +227,11 @@ module _ (h : Head) (held next places nextOut kept area s : List ℕ) (w : Sized
     kept = kept-long (isTaken s) s kept (w .kept);
   }
   row-sized room b cookie ReadEcho = record {
-    held = cleared-long (isStarting (b .echoed) s) 512 held (w .held);
-    next = cleared-long (isStarting (b .echoed) s) 128 next (w .next);
-    places = cleared-long (isStarting (b .echoed) s) 1024 places (w .places);
-    nextOut = cleared-long (isStarting (b .echoed) s) 128 nextOut (w .nextOut);
-    kept = cleared-long (isStarting (b .echoed) s) 256 kept (w .kept);
+    held = cleared-long (isStarting (h .state) (h .ends) (b .echoed) s) 512 held (w .held);
+    next = cleared-long (isStarting (h .state) (h .ends) (b .echoed) s) 128 next (w .next);
+    places = cleared-long (isStarting (h .state) (h .ends) (b .echoed) s) 1024 places (w .places);
+    nextOut = cleared-long (isStarting (h .state) (h .ends) (b .echoed) s) 128 nextOut (w .nextOut);
+    kept = cleared-long (isStarting (h .state) (h .ends) (b .echoed) s) 256 kept (w .kept);
   }
   row-sized room b cookie BecomeEstablished = w
   row-sized room b cookie ReadData = with-held data-long
@@ -247,6 +247,7 @@ module _ (h : Head) (held next places nextOut kept area s : List ℕ) (w : Sized
   row-sized room b cookie ReadShutdown = shut-sized
   row-sized room b cookie CrossShutdown = shut-sized
   row-sized room b cookie RepeatShutdownAck = shut-sized
+  row-sized room b cookie RepeatAck = w
   row-sized room b cookie ReflectComplete = w
   row-sized room b cookie SendComplete = w
   row-sized room b cookie BecomeComplete = w

@@ -21,7 +21,7 @@ use Rattle.chunks.specs.Again.{Octet}
 use Rattle.chunks.specs.ReadLaws.{data-tsn, data-stream, data-ssn, data-ppid}
 use Rattle.chunks.specs.Frame.{framed, partFrom, bytesIn}
 use Rattle.chunks.specs.InitChunk.{initOf}
-use Rattle.chunks.specs.ShutdownChunk.{pointOf}
+use Rattle.chunks.specs.ShutdownChunk.{pointOf, shutdownAckBytes}
 use Rattle.parameters.specs.Parameter.{valueOf, isThere, COOKIE, NAME}
 use Rattle.parameters.specs.Report.{initAckBytes}
 use Rattle.parameters.specs.Stale.{staleIn}
@@ -46,12 +46,15 @@ use Rattle.acks.specs.AcksLaws.{acked-shows, shut-shows}
 use Rattle.states.specs.declared.state.State.{State}
 use Rattle.states.specs.declared.state.State.the-variants.{Closed, ShutdownReceived, ShutdownAckSent}
 use Rattle.states.specs.declared.rows.Row.{Row}
-use Rattle.states.specs.declared.rows.Row.the-variants.{Refused, ReadData, ReadLateData, AnswerInit, TakeInitAck, ReadSack, ReadSackPending, ReadSackReceived, EchoHeartbeat, ClearTries, BecomeClosed, ReadShutdown, CrossShutdown, RepeatShutdownAck, ReflectComplete, SendComplete, PassError, ReadError, ReadEcho, BecomeEstablished, BecomeComplete, PassUnknown, TellUnknown}
+use Rattle.states.specs.declared.rows.Row.the-variants.{Refused, ReadData, ReadLateData, AnswerInit, TakeInitAck, ReadSack, ReadSackPending, ReadSackReceived, EchoHeartbeat, ClearTries, BecomeClosed, ReadShutdown, CrossShutdown, RepeatShutdownAck, RepeatAck, ReflectComplete, SendComplete, PassError, ReadError, ReadEcho, BecomeEstablished, BecomeComplete, PassUnknown, TellUnknown}
 use Rattle.association.specs.declared.ends.Association.{Association}
 use Rattle.association.specs.declared.ends.Cookie.{Cookie}
 use Rattle.association.specs.Fresh.{withState, withReceiving, withSending}
 use Rattle.steps.specs.declared.chunk.Beside.{Beside}
 use Rattle.steps.specs.declared.lent.Lent.{Lent}
+use Rattle.steps.specs.declared.lent.Made.{Made}
+use Rattle.steps.specs.declared.meeting.Action.{Action}
+use Rattle.steps.specs.declared.meeting.Action.the-variants.{Restart, Retag, Late, Again, Outside}
 use Rattle.steps.specs.declared.lent.Echoed.{Echoed}
 use Rattle.steps.specs.declared.lent.Echoed.the-variants.{Bad, Stale, Good}
 use Rattle.steps.specs.declared.verdict.Event.the-variants.{NoEvent, Up, Down}
@@ -60,7 +63,8 @@ use Rattle.steps.specs.declared.verdict.Named.the-variants.{NoCall}
 use Rattle.steps.specs.declared.verdict.Done.{Done}
 use Rattle.steps.specs.Verdict.{Step, doneIn, accepted, answering, refused, quiet, ending}
 use Rattle.steps.specs.Opening as opening
-use Rattle.steps.specs.Opening.{isPoor, isOdd, isPoorLent, ackOf, nameRefused, answerInit, echoing, echoedBack, takeInitAck, established, readEchoed, readEcho}
+use Rattle.steps.specs.Opening.{isPoor, isOdd, isPoorLent, ackOf, nameRefused, answerInit, echoing, echoedBack, takeInitAck, established}
+use Rattle.steps.specs.Meeting.{offered, repeatAck, actionOf, starts, startedAs, withPeerTag, cookieAckBytes, stays, acts, readEchoed, readEcho}
 use Rattle.steps.specs.Carrying.{chunkOf, payloadOf, isKept, arrivalIn, arrivalOf, toldData, dataRead, lateDataRead, readData, readLateData, shutdownOwed, shutdownAcked, heardBy, sackCall, sackRead, isLast, sackReadThen, readSack, readSackPending, readSackReceived, echoHeartbeat, clearTries}
 use Rattle.steps.specs.Closing.{readError, heardShutdown, shutdownTaken, shutdownAnswered, readShutdown, answerShutdown}
 use Rattle.steps.specs.Unknown.{passUnknown, tellUnknown}
@@ -68,7 +72,7 @@ use Rattle.steps.specs.Steps.{rowStep, rowArea, rowMet, stepOf, areaOf}
 use Rattle.flat.specs.declared.head.Head.{Head}
 use Rattle.flat.specs.Shown.{shown, bare, headOf}
 use Rattle.flat.specs.ShownLaws.{started-shows}
-use Rattle.rows.specs.Rows.{side, heardData, heldHeard, heldBy, arrivalWith, arrivalBy, readDataBy, readLateDataBy, sackIn, heardSack, placesSacked, answerWith, readSackBy, readSackPendingBy, readSackReceivedBy, heardPoint, placesShut, readShutdownBy, answerShutdownBy, isTaken, isGood, isStarting, clearedIf, keptIf, Left, rowLeft, Rowed, rowed}
+use Rattle.rows.specs.Rows.{side, heardData, heldHeard, heldBy, arrivalWith, arrivalBy, readDataBy, readLateDataBy, sackIn, heardSack, placesSacked, answerWith, readSackBy, readSackPendingBy, readSackReceivedBy, heardPoint, placesShut, readShutdownBy, answerShutdownBy, isTaken, begins, isStarting, clearedIf, keptIf, Left, rowLeft, Rowed, rowed}
 use Rattle.rows.specs.RowsLaws.{Sized}
 
 -- a step whose record is what its head shows with these tables
@@ -164,18 +168,45 @@ module _ (h : Head) (held next places nextOut kept s : List ℕ) where
       go false false true = refl
       go false false false = back-shows room (bytesIn s (valueOf COOKIE 4 s))
 
-  echo-shows : (e : Echoed) (source : ℕ)
-      → tabled (clearedIf (isStarting e s) 512 held) (clearedIf (isStarting e s) 128 next) (clearedIf (isStarting e s) 1024 places) (clearedIf (isStarting e s) 128 nextOut) (clearedIf (isStarting e s) 256 kept) (readEcho (bare h) e source s)
-      ≡ readEcho now e source s
-  unfolding isStarting readEcho established
-  echo-shows e source = go (isOdd (partFrom 4 s .len)) e
+  repeat-shows : lift (repeatAck (bare h) s) ≡ repeatAck now s
+  unfolding repeatAck
+  repeat-shows = go (isPoor (initOf s))
+    where
+      go : (p : Bool) → lift (pick p (refused (bare h) 8 NoCall) (accepted (bare h) NoEvent shutdownAckBytes)) ≡ pick p (refused now 8 NoCall) (accepted now NoEvent shutdownAckBytes)
+      go true = refl
+      go false = refl
+
+  stays-shows : (room : ℕ) (m : Made) (x : Action) → lift (stays room (bare h) m x) ≡ stays room now m x
+  unfolding withPeerTag
+  stays-shows room m Restart = refl
+  stays-shows room m Retag = refl
+  stays-shows room m Again = refl
+  stays-shows room m Late = refl
+  stays-shows room m Outside = refl
+
+  -- all tables are empty where it starts
+  abbrev clearing : Bool → Step → Step
+  clearing t d = tabled (clearedIf t 512 held) (clearedIf t 128 next) (clearedIf t 1024 places) (clearedIf t 128 nextOut) (clearedIf t 256 kept) d
+
+  acts-shows : (room source : ℕ) (m : Made) (x : Action) → clearing (starts x (h .state)) (acts room (bare h) source m x) ≡ acts room now source m x
+  unfolding acts established
+  acts-shows room source m x = go (starts x (h .state))
+    where
+      go : (t : Bool)
+          → clearing t (pick t (accepted (established (bare h) source m) (startedAs x (h .state)) cookieAckBytes) (stays room (bare h) m x))
+          ≡ pick t (accepted (established now source m) (startedAs x (h .state)) cookieAckBytes) (stays room now m x)
+      go true = ap (λ (a : Association). accepted a (startedAs x (h .state)) cookieAckBytes) (started-shows _ _ (m .«my_tsn») (m .window) _ (h .sender .mode))
+      go false = stays-shows room m x
+
+  echo-shows : (room : ℕ) (e : Echoed) (source : ℕ) → clearing (isStarting (h .state) (h .ends) e s) (readEcho room (bare h) e source s) ≡ readEcho room now e source s
+  unfolding isStarting readEcho
+  echo-shows room e source = go (isOdd (partFrom 4 s .len)) e
     where
       go : (o : Bool) (e : Echoed)
-          → (let t : Bool = pick o false (isGood e) in
-          tabled (clearedIf t 512 held) (clearedIf t 128 next) (clearedIf t 1024 places) (clearedIf t 128 nextOut) (clearedIf t 256 kept) (pick o (ending (refused (bare h) 8 NoCall)) (readEchoed (bare h) source e)))
-          ≡ pick o (ending (refused now 8 NoCall)) (readEchoed now source e)
+          → clearing (pick o false (begins (h .state) (h .ends) e)) (pick o (ending (refused (bare h) 8 NoCall)) (readEchoed room (bare h) source e))
+          ≡ pick o (ending (refused now 8 NoCall)) (readEchoed room now source e)
       go true e = refl
-      go false (Good m) = ap (λ (a : Association). accepted a Up (framed 11 0 [])) (started-shows _ _ (m .«my_tsn») (m .window) _ (h .sender .mode))
+      go false (Good m) = acts-shows room source m (actionOf (h .state) (h .ends) m)
       go false (Stale m) = refl
       go false Bad = refl
 
@@ -351,9 +382,9 @@ module _ (h : Head) (held next places nextOut kept s : List ℕ) where
         → (let l : Left = rowLeft h held next places nextOut kept area s room b cookie r in
         (shownLeft l ≡ rowStep room now b cookie s r) × (l .area ≡ rowArea now area s r))
     row-shows room Refused = (refl, refl)
-    row-shows room AnswerInit = (answer-shows (b .lent) cookie, refl)
+    row-shows room AnswerInit = (answer-shows (offered (bare h) (b .lent)) cookie, refl)
     row-shows room TakeInitAck = (ack-shows room, refl)
-    row-shows room ReadEcho = (echo-shows (b .echoed) (b .source), refl)
+    row-shows room ReadEcho = (echo-shows room (b .echoed) (b .source), refl)
     row-shows room BecomeEstablished = (refl, refl)
     row-shows room ReadData = (data-shows (w .held) f, refl)
     row-shows room ReadLateData = (late-shows (w .held) f, refl)
@@ -368,6 +399,7 @@ module _ (h : Head) (held next places nextOut kept s : List ℕ) where
     row-shows room ReadShutdown = (shutdown-shows (w .places), refl)
     row-shows room CrossShutdown = (answer-shutdown-shows (w .places) (ShutdownAckSent 0), refl)
     row-shows room RepeatShutdownAck = (answer-shutdown-shows (w .places) (h .state), refl)
+    row-shows room RepeatAck = (repeat-shows, refl)
     row-shows room ReflectComplete = (refl, refl)
     row-shows room SendComplete = (refl, refl)
     row-shows room BecomeComplete = (refl, refl)

@@ -74,5 +74,6 @@ pub fn step(
         Row::BecomeComplete => closing::become_complete(head),
         Row::PassUnknown(h) => unknown::pass_unknown(head, h),
         Row::TellUnknown(h) => unknown::tell_unknown(head, h, s, space),
+        Row::RepeatAck => opening::repeat_ack(head, s, space),
     }
 }

@@ -6,25 +6,29 @@ use flat::Head;
 use numbers::Keeping;
 use numbers::Rail;
 use states::State;
+use steps::Action;
 use steps::Echoed;
 use steps::Event;
 use steps::Lent;
 use steps::Made;
 use steps::Named;
 use steps::Reason;
+use steps::meeting;
 use steps::opening;
 ghost use mathlib.Core.Path.{_≡_};
 ghost use mathlib.Core.List.{[]};
 ghost use Prim.Native.Nat.{_≤_};
 ghost use lib.ListN.{length, replicate};
 ghost use Rattle.octets.specs.Writing.{wroteBytes};
-ghost use Rattle.steps.specs.Opening.{answerInit, kept as keptOf, echoing, echoedBack, takeInitAck, established, readEcho};
+ghost use Rattle.steps.specs.declared.meeting.Action.the-variants.{Restart};
+ghost use Rattle.steps.specs.Opening.{answerInit, kept as keptOf, echoing, echoedBack, takeInitAck, established};
+ghost use Rattle.steps.specs.Meeting.{offered, repeatAck, starts, withPeerTag, stays, acts, readEcho};
 ghost use Rattle.flat.specs.Shown.{cookieOf, bare, headOf};
 ghost use Rattle.rows.specs.Stepped.{steppedIn};
 ghost use Rattle.rows.specs.Rows.{isTaken, isStarting, clearedIf, keptIf};
 
-// An INIT in CLOSED.
-pub fn answer_init(head: Head, lent: Lent, cookie: &[u8], s: &[u8], space: &mut [u8]) -> Stepped
+// An INIT, with what our INIT ACK says of us.
+fn answer_with(head: Head, lent: Lent, cookie: &[u8], s: &[u8], space: &mut [u8]) -> Stepped
     ensures { λ r. ⌜ (r ≡ steppedIn (now (space .entry)) (answerInit (bare head) lent (now (cookie .entry)) (now (s .entry)))) × (now (space .exit) ≡ wroteBytes (now (space .entry)) (answerInit (bare head) lent (now (cookie .entry)) (now (s .entry)) .reply)) ⌝ }
 {
     if opening::is_poor_lent(lent, cookie.len()) {
@@ -44,6 +48,34 @@ pub fn answer_init(head: Head, lent: Lent, cookie: &[u8], s: &[u8], space: &mut 
     let k = opening::ack_of(lent, v);
     let n = parameters::report::write_init_ack(space, k, cookie, s);
     Stepped::answering(head, Event::NoEvent, v.tag, n)
+}
+
+// An INIT in any state but SHUTDOWN-ACK-SENT.
+pub fn answer_init(head: Head, lent: Lent, cookie: &[u8], s: &[u8], space: &mut [u8]) -> Stepped
+    ensures { λ r. ⌜ (r ≡ steppedIn (now (space .entry)) (answerInit (bare head) (offered (bare head) lent) (now (cookie .entry)) (now (s .entry)))) × (now (space .exit) ≡ wroteBytes (now (space .entry)) (answerInit (bare head) (offered (bare head) lent) (now (cookie .entry)) (now (s .entry)) .reply)) ⌝ }
+{
+    let state = head.state;
+    let ends = head.ends;
+    let sender = head.sender;
+    let next = sender.next_tsn;
+    answer_with(
+        head,
+        meeting::offer(state, ends, next, lent),
+        cookie,
+        s,
+        space,
+    )
+}
+
+// An INIT in SHUTDOWN-ACK-SENT: the SHUTDOWN ACK again.
+pub fn repeat_ack(head: Head, s: &[u8], space: &mut [u8]) -> Stepped
+    ensures { λ r. ⌜ (r ≡ steppedIn (now (space .entry)) (repeatAck (bare head) (now (s .entry)))) × (now (space .exit) ≡ wroteBytes (now (space .entry)) (repeatAck (bare head) (now (s .entry)) .reply)) ⌝ }
+{
+    if opening::is_poor(chunks::init::read_init(s)) {
+        return Stepped::refused(head, 8, Named::NoCall);
+    }
+    let n = chunks::shutdown::write_shutdown_ack(space);
+    Stepped::accepted(head, Event::NoEvent, n)
 }
 
 // The cookie, for T1's resends, with zeros behind it; the answer is its length.
@@ -187,7 +219,77 @@ fn clear(
     flat::fresh::clear_cookie(kept);
 }
 
-// A COOKIE ECHO in CLOSED. Refused, it leaves the rest of the packet unread.
+// The peer's tag alone changes.
+fn retagged(mut head: Head, tag: u32) -> Head
+    ensures { λ r. ⌜ r ≡ headOf (withPeerTag (bare head) tag) ⌝ }
+{
+    let mut ends = head.ends;
+    ends.peer_tag = tag;
+    head.ends = ends;
+    head
+}
+
+// A restart in SHUTDOWN-ACK-SENT: the SHUTDOWN ACK again, and behind it an ERROR with cause 10.
+fn refuse_restart(head: Head, m: Made, space: &mut [u8]) -> Stepped
+    ensures { λ r. ⌜ (r ≡ steppedIn (now (space .entry)) (stays (length (now (space .entry))) (bare head) m Restart)) × (now (space .exit) ≡ wroteBytes (now (space .entry)) (stays (length (now (space .entry))) (bare head) m Restart .reply)) ⌝ }
+{
+    let n = chunks::shutdown::write_shutdown_ack(space);
+    let k = chunks::cause::write_caused(&mut space[n..], 9, 0, 10, b"");
+    Stepped::accepted(head, Event::NoEvent, n + k).ending()
+}
+
+// A good echo that starts nothing.
+fn stay(head: Head, m: Made, action: Action, space: &mut [u8]) -> Stepped
+    ensures { λ r. ⌜ (r ≡ steppedIn (now (space .entry)) (stays (length (now (space .entry))) (bare head) m action)) × (now (space .exit) ≡ wroteBytes (now (space .entry)) (stays (length (now (space .entry))) (bare head) m action .reply)) ⌝ }
+{
+    match action {
+        Action::Restart => refuse_restart(head, m, space),
+        Action::Retag => {
+            let n = chunks::cookie::write_cookie_ack(space);
+            Stepped::accepted(retagged(head, m.peer_tag), Event::Retagged, n)
+        }
+        Action::Again => {
+            let n = chunks::cookie::write_cookie_ack(space);
+            Stepped::accepted(head, Event::NoEvent, n)
+        }
+        Action::Late => Stepped::accepted(head, Event::NoEvent, 0).ending(),
+        Action::Outside => Stepped::refused(head, 7, Named::NoCall).ending(),
+    }
+}
+
+// A good echo, by what table 12 says to do.
+fn act(
+    head: Head,
+    held: &mut [u32; 512],
+    next_in: &mut [u16; 128],
+    places: &mut [u32; 1024],
+    next_out: &mut [u16; 128],
+    kept: &mut [u8; 256],
+    m: Made,
+    action: Action,
+    source: u16,
+    space: &mut [u8],
+) -> Stepped
+    ensures { λ r. ⌜ (r ≡ steppedIn (now (space .entry)) (acts (length (now (space .entry))) (bare head) source m action))
+        × (now (held .exit) ≡ clearedIf (starts action (head .state)) 512 (now (held .entry)))
+        × (now («next_in» .exit) ≡ clearedIf (starts action (head .state)) 128 (now («next_in» .entry)))
+        × (now (places .exit) ≡ clearedIf (starts action (head .state)) 1024 (now (places .entry)))
+        × (now («next_out» .exit) ≡ clearedIf (starts action (head .state)) 128 (now («next_out» .entry)))
+        × (now (kept .exit) ≡ clearedIf (starts action (head .state)) 256 (now (kept .entry)))
+        × (now (space .exit) ≡ wroteBytes (now (space .entry)) (acts (length (now (space .entry))) (bare head) source m action .reply)) ⌝ }
+{
+    let state = head.state;
+    if meeting::starts(action, state) {
+        clear(held, next_in, places, next_out, kept);
+        let after = established(head, source, m);
+        let event = meeting::started_as(action, state);
+        let n = chunks::cookie::write_cookie_ack(space);
+        return Stepped::accepted(after, event, n);
+    }
+    stay(head, m, action, space)
+}
+
+// A COOKIE ECHO that is the first chunk of its packet. Refused, it leaves the rest of the packet unread.
 pub fn read_echo(
     head: Head,
     held: &mut [u32; 512],
@@ -200,13 +302,13 @@ pub fn read_echo(
     s: &[u8],
     space: &mut [u8],
 ) -> Stepped
-    ensures { λ r. ⌜ (r ≡ steppedIn (now (space .entry)) (readEcho (bare head) echoed source (now (s .entry))))
-        × (now (held .exit) ≡ clearedIf (isStarting echoed (now (s .entry))) 512 (now (held .entry)))
-        × (now («next_in» .exit) ≡ clearedIf (isStarting echoed (now (s .entry))) 128 (now («next_in» .entry)))
-        × (now (places .exit) ≡ clearedIf (isStarting echoed (now (s .entry))) 1024 (now (places .entry)))
-        × (now («next_out» .exit) ≡ clearedIf (isStarting echoed (now (s .entry))) 128 (now («next_out» .entry)))
-        × (now (kept .exit) ≡ clearedIf (isStarting echoed (now (s .entry))) 256 (now (kept .entry)))
-        × (now (space .exit) ≡ wroteBytes (now (space .entry)) (readEcho (bare head) echoed source (now (s .entry)) .reply)) ⌝ }
+    ensures { λ r. ⌜ (r ≡ steppedIn (now (space .entry)) (readEcho (length (now (space .entry))) (bare head) echoed source (now (s .entry))))
+        × (now (held .exit) ≡ clearedIf (isStarting (head .state) (head .ends) echoed (now (s .entry))) 512 (now (held .entry)))
+        × (now («next_in» .exit) ≡ clearedIf (isStarting (head .state) (head .ends) echoed (now (s .entry))) 128 (now («next_in» .entry)))
+        × (now (places .exit) ≡ clearedIf (isStarting (head .state) (head .ends) echoed (now (s .entry))) 1024 (now (places .entry)))
+        × (now («next_out» .exit) ≡ clearedIf (isStarting (head .state) (head .ends) echoed (now (s .entry))) 128 (now («next_out» .entry)))
+        × (now (kept .exit) ≡ clearedIf (isStarting (head .state) (head .ends) echoed (now (s .entry))) 256 (now (kept .entry)))
+        × (now (space .exit) ≡ wroteBytes (now (space .entry)) (readEcho (length (now (space .entry))) (bare head) echoed source (now (s .entry)) .reply)) ⌝ }
 {
     let p = chunks::cookie::cookie(s);
     if opening::is_odd(p.len) {
@@ -214,10 +316,21 @@ pub fn read_echo(
     }
     match echoed {
         Echoed::Good(m) => {
-            clear(held, next_in, places, next_out, kept);
-            let after = established(head, source, m);
-            let n = chunks::cookie::write_cookie_ack(space);
-            Stepped::accepted(after, Event::Up, n)
+            let state = head.state;
+            let ends = head.ends;
+            let action = meeting::action_of(state, ends, m);
+            act(
+                head,
+                held,
+                next_in,
+                places,
+                next_out,
+                kept,
+                m,
+                action,
+                source,
+                space,
+            )
         }
         Echoed::Stale(_) => Stepped::refused(head, 27, Named::ErrorStale).ending(),
         Echoed::Bad => Stepped::refused(head, 27, Named::NoCall).ending(),

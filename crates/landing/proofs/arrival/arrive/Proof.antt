@@ -8,7 +8,7 @@ use Rattle.landing.proofs.arrival.check.Reads as check-reads
 use Rattle.landing.proofs.arrival.check_lent.Reads as check-lent-reads
 use Rattle.landing.proofs.arrival.let_in.Reads as let-in-reads
 use Rattle.landing.proofs.arrival.refused.Reads as refused-reads
-use Rattle.steps.proofs.lent.Echoed.heeded.Reads as heeded-reads
+use Rattle.landing.proofs.arrival.heed.Reads as heed-reads
 
 -- src/arrival.rt:168:9
 check-lent-requires : tie.Need-check-lent-requires
@@ -23,8 +23,8 @@ returns : tie.Need-returns
 returns c = refused-lent _ (c .before .before .before .before .before .before .before .before .before .args .lent) (c .before .before .before .before .before .before .before .before .before .args .cookie .now) (c .before .before .before .before .before .before .before .before .before .args .echoed) (c .before .before .before .before .before .before .before .before .before .args .head) _ _ _ _ _ _ _ _ (c .before .before .check-lent .ensures) (c .before .if1 .taken) (c .refused .ensures)
 
 -- src/arrival.rt:172:9
-heeded-requires : tie.Need-heeded-requires
-heeded-requires c κs = search needs
+heed-requires : tie.Need-heed-requires
+heed-requires c κs = search needs
 
 -- src/arrival.rt:173:9
 check-requires : tie.Need-check-requires
@@ -36,7 +36,7 @@ refused-requires-2 c κs = search needs
 
 -- src/arrival.rt:175:9
 returns-2 : tie.Need-returns-2
-returns-2 c = refused-packet _ (c .before .before .before .before .before .before .before .before .before .before .before .before .args .lent) (c .before .before .before .before .before .before .before .before .before .before .before .before .args .cookie .now) (c .before .before .before .before .before .before .before .before .before .before .before .before .args .echoed) (c .before .before .before .before .before .before .before .before .before .before .before .before .args .head) _ _ _ _ _ _ _ _ (c .before .before .before .before .before .check-lent .ensures) (c .before .before .before .before .if1 .left) (c .before .before .before .heeded .ensures) (c .before .before .check .ensures) (c .before .if2 .taken) (c .refused2 .ensures)
+returns-2 c = refused-packet _ (c .before .before .before .before .before .before .before .before .before .before .before .before .args .lent) (c .before .before .before .before .before .before .before .before .before .before .before .before .args .cookie .now) (c .before .before .before .before .before .before .before .before .before .before .before .before .args .echoed) (c .before .before .before .before .before .before .before .before .before .before .before .before .args .head) _ _ _ _ _ _ _ _ (c .before .before .before .before .before .check-lent .ensures) (c .before .before .before .before .if1 .left) (c .before .before .before .heed .ensures) (c .before .before .check .ensures) (c .before .if2 .taken) (c .refused2 .ensures)
 
 -- src/arrival.rt:177:5
 let-in-requires : tie.Need-let-in-requires
@@ -52,7 +52,7 @@ same-length-2 c = search needs
 
 -- src/arrival.rt:150:1
 returns-3 : tie.Need-returns-3
-returns-3 c = let-in _ (c .before .before .before .before .before .before .before .before .before .before .before .before .before .before .before .before .before .before .before .before .before .before .before .before .args .lent) (c .before .before .before .before .before .before .before .before .before .before .before .before .before .before .before .before .before .before .before .before .before .before .before .before .args .cookie .now) (c .before .before .before .before .before .before .before .before .before .before .before .before .before .before .before .before .before .before .before .before .before .before .before .before .args .echoed) (c .before .before .before .before .before .before .before .before .before .before .before .before .before .before .before .before .before .before .before .before .before .before .before .before .args .head) _ _ _ _ _ _ _ _ (c .before .before .before .before .before .before .before .before .before .before .before .before .before .before .before .before .before .check-lent .ensures) (c .before .before .before .before .before .before .before .before .before .before .before .before .before .before .before .before .if1 .left) (c .before .before .before .before .before .before .before .before .before .before .before .before .before .before .before .heeded .ensures) (c .before .before .before .before .before .before .before .before .before .before .before .before .before .before .check .ensures) (c .before .before .before .before .before .before .before .before .before .before .before .before .before .if2 .left) (c .before .before .before .before .let-in .ensures)
+returns-3 c = let-in _ (c .before .before .before .before .before .before .before .before .before .before .before .before .before .before .before .before .before .before .before .before .before .before .before .before .args .lent) (c .before .before .before .before .before .before .before .before .before .before .before .before .before .before .before .before .before .before .before .before .before .before .before .before .args .cookie .now) (c .before .before .before .before .before .before .before .before .before .before .before .before .before .before .before .before .before .before .before .before .before .before .before .before .args .echoed) (c .before .before .before .before .before .before .before .before .before .before .before .before .before .before .before .before .before .before .before .before .before .before .before .before .args .head) _ _ _ _ _ _ _ _ (c .before .before .before .before .before .before .before .before .before .before .before .before .before .before .before .before .before .check-lent .ensures) (c .before .before .before .before .before .before .before .before .before .before .before .before .before .before .before .before .if1 .left) (c .before .before .before .before .before .before .before .before .before .before .before .before .before .before .before .heed .ensures) (c .before .before .before .before .before .before .before .before .before .before .before .before .before .before .check .ensures) (c .before .before .before .before .before .before .before .before .before .before .before .before .before .if2 .left) (c .before .before .before .before .let-in .ensures)
 
 pub arrive-spec : {M : Type 1} → statement M
 arrive-spec =
@@ -61,7 +61,7 @@ arrive-spec =
     check-lent-requires
     refused-requires
     returns
-    heeded-requires
+    heed-requires
     check-requires
     refused-requires-2
     returns-2
