@@ -26,7 +26,7 @@ pub(crate) const SPACE: usize = 65536;
 // was made from; and its word, which is the event's number: 0 bad, 1 stale, 2 good. Of any other event its number and its values.
 pub(crate) struct Host {
     pub(crate) number: u8,
-    pub(crate) values: [u32; 10],
+    pub(crate) values: [u32; 12],
     pub(crate) cookie: [u8; 300],
     pub(crate) cookie_len: usize,
 }
@@ -42,7 +42,7 @@ pub(crate) struct Said {
 pub(crate) fn nobody() -> Host {
     Host {
         number: 0,
-        values: [0u32; 10],
+        values: [0u32; 12],
         cookie: [0u8; 300],
         cookie_len: 0,
     }
@@ -62,11 +62,11 @@ pub(crate) fn lends(mut h: Host, line: &[u8]) -> Host {
     h
 }
 
-// good or stale, with MY TAG, PEER'S TAG, STREAMS IN, OUT, MY TSN, PEER'S TSN, WINDOW; or bad
+// good or stale, with MY TAG, PEER'S TAG, STREAMS IN, OUT, MY TSN, PEER'S TSN, WINDOW, and the ties, MY and PEER'S, where there are some; or bad
 pub(crate) fn judges(mut h: Host, line: &[u8]) -> Host {
     let mut values = h.values;
     let mut k: usize = 0;
-    while k < 7 {
+    while k < 9 {
         values[k + 3] = value32(rest(line), k + 1);
         k += 1;
     }
@@ -133,19 +133,19 @@ fn number_of(word: u8, line: &[u8]) -> u8 {
     }
 }
 
-fn four(a: u32, b: u32, c: u32, d: u32) -> [u32; 10] {
-    [a, b, c, d, 0, 0, 0, 0, 0, 0]
+fn four(a: u32, b: u32, c: u32, d: u32) -> [u32; 12] {
+    [a, b, c, d, 0, 0, 0, 0, 0, 0, 0, 0]
 }
 
 // beats VALUE
-fn values_beaten(line: &[u8]) -> [u32; 10] {
+fn values_beaten(line: &[u8]) -> [u32; 12] {
     let mut value = [0u8; 8];
     spell(word(line, 1), &mut value, 0);
     four(get32(&value, 0), get32(&value, 4), 0, 0)
 }
 
 // associates TAG TSN PORT STREAMS; lates PORT TAG MICROSECONDS; strays STREAM; rtt MILLISECONDS
-fn values_called(line: &[u8]) -> [u32; 10] {
+fn values_called(line: &[u8]) -> [u32; 12] {
     four(
         value32(line, 1),
         value32(line, 2),
@@ -154,7 +154,7 @@ fn values_called(line: &[u8]) -> [u32; 10] {
     )
 }
 
-fn values_of(given: [u32; 10], number: u8, line: &[u8]) -> [u32; 10] {
+fn values_of(given: [u32; 12], number: u8, line: &[u8]) -> [u32; 12] {
     match number {
         0 | 1 | 2 => given,
         4 | 5 => four(value32(line, 1), value32(line, 3), 0, 0),

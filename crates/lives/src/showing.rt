@@ -108,7 +108,10 @@ fn say_event(should: &[u8], at: usize, w: u32) -> usize {
     say(
         should,
         at,
-        row(b"\n up\n aborted\n stale\n host name\n shut down", event),
+        row(
+            b"\n up\n aborted\n stale\n host name\n shut down\n restarted\n retagged",
+            event,
+        ),
     )
 }
 

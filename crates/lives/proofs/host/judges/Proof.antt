@@ -6,10 +6,10 @@ use Rattle.lives.proofs.host.judges.Statement.{statement}
 use Rattle.lives.proofs.host.judges.Tie as tie
 
 abbrev Inv-loop : tie.InvT-loop
-Inv-loop h line values₀ k₀ t5 values k = length values ≡ 10
+Inv-loop h line values₀ k₀ t5 values k = length values ≡ 12
 
 abbrev μ-loop : tie.MeasureT-loop
-μ-loop h line values₀ k₀ t5 values k = 7 - k
+μ-loop h line values₀ k₀ t5 values k = 9 - k
 
 loop-holds : tie.Need-loop-holds Inv-loop μ-loop
 loop-holds c = search needs
