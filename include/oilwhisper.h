@@ -309,7 +309,9 @@ static inline struct ow_peeked ow_peek(const uint8_t *packet, size_t packet_len)
 
 /*
  * For the INIT ACK that answers an INIT: our tag, not 0, our first TSN, both random, the streams wanted for sending, and the options: 0, for there is none yet, and
- * the INIT is refused 8 with any other number. For any other packet 0s will do.
+ * the INIT is refused 8 with any other number. For any other packet 0s will do. Outside OW_CLOSED streams and options are the record's own, and in OW_COOKIE_WAIT and
+ * OW_COOKIE_ECHOED the tag is its `my_tag` and the TSN its `next_tsn`, whatever is lent: the cookie is to be made from those. In OW_SHUTDOWN_ACK_SENT nothing is
+ * looked at. Only for a peer at an address of its own may a host lend a cookie, or call one good, while there is an association.
  */
 struct ow_lent {
     uint32_t tag;
@@ -319,8 +321,9 @@ struct ow_lent {
 };
 
 /*
- * What a cookie was made from: the tags, the streams agreed each way, both first TSNs and the peer's window; the tie-tags (RFC 9260 section 5.2.2), 0 for none, which
- * nothing reads yet; the options agreed, 0, for a good cookie with any other number counts as bad.
+ * What a cookie was made from: the tags, the streams agreed each way, both first TSNs and the peer's window; the tie-tags (RFC 9260 section 5.2.2): the record's own
+ * two tags when the INIT came, or 0 in OW_CLOSED and OW_COOKIE_WAIT, which the cookie must not show; the options agreed, 0, for a good cookie with any other number
+ * counts as bad.
  */
 struct ow_made {
     uint32_t my_tag;
@@ -362,6 +365,8 @@ struct ow_echoed {
 #define OW_DOWN_STALE 3          /* closed: our cookie was stale */
 #define OW_DOWN_HOST_NAME 4      /* closed: the peer's INIT ACK had a host name */
 #define OW_DOWN_SHUT_DOWN 5      /* closed: shut down by both */
+#define OW_RESTARTED 6           /* the peer began anew: the record is fresh, and OW_ESTABLISHED; what was not taken is gone */
+#define OW_RETAGGED 7            /* the peer has another tag; nothing else of the record changed */
 
 /* `cause`: the call that a verdict names, which is the host's to make; ow_abort's causes are among them. */
 #define OW_CAUSE_NONE 0
@@ -530,7 +535,7 @@ static inline struct ow_answer ow_error_stream(struct ow_association *associatio
 
 /*
  * Tells the peer that the cookie it echoed came `late` microseconds past its lifetime: an ERROR with cause 3. `port`: the one that the echo came from. `tag`: the
- * cookie's `peer_tag`. In OW_CLOSED. Refused 1, 18, 7, 4 (port 0, the record's own too, or tag 0).
+ * cookie's `peer_tag`. In any state. Refused 1, 18, 4 (port 0, the record's own too, or tag 0).
  */
 static inline struct ow_answer ow_error_stale(struct ow_association *association, uint16_t port, uint32_t tag, uint32_t late, uint8_t *out,
     size_t out_len);

@@ -2,7 +2,7 @@
 
 use crate::calls::{
     Acknowledged, Answer, Arrived, Cause, Echoed, Expired, Fate, Lent, Made, Named, NotTaken, Peeked, Refusal, Shelf, Standing, State, Taken,
-    Transmitted, Turn, Verdict, AREA, PAYLOAD,
+    Transmitted, Turn, Verdict, AREA, MESSAGE_MOST, PAYLOAD,
 };
 use crate::config::Book;
 use crate::ffi;
@@ -131,6 +131,19 @@ impl<L: Library> Association<L> {
         matches!(self.take(&mut []), Err(NotTaken::Short(_)))
     }
 
+    /// How many messages could be taken one after the other.
+    pub fn untaken(&self) -> usize {
+        let mut copy =
+            Association::<L> { record: self.record.clone(), received: self.received.clone(), to_send: Box::default(), library: PhantomData };
+        let mut message = vec![0; MESSAGE_MOST];
+        std::iter::from_fn(|| copy.take(&mut message).ok()).count()
+    }
+
+    /// The first TSN of the peer's that has not come.
+    pub fn next_expected(&self) -> u32 {
+        self.record.head.keeping.point.wrapping_add(1)
+    }
+
     /// A SACK of what has come.
     pub fn sack(&mut self, out: &mut [u8]) -> Answer<Acknowledged> {
         let answer = L::sack(&mut self.record, out);
@@ -252,6 +265,8 @@ fn verdict_of(verdict: &library::Verdict) -> Verdict {
             ffi::DOWN_STALE => Turn::StaleCookie,
             ffi::DOWN_HOST_NAME => Turn::HostName,
             ffi::DOWN_SHUT_DOWN => Turn::ShutDown,
+            ffi::RESTARTED => Turn::Restarted,
+            ffi::RETAGGED => Turn::Retagged,
             _ => Turn::None,
         },
     }

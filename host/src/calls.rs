@@ -331,6 +331,10 @@ pub enum Turn {
     HostName,
     /// Both ends have shut down.
     ShutDown,
+    /// The peer began anew: the record is fresh, and established.
+    Restarted,
+    /// The peer has another tag.
+    Retagged,
 }
 
 /// Of one chunk.

@@ -12,7 +12,9 @@ pub const LIFETIME: Duration = Duration::from_secs(60);
 /// A key signs for so long, and its cookies are known for as long again: longer than any is good.
 const KEY_LIFETIME: Duration = Duration::from_secs(600);
 
-const SIGNED: usize = 52;
+const PLAIN: usize = 52;
+const TIES: usize = 8;
+const SIGNED: usize = PLAIN + TIES;
 const COOKIE: usize = SIGNED + SIGNATURE;
 
 #[derive(Clone, Copy, Debug, PartialEq, Eq)]
@@ -53,21 +55,35 @@ impl CookieJar {
         cookie.extend_from_slice(&self.age(now).to_be_bytes());
         cookie.extend_from_slice(&port.to_be_bytes());
         cookie.extend_from_slice(&address_bytes(from));
+        let ties = u64::from(made.my_tie) << 32 | u64::from(made.peer_tie);
+        let masked = ties ^ mask(&self.present, &cookie);
+        cookie.extend_from_slice(&masked.to_be_bytes());
         let signature = sign(&self.present, &cookie);
         cookie.extend_from_slice(&signature);
         cookie
     }
 
-    /// The word on a cookie that this peer echoes.
+    /// The word on a cookie that this peer echoes to start an association: it is good once.
     pub fn judge(&self, cookie: &[u8], from: SocketAddr, port: u16, now: Instant) -> Judgement {
+        match self.judge_again(cookie, from, port, now) {
+            Judgement::Good(made) | Judgement::Stale(made, _) if self.used.iter().any(|(tag, _)| *tag == made.my_tag) => Judgement::Bad,
+            judgement => judgement,
+        }
+    }
+
+    /// The word on a cookie that comes to an association: its own may come again (RFC 9260 section 5.2.4 D).
+    pub fn judge_again(&self, cookie: &[u8], from: SocketAddr, port: u16, now: Instant) -> Judgement {
         if cookie.len() != COOKIE {
             return Judgement::Bad;
         }
         let (signed, signature) = cookie.split_at(SIGNED);
-        if !self.keys().any(|key| is_signed(key, signed, signature)) {
-            return Judgement::Bad;
-        }
-        let mut fields = Fields(signed);
+        let key = match self.keys().find(|key| is_signed(*key, signed, signature)) {
+            Some(key) => key,
+            None => return Judgement::Bad,
+        };
+        let (plain, masked) = signed.split_at(PLAIN);
+        let ties = Fields(masked).double() ^ mask(key, plain);
+        let mut fields = Fields(plain);
         let made = Made {
             my_tag: fields.word(),
             peer_tag: fields.word(),
@@ -76,11 +92,13 @@ impl CookieJar {
             my_tsn: fields.word(),
             peer_tsn: fields.word(),
             window: fields.word(),
-            ..Made::default()
+            my_tie: (ties >> 32) as u32,
+            peer_tie: ties as u32,
+            options: 0,
         };
         let baked = Duration::from_millis(fields.double());
         let is_for_this_peer = fields.half() == port && fields.0 == address_bytes(from);
-        if !is_for_this_peer || self.used.iter().any(|(tag, _)| *tag == made.my_tag) {
+        if !is_for_this_peer {
             return Judgement::Bad;
         }
         let age = now.saturating_duration_since(self.opened + baked);
@@ -112,6 +130,11 @@ impl CookieJar {
             self.changed = now;
         }
     }
+}
+
+/// What hides the tie-tags, which are the true tags of an association, from everybody who sees the cookie (RFC 9260 section 5.2.2).
+fn mask(key: &Key, plain: &[u8]) -> u64 {
+    Fields(&sign(key, &[b"tie", plain].concat())).double()
 }
 
 /// The address and its UDP port.
@@ -244,12 +267,27 @@ mod tests {
     }
 
     #[test]
+    fn ties_come_back_and_are_not_shown() {
+        let now = Instant::now();
+        let mut jar = jar(now);
+        let tied = Made { my_tie: 0x5151_5151, peer_tie: 0x6262_6262, ..MADE };
+        let cookie = jar.bake(tied, peer(), 5001, now);
+        assert_eq!(jar.judge(&cookie, peer(), 5001, now), Judgement::Good(tied));
+        assert!(!cookie.windows(4).any(|four| four == [0x51; 4] || four == [0x62; 4]));
+        // None at all is hidden as well.
+        let untied = jar.bake(MADE, peer(), 5001, now);
+        assert_ne!(untied[PLAIN..SIGNED], [0; TIES]);
+        assert_ne!(untied[PLAIN..SIGNED], cookie[PLAIN..SIGNED]);
+    }
+
+    #[test]
     fn a_used_cookie_is_bad_and_forgotten_once_it_would_be_stale() {
         let now = Instant::now();
         let mut jar = jar(now);
         let cookie = jar.bake(MADE, peer(), 5001, now);
         jar.spend(MADE.my_tag, now);
         assert_eq!(jar.judge(&cookie, peer(), 5001, now), Judgement::Bad);
+        assert_eq!(jar.judge_again(&cookie, peer(), 5001, now), Judgement::Good(MADE));
         let later = now + LIFETIME + Duration::from_millis(1);
         jar.spend(1, later);
         assert_eq!(jar.judge(&cookie, peer(), 5001, later), Judgement::Stale(MADE, Duration::from_millis(1)));

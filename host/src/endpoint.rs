@@ -167,10 +167,17 @@ impl<L: Library> Endpoint<L> {
         self.session.outbox.counts.packets_received += 1;
         let incoming = Incoming { packet, from, at: now };
         if self.session.is_over() {
-            self.meet(incoming);
-        } else if self.session.arrive(incoming, &mut self.tools) == Err(Refusal::TAG) && !self.session.is_of_peer(incoming) {
+            return self.meet(incoming);
+        }
+        let my_tag = self.session.standing().my_tag;
+        let prepared = self.front.prepare(incoming, &self.session, |tag| tag == my_tag, &mut self.tools);
+        let answer = self.session.arrive(incoming, &prepared, &self.config, &mut self.tools);
+        if answer == Err(Refusal::TAG) && !self.session.is_of_peer(incoming) {
             // RFC 9260 section 8.5: a packet of the peer's with a wrong tag is dropped.
             self.front.answer_stray(incoming, &mut self.session.outbox);
+        }
+        if prepared.opens() {
+            self.front.spent(self.session.standing().my_tag, now);
         }
     }
 

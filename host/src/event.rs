@@ -15,6 +15,8 @@ pub enum Event {
     Quiet(Duration),
     /// A peer that was quiet is heard again.
     Heard,
+    /// The peer began anew, having lost all that it knew: the association is up, and fresh. So many messages of its old life were not taken, and are gone.
+    Restarted(usize),
 }
 
 /// Why an association is over.

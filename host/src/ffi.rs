@@ -89,6 +89,10 @@ pub const DOWN_STALE: u8 = 3;
 pub const DOWN_HOST_NAME: u8 = 4;
 /// Event of a chunk: closed, shut down by both.
 pub const DOWN_SHUT_DOWN: u8 = 5;
+/// Event of a chunk: the peer began anew.
+pub const RESTARTED: u8 = 6;
+/// Event of a chunk: the peer has another tag.
+pub const RETAGGED: u8 = 7;
 
 /// The call that a verdict names: none.
 pub const CAUSE_NONE: u8 = 0;

@@ -1,13 +1,13 @@
 //! What is of no association: INITs and echoed cookies, which one closed record answers and keeps nothing of, and packets out of the blue.
 
 use crate::association::{peek, Association};
-use crate::calls::{Fate, Named, Peeked, Refusal};
+use crate::calls::{Fate, Named, Peeked, Refusal, State};
 use crate::config::Config;
-use crate::door::{Door, Prepared};
+use crate::door::{Door, Own, Prepared};
 use crate::library::Library;
 use crate::outbox::Outbox;
 use crate::packet::{destination_port, Incoming};
-use crate::session::Tools;
+use crate::session::{Session, Tools};
 use crate::stray::Strays;
 use std::net::SocketAddr;
 use std::time::Instant;
@@ -63,6 +63,36 @@ impl<L: Library> Front<L> {
         };
         self.answer(incoming, &prepared, outbox, tools);
         Met::Done
+    }
+
+    /// What is lent with a packet that came to an association. Only its own peer, at the address where it is known, may begin anew or collide: the record has no
+    /// address of its own yet.
+    pub fn prepare(&mut self, incoming: Incoming, session: &Session<L>, is_taken: impl Fn(u32) -> bool, tools: &mut Tools) -> Prepared {
+        let Incoming { packet, from, at: now } = incoming;
+        if !session.is_of_peer(incoming) {
+            return Prepared::nothing();
+        }
+        match peek::<L>(packet) {
+            Peeked::Nothing | Peeked::Refused(_) => Prepared::nothing(),
+            Peeked::Init(init) => {
+                let standing = session.standing();
+                let (tag, tsn) = match standing.state.is_opening() {
+                    true => (standing.my_tag, standing.next_tsn),
+                    false => (tools.fresh_tag(is_taken), tools.first_tsn()),
+                };
+                let ties = match standing.state {
+                    State::CookieWait => (0, 0),
+                    _ => (standing.my_tag, session.core().peer_tag()),
+                };
+                self.door.invite_again(&init, from, &Own { tag, tsn, streams: standing.streams_out, ties }, now)
+            }
+            Peeked::Echo { at, len } => self.door.judge_again(packet, at, len, from, now),
+        }
+    }
+
+    /// An association with a peer that was there already began anew with the cookie that has this tag of ours.
+    pub fn spent(&mut self, my_tag: u32, now: Instant) {
+        self.door.spent(my_tag, now);
     }
 
     /// An association began with the cookie that has this tag of ours: it is good for no second one.

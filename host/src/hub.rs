@@ -11,7 +11,7 @@ use crate::event::{self, Why};
 use crate::front::{Front, Met};
 use crate::library::Library;
 use crate::outbox::Outbox;
-use crate::packet::{first_chunk, flags_of_first, source_port, tag, Datagram, Incoming, ABORT, SHUTDOWN_COMPLETE, T};
+use crate::packet::{first_chunk, flags_of_first, source_port, tag, Datagram, Incoming, ABORT, INIT, SHUTDOWN_COMPLETE, T};
 use crate::random::Random;
 use crate::session::{Session, Tools};
 use crate::tickets::{Ticket, Tickets};
@@ -386,6 +386,11 @@ impl<L: Library> Hub<L> {
         if let Some(id) = self.tags.get(&shown) {
             return Some(*id);
         }
+        // RFC 9260 section 5.2.1: an INIT that crosses ours is of the association that is being opened.
+        if first_chunk(incoming.packet) == Some(INIT) {
+            let is_asked = |id: &HeadId| self.heads.get(id).map_or(false, |head| head.session.standing().state.is_opening());
+            return self.living_at(incoming).filter(is_asked);
+        }
         // RFC 9260 section 8.5.1: with T set an ABORT or a SHUTDOWN COMPLETE shows the peer's own tag.
         let is_reflected = matches!(first_chunk(incoming.packet), Some(ABORT | SHUTDOWN_COMPLETE)) && flags_of_first(incoming.packet) & T != 0;
         let is_its_own = |head: &Head<L>| !head.is_down && head.session.core().peer_tag() == shown && head.session.is_of_peer(incoming);
@@ -399,7 +404,12 @@ impl<L: Library> Hub<L> {
             None => return,
         };
         head.session.outbox.counts.packets_received += 1;
-        let answer = head.session.arrive(incoming, &mut self.tools);
+        let tags = &self.tags;
+        let prepared = self.front.prepare(incoming, &head.session, |tag| tags.contains_key(&tag), &mut self.tools);
+        let answer = head.session.arrive(incoming, &prepared, &self.settings.common, &mut self.tools);
+        if prepared.opens() {
+            self.front.spent(head.session.standing().my_tag, incoming.at);
+        }
         if answer == Err(Refusal::TAG) && !head.session.is_of_peer(incoming) {
             self.front.answer_stray(incoming, &mut self.strangers);
         }
@@ -514,6 +524,8 @@ impl<L: Library> Hub<L> {
                 event::Event::Up => tell(Event::Up { peer: head.peer, streams: standing.streams_out }),
                 event::Event::Quiet(silence) => tell(Event::Quiet(silence)),
                 event::Event::Heard => tell(Event::Heard),
+                // A peer that begins anew gets a record of its own here (`meet`), with no tie to the one before.
+                event::Event::Restarted(_) => {}
                 event::Event::Down(why) => {
                     head.is_down = true;
                     tell(Event::Down { why, undelivered: head.tickets.undelivered() });

@@ -1,13 +1,11 @@
-//! The reply that ended a handshake, kept while the peer may not have it. The core reads a COOKIE ECHO only in CLOSED and a SHUTDOWN ACK never there, so a lost
-//! COOKIE ACK or SHUTDOWN COMPLETE is the host's to repair: asked the same again, it sends the same bytes again (RFC 9260 sections 5.2.4 D and 8.4, rule 5).
+//! The reply that ended a shutdown, kept while the peer may not have it. The core reads no SHUTDOWN ACK in CLOSED, so a lost SHUTDOWN COMPLETE is the host's to
+//! repair: asked the same again, it sends the same bytes again (RFC 9260 section 8.4, rule 5). A lost COOKIE ACK is the core's (section 5.2.4 D).
 
 use crate::packet::{first_chunk, source_port, tag, Incoming, SHUTDOWN_ACK};
 use std::net::IpAddr;
 
 #[derive(Debug, Default)]
 pub struct LastWord {
-    /// The COOKIE ECHO that was good, and what answered it.
-    opening: Option<(Vec<u8>, Vec<u8>)>,
     closing: Option<Farewell>,
 }
 
@@ -35,26 +33,12 @@ impl Farewell {
 }
 
 impl LastWord {
-    pub fn opened(&mut self, echo: &[u8], reply: &[u8]) {
-        self.opening = Some((echo.to_vec(), reply.to_vec()));
-        self.closing = None;
-    }
-
     pub fn closed(&mut self, farewell: Farewell) {
-        self.opening = None;
         self.closing = Some(farewell);
     }
 
     pub fn forget(&mut self) {
         *self = LastWord::default();
-    }
-
-    /// What answers an echo that came while the association was up already: only the very cookie that started it.
-    pub fn to_echo(&self, echo: &[u8]) -> Option<&[u8]> {
-        match &self.opening {
-            Some((good, reply)) if good == echo => Some(reply),
-            _ => None,
-        }
     }
 
     pub fn farewell(&self) -> Option<&Farewell> {
@@ -74,8 +58,6 @@ mod tests {
     use std::net::SocketAddr;
     use std::time::Instant;
 
-    const ECHO: [u8; 8] = [10, 0, 0, 7, 1, 2, 3, 0];
-
     fn shutdown_ack(tag: u32) -> Vec<u8> {
         let mut packet = vec![0x13, 0x89, 0x13, 0x89];
         packet.extend_from_slice(&tag.to_be_bytes());
@@ -85,17 +67,6 @@ mod tests {
 
     fn from(last: u8, packet: &[u8]) -> Incoming<'_> {
         Incoming { packet, from: SocketAddr::from(([10, 0, 0, last], 9899)), at: Instant::now() }
-    }
-
-    #[test]
-    fn the_same_echo_gets_the_same_answer_and_no_other_does() {
-        let mut word = LastWord::default();
-        assert_eq!(word.to_echo(&ECHO), None);
-        word.opened(&ECHO[..7], b"cookie ack");
-        assert_eq!(word.to_echo(&ECHO[..7]), Some(&b"cookie ack"[..]));
-        assert_eq!(word.to_echo(&[10, 0, 0, 7, 1, 2, 4]), None);
-        word.forget();
-        assert_eq!(word.to_echo(&ECHO[..7]), None);
     }
 
     #[test]
@@ -115,12 +86,12 @@ mod tests {
     }
 
     #[test]
-    fn the_end_takes_the_place_of_the_beginning() {
+    fn what_was_said_last_is_kept_until_it_is_forgotten() {
         let mut word = LastWord::default();
-        word.opened(&ECHO, b"cookie ack");
         assert!(word.farewell().is_none());
         word.closed(Farewell { peer: IpAddr::from([10, 0, 0, 1]), peer_port: 5001, my_tag: 5, reply: b"complete".to_vec() });
-        assert_eq!(word.to_echo(&ECHO), None);
-        assert_eq!(word.into_farewell().map(|farewell| farewell.my_tag), Some(5));
+        assert_eq!(word.farewell().map(|farewell| farewell.my_tag), Some(5));
+        word.forget();
+        assert!(word.into_farewell().is_none());
     }
 }

@@ -3,7 +3,7 @@
 
 use crate::acknowledging::DelayedSack;
 use crate::association::Association;
-use crate::calls::{Answer, Cause, Echoed, Expired, Fate, Lent, Named, NotTaken, Refusal, Standing, Taken, Turn, Verdict, OUTPUT};
+use crate::calls::{Answer, Cause, Expired, Fate, Named, NotTaken, Refusal, Standing, Taken, Turn, Verdict, OUTPUT};
 use crate::config::Config;
 use crate::door::Prepared;
 use crate::event::{Event, Why};
@@ -73,6 +73,8 @@ pub struct Session<L> {
     silence: Silence,
     round_trip: RoundTrip,
     last_word: LastWord,
+    /// The peer's first TSN, of the association that there is.
+    peer_first: Option<u32>,
     pub outbox: Outbox,
     /// Something happened since the core had nothing to send, or nothing to take.
     may_send: bool,
@@ -92,6 +94,7 @@ impl<L: Library> Session<L> {
             silence: Silence::after(config.quiet),
             round_trip: RoundTrip::default(),
             last_word: LastWord::default(),
+            peer_first: None,
             outbox: Outbox::default(),
             may_send: false,
             may_take: false,
@@ -151,11 +154,11 @@ impl<L: Library> Session<L> {
         let before = core.standing();
         let answer = core.arrive(incoming.packet, &prepared.lent, prepared.echoed, &mut tools.out);
         let arrived = self.counted(answer).ok()?;
-        let echo = arrived.verdicts.iter().find(|verdict| verdict.turn == Turn::Up)?.at;
+        arrived.verdicts.iter().find(|verdict| verdict.turn == Turn::Up)?;
         let reply = tools.written(arrived.reply);
         let ended = self.begin(core, incoming.from, config, tools, incoming.at);
-        self.last_word.opened(chunk_at(incoming.packet, echo), &reply);
-        self.heed(incoming, &before, &arrived.verdicts, reply, tools);
+        self.peer_first = prepared.first_of_peer();
+        self.heed(incoming, &before, &arrived.verdicts, reply, prepared, tools);
         self.follow(incoming.at);
         Some(ended)
     }
@@ -168,7 +171,20 @@ impl<L: Library> Session<L> {
         self.heartbeat = heartbeat(config, tools);
         self.round_trip = RoundTrip::default();
         self.last_word.forget();
+        self.peer_first = None;
         std::mem::replace(&mut self.core, core)
+    }
+
+    /// The core has begun anew with the peer that there is: so does all that the host measures of it.
+    fn begin_again(&mut self, peer: SocketAddr, prepared: &Prepared, config: &Config, tools: &mut Tools, now: Instant) {
+        self.path.start(peer);
+        self.silence.start(now);
+        self.sack = DelayedSack::default();
+        self.heartbeat = heartbeat(config, tools);
+        self.round_trip = RoundTrip::default();
+        self.last_word.forget();
+        self.peer_first = prepared.first_of_peer();
+        self.may_take = false;
     }
 
     /// The number of chunks that the message was cut into.
@@ -224,16 +240,28 @@ impl<L: Library> Session<L> {
         self.abort_as(cause, Why::WeAborted(cause), tools, now)
     }
 
-    /// A packet came, which the core may refuse whole.
-    pub fn arrive(&mut self, incoming: Incoming, tools: &mut Tools) -> Answer<()> {
+    /// A packet came, which the core may refuse whole. What is lent with it is for an INIT or an echo of the peer's.
+    pub fn arrive(&mut self, incoming: Incoming, prepared: &Prepared, config: &Config, tools: &mut Tools) -> Answer<()> {
         let before = self.core.standing();
-        let answer = self.core.arrive(incoming.packet, &Lent::default(), Echoed::Bad, &mut tools.out);
+        let expected = self.core.next_expected();
+        // A restart leaves nothing of what came, so it is counted before.
+        let untaken = if prepared.opens() { self.core.untaken() } else { 0 };
+        let answer = self.core.arrive(incoming.packet, &prepared.lent, prepared.echoed, &mut tools.out);
         let answer = self.counted(answer).map(|arrived| {
             let reply = tools.written(arrived.reply);
+            match arrived.verdicts.first().map(|verdict| verdict.turn) {
+                Some(Turn::Restarted) => {
+                    self.begin_again(incoming.from, prepared, config, tools, incoming.at);
+                    self.events.push_back(Event::Restarted(untaken));
+                }
+                Some(Turn::Up) if prepared.opens() => self.begin_again(incoming.from, prepared, config, tools, incoming.at),
+                Some(Turn::Up) => self.peer_first = Some(expected),
+                _ => {}
+            }
             if tag(incoming.packet) == Some(before.my_tag) && arrived.verdicts.iter().any(|verdict| verdict.fate == Fate::Accepted) {
                 self.note_sender(incoming.from, tools, incoming.at);
             }
-            self.heed(incoming, &before, &arrived.verdicts, reply, tools);
+            self.heed(incoming, &before, &arrived.verdicts, reply, prepared, tools);
         });
         self.follow(incoming.at);
         answer
@@ -349,7 +377,7 @@ impl<L: Library> Session<L> {
     }
 
     /// The core took the packet as the peer's: sends its reply and does what the verdicts ask for.
-    fn heed(&mut self, incoming: Incoming, before: &Standing, verdicts: &[Verdict], reply: Vec<u8>, tools: &mut Tools) {
+    fn heed(&mut self, incoming: Incoming, before: &Standing, verdicts: &[Verdict], reply: Vec<u8>, prepared: &Prepared, tools: &mut Tools) {
         let Incoming { packet, from, at: now } = incoming;
         for verdict in verdicts {
             self.note_turn(verdict.turn, before, &reply);
@@ -362,9 +390,13 @@ impl<L: Library> Session<L> {
         self.note_data(packet, verdicts, now);
         self.note_acknowledged(before, now);
         for verdict in verdicts {
-            self.note_refusal(packet, verdict);
+            self.note_refusal(verdict);
             self.note_heartbeat(packet, from, verdict, now);
-            self.make_named_call(verdict.named, tools, now);
+            self.make_named_call(verdict.named, from, prepared, tools, now);
+            // Where its TSNs are not those that the record was made from, nothing that comes can be told from what came.
+            if verdict.turn == Turn::Retagged && prepared.first_of_peer() != self.peer_first {
+                let _ = self.abort(Cause::User, tools, now);
+            }
         }
         self.may_send = true;
     }
@@ -387,7 +419,8 @@ impl<L: Library> Session<L> {
 
     fn note_turn(&mut self, turn: Turn, before: &Standing, reply: &[u8]) {
         let why = match turn {
-            Turn::None => return,
+            // A restart was told before its record was replaced.
+            Turn::None | Turn::Restarted | Turn::Retagged => return,
             Turn::Up => return self.events.push_back(Event::Up),
             Turn::ShutDown => {
                 self.note_last_word(before.my_tag, reply);
@@ -440,13 +473,9 @@ impl<L: Library> Session<L> {
         }
     }
 
-    fn note_refusal(&mut self, packet: &[u8], verdict: &Verdict) {
+    fn note_refusal(&mut self, verdict: &Verdict) {
         if let Fate::Refused(refusal) = verdict.fate {
             self.outbox.counts.refuse(refusal);
-            if refusal == Refusal::STATE {
-                let again = self.last_word.to_echo(chunk_at(packet, verdict.at)).map(<[u8]>::to_vec);
-                self.repeat(again);
-            }
         }
     }
 
@@ -465,10 +494,18 @@ impl<L: Library> Session<L> {
         }
     }
 
-    fn make_named_call(&mut self, named: Named, tools: &mut Tools, now: Instant) {
+    fn make_named_call(&mut self, named: Named, from: SocketAddr, prepared: &Prepared, tools: &mut Tools, now: Instant) {
         match named {
-            // A stale cookie is told by whoever looked at it: this association began with a good one.
-            Named::NoCall | Named::ErrorStale => {}
+            Named::NoCall => {}
+            Named::ErrorStale => {
+                if let Some((port, tag, late)) = prepared.stale {
+                    let microseconds = u32::try_from(late.as_micros()).unwrap_or(u32::MAX);
+                    let answer = self.core.error_stale(port, tag, microseconds, &mut tools.out);
+                    if let Ok(length) = self.counted(answer) {
+                        self.outbox.send(from, tools.written(length));
+                    }
+                }
+            }
             Named::Abort(cause) => {
                 // Refused only where a later chunk closed the association.
                 let _ = self.abort(cause, tools, now);

@@ -5,8 +5,9 @@ mod pair;
 use model::checksum;
 use modelled::on_both;
 use oilwhisper::calls::{Cause, Refusal, State};
-use oilwhisper::endpoint::{Book, Config, Event, Why};
+use oilwhisper::endpoint::{Book, Config, Endpoint, Event, Why};
 use oilwhisper::library::Library;
+use oilwhisper::random::Random;
 use pair::*;
 use rail::relay::Weather;
 use rail::tiles::{tile, Album, Plan};
@@ -436,6 +437,69 @@ fn opens_again_after_the_end<L: Library>() {
     }
 }
 
+/// "When a head's battery is swapped, it sends INIT while we still hold the old association."
+fn a_head_that_comes_back_is_met<L: Library>() {
+    let mut pair = Pair::<L>::up(slow(5), 15);
+    pair.ends[1].takes = false;
+    for number in 0..3 {
+        pair.ends[0].endpoint.hand_in(&[number; 700], number.into(), false, 0).expect("there is room");
+    }
+    pair.run_for(Duration::from_secs(1));
+    let old = pair.ends[0].sent.iter().rfind(|packet| first_chunk(packet) == DATA).cloned().expect("it was sent");
+    for swap in 1..=3 {
+        let now = pair.now;
+        pair.ends[0].endpoint = Endpoint::new(config(0), Random::from_key([100 + swap; 32]), now);
+        pair.associate();
+        assert!(pair.run_until(MINUTE, |pair| pair.are(State::Established)));
+        let lost = if swap == 1 { 3 } else { 1 };
+        assert_eq!(pair.ends[1].events.last(), Some(&Event::Restarted(lost)), "swap {}", swap);
+        // What was not taken of the old life is gone, and what comes of it late is not let in.
+        let (from, now) = (pair.ends[0].address, pair.now);
+        pair.ends[1].endpoint.arrive(&old, from, now);
+        assert!(pair.ends[1].endpoint.take().is_none());
+        pair.ends[0].endpoint.hand_in(&[swap; 700], 0, false, 0).expect("there is room");
+        pair.run_for(Duration::from_secs(1));
+    }
+    pair.ends[1].takes = true;
+    pair.run_for(Duration::from_secs(1));
+    assert_eq!(pair.ends[1].taken, [(0, 0, vec![3; 700])]);
+    assert!(!pair.ends[1].events.iter().any(|event| matches!(event, Event::Down(_))));
+}
+
+/// RFC 9260 sections 5.2.1 and 5.2.4 B: one association comes of two INITs that cross.
+fn two_ends_that_ask_at_once_have_one_association<L: Library>() {
+    for seed in 0..8 {
+        let mut pair = Pair::<L>::new(if seed < 2 { slow(20) } else { ROUGH }, seed);
+        pair.associate();
+        let (to, now) = (pair.ends[0].address, pair.now);
+        pair.ends[1].endpoint.associate(to, PORTS[0], now).expect("a closed record can associate");
+        assert!(pair.run_until(MINUTE, |pair| pair.are(State::Established)), "seed {}", seed);
+        for end in 0..2 {
+            pair.ends[end].endpoint.hand_in(&[end as u8; 1500], 1, false, 0).expect("there is room");
+        }
+        assert!(pair.run_until(MINUTE, |pair| pair.ends.iter().all(|end| end.taken.len() == 1)), "seed {}", seed);
+        assert!(pair.ends.iter().all(|end| end.events.iter().filter(|event| **event == Event::Up).count() == 1), "seed {}", seed);
+    }
+}
+
+/// Until there are paths, only the peer's own address may begin anew.
+fn a_stranger_restarts_nothing<L: Library>() {
+    let mut pair = Pair::<L>::up(slow(1), 16);
+    pair.has_strangers = true;
+    let init = pair.ends[0].sent[0].clone();
+    let before = pair.ends[1].endpoint.standing();
+    pair.arrive(1, &init, "10.0.0.77:9899".parse().expect("an address"));
+    pair.run_for(Duration::from_secs(1));
+    assert_eq!(pair.ends[1].endpoint.standing(), before);
+    assert!(pair.ends[1].astray.is_empty());
+    assert!(pair.ends[1].endpoint.counts().refusals().any(|(refusal, _)| refusal == Refusal(8)));
+    let (from, sent) = (pair.ends[0].address, pair.ends[1].sent.len());
+    pair.arrive(1, &init, from);
+    pair.run_for(Duration::from_millis(10));
+    assert_eq!(first_chunk(&pair.ends[1].sent[sent]), INIT_ACK);
+    assert_eq!(pair.ends[1].endpoint.standing(), before);
+}
+
 fn noise_changes_nothing<L: Library>() {
     let mut pair = Pair::<L>::up(slow(1), 14);
     let (from, now) = (pair.ends[0].address, pair.now);
@@ -474,5 +538,8 @@ on_both! {
     a_stale_cookie_is_told_to_the_peer
     an_old_cookie_starts_no_second_association
     opens_again_after_the_end
+    a_head_that_comes_back_is_met
+    two_ends_that_ask_at_once_have_one_association
+    a_stranger_restarts_nothing
     noise_changes_nothing
 }

@@ -36,6 +36,8 @@ pub struct Demo {
     /// What both ends keep to when they send.
     pub book: Book,
     pub pcap: Option<PathBuf>,
+    /// So often the battery of one head is swapped, in place of all else.
+    pub battery: u64,
 }
 
 /// How a silent peer is found out.
@@ -125,6 +127,7 @@ fn demo(mut options: Options) -> Result<Demo, Failure> {
         },
         book: options.book()?,
         pcap: options.path("--pcap"),
+        battery: options.number("--battery", 0, 0, 1_000)?,
     };
     options.end().map(|()| demo)
 }

@@ -9,7 +9,7 @@ use crate::source::Source;
 use crate::stop::{Stop, Wish};
 use crate::taker::{Field, Sink};
 use crate::tiles::{Album, Plan, BANDS};
-use crate::{bind, end_capture, start_capture, Failure};
+use crate::{bind, end_capture, start_capture, swaps, Failure};
 use oilwhisper::association::Association;
 use oilwhisper::counts::Counts;
 use oilwhisper::endpoint::{Book, Config, Endpoint};
@@ -103,6 +103,9 @@ impl FieldOutcome {
 }
 
 pub fn run<L: Library>(demo: &Demo, stop: &Stop, progress: &mut dyn Write) -> Result<Ended, Failure> {
+    if demo.battery > 0 {
+        return swaps::run::<L>(demo, progress);
+    }
     let capture = match &demo.pcap {
         Some(path) => Some((path, start_capture(path)?)),
         None => None,
@@ -403,7 +406,7 @@ mod tests {
     const MESSAGES: u64 = 65_600;
 
     fn demo() -> Demo {
-        Demo { heads: 2, messages: MESSAGES, seed: 3, weather: Weather::FAIR, book: Book::Rfc9260, pcap: None }
+        Demo { heads: 2, messages: MESSAGES, seed: 3, weather: Weather::FAIR, book: Book::Rfc9260, pcap: None, battery: 0 }
     }
 
     fn head() -> HeadOutcome {

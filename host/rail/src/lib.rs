@@ -13,6 +13,7 @@ pub mod sender;
 pub mod source;
 pub mod stop;
 pub mod store;
+pub mod swaps;
 pub mod taker;
 pub mod tiles;
 pub mod view;

@@ -218,7 +218,7 @@ impl<L: Library> World<L> {
                         self.faults.push(format!("head {} is down after {} messages: {}", n, head.next, why));
                     }
                 }
-                Event::Quiet(_) | Event::Heard => {}
+                Event::Restarted(_) | Event::Quiet(_) | Event::Heard => {}
             }
         }
         while head.is_up && !head.is_down {

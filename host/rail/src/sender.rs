@@ -275,6 +275,13 @@ impl<L: Library> Sender<L> {
                     self.pause = PAUSE[0];
                 }
                 Event::Down(why) => self.note_end(why, now)?,
+                // What it had and did not keep is gone with its old life.
+                Event::Restarted(_) => {
+                    self.losses += 1;
+                    self.send_again();
+                    self.news.push(format!("the field computer has begun anew; {} tiles without a receipt are sent again", self.again.len()));
+                    self.stage = Stage::Open;
+                }
                 Event::Quiet(_) | Event::Heard => self.is_quiet = event != Event::Heard,
             }
         }
@@ -302,13 +309,18 @@ impl<L: Library> Sender<L> {
             self.losses += 1;
             self.news.push(format!("the line is lost ({}), asking again", why));
         }
+        self.send_again();
+        self.stage = Stage::Pausing(now + self.pause);
+        self.pause = (self.pause * 2).min(PAUSE[1]);
+        Ok(())
+    }
+
+    /// What has no receipt is to be sent again, in its order.
+    fn send_again(&mut self) {
         let mut again: VecDeque<Tile> = self.awaited.drain().collect();
         again.extend(self.waiting.take().map(|(tile, _)| tile));
         again.append(&mut self.again);
         self.again = again;
-        self.stage = Stage::Pausing(now + self.pause);
-        self.pause = (self.pause * 2).min(PAUSE[1]);
-        Ok(())
     }
 
     fn note_receipts(&mut self) {

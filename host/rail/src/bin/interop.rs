@@ -205,6 +205,7 @@ impl Side {
             match event {
                 Event::Up => self.is_up = true,
                 Event::Down(why) => self.down = Some(why),
+                Event::Restarted(_) => self.is_up = true,
                 Event::Quiet(_) | Event::Heard => {}
             }
         }
