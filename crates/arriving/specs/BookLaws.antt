@@ -45,4 +45,4 @@ module _ (a : Association) (area packet : List ℕ) (lent : Lent) (cookie : List
 
   pub arrive-booked : (e : Echoed) (out : List ℕ) → arrivedOf a area packet lent cookie e out .association .sending .mode ≡ a .sending .mode
   unfolding arrivedOf refusedWith
-  arrive-booked e out = pick-keeps (λ (r : Arrived). r .association .sending .mode ≡ a .sending .mode) (eqb (numberOf a area packet e out) 0) _ _ (passed-booked (heeded e)) refl
+  arrive-booked e out = pick-keeps (λ (r : Arrived). r .association .sending .mode ≡ a .sending .mode) (eqb (numberOf a area packet e out) 0) _ _ (passed-booked (heeded (a .state) (a .ends) e)) refl

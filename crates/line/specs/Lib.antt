@@ -18,5 +18,6 @@ pub mod Sequence
 pub mod Payloads
 pub mod Wedge
 pub mod Sided
+pub mod FreshLaws
 pub mod DemandLaws
 pub mod BuildsLaws

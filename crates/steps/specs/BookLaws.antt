@@ -15,14 +15,18 @@ use Rattle.parameters.specs.Parameter.{valueOf, isThere, COOKIE, NAME}
 use Rattle.parameters.specs.Stale.{staleIn}
 use Rattle.sending.specs.BookLaws.{fresh-mode, acknowledged-mode, shutdown-mode, heard-mode}
 use Rattle.states.specs.declared.rows.Row.{Row}
-use Rattle.states.specs.declared.rows.Row.the-variants.{Refused, ReadData, ReadLateData, AnswerInit, TakeInitAck, ReadSack, ReadSackPending, ReadSackReceived, EchoHeartbeat, ClearTries, BecomeClosed, ReadShutdown, CrossShutdown, RepeatShutdownAck, ReflectComplete, SendComplete, PassError, ReadError, ReadEcho, BecomeEstablished, BecomeComplete, PassUnknown, TellUnknown}
+use Rattle.states.specs.declared.rows.Row.the-variants.{Refused, ReadData, ReadLateData, AnswerInit, TakeInitAck, ReadSack, ReadSackPending, ReadSackReceived, EchoHeartbeat, ClearTries, BecomeClosed, ReadShutdown, CrossShutdown, RepeatShutdownAck, ReflectComplete, SendComplete, PassError, ReadError, ReadEcho, RepeatAck, BecomeEstablished, BecomeComplete, PassUnknown, TellUnknown}
 use Rattle.association.specs.declared.ends.Association.{Association}
 use Rattle.association.specs.Fresh.{withMode}
 use Rattle.steps.specs.declared.chunk.Beside.{Beside}
 use Rattle.steps.specs.declared.lent.Echoed.{Echoed}
 use Rattle.steps.specs.declared.lent.Echoed.the-variants.{Bad, Stale, Good}
 use Rattle.steps.specs.Verdict.{Step}
-use Rattle.steps.specs.Opening.{isPoor, isOdd, isPoorLent, answerInit, established, readEcho, echoing, echoedBack, takeInitAck}
+use Rattle.steps.specs.declared.lent.Made.{Made}
+use Rattle.steps.specs.declared.meeting.Action.{Action}
+use Rattle.steps.specs.declared.meeting.Action.the-variants.{Restart, Retag, Late, Again, Outside}
+use Rattle.steps.specs.Opening.{isPoor, isOdd, isPoorLent, answerInit, established, echoing, echoedBack, takeInitAck}
+use Rattle.steps.specs.Meeting.{offered, repeatAck, actionOf, starts, withPeerTag, stays, acts, readEcho}
 use Rattle.steps.specs.Carrying.{isKept, arrivalOf, dataRead, readData, readLateData, areaIn, areaData, heardBy, heardSack, isLast, readSack, readSackPending, readSackReceived, echoHeartbeat, clearTries}
 use Rattle.steps.specs.Closing.{readError, heardShutdown, readShutdown, answerShutdown}
 use Rattle.steps.specs.Unknown.{passUnknown, tellUnknown}
@@ -35,9 +39,22 @@ module _ (room : ℕ) (a : Association) (b : Beside) (cookie s : List ℕ) where
   either : (t : Bool) (x y : Step) → Booked x → Booked y → Booked (pick t x y)
   either = pick-keeps Booked
 
-  echo-booked : (e : Echoed) → Booked (readEcho a e (b .source) s)
-  unfolding readEcho established
-  echo-booked (Good m) = either (isOdd (partFrom 4 s .len)) _ _ refl (fresh-mode _ _ _ _ _)
+  stays-booked : (m : Made) (x : Action) → Booked (stays room a m x)
+  unfolding withPeerTag
+  stays-booked m Restart = refl
+  stays-booked m Retag = refl
+  stays-booked m Again = refl
+  stays-booked m Late = refl
+  stays-booked m Outside = refl
+
+  -- a restart keeps to the book of the life before it
+  acts-booked : (m : Made) (x : Action) → Booked (acts room a (b .source) m x)
+  unfolding acts established
+  acts-booked m x = either (starts x (a .state)) _ _ (fresh-mode _ _ _ _ _) (stays-booked m x)
+
+  echo-booked : (e : Echoed) → Booked (readEcho room a e (b .source) s)
+  unfolding readEcho
+  echo-booked (Good m) = either (isOdd (partFrom 4 s .len)) _ _ refl (acts-booked m (actionOf (a .state) (a .ends) m))
   echo-booked (Stale m) = either (isOdd (partFrom 4 s .len)) _ _ refl refl
   echo-booked Bad = either (isOdd (partFrom 4 s .len)) _ _ refl refl
 
@@ -62,8 +79,9 @@ module _ (room : ℕ) (a : Association) (b : Beside) (cookie s : List ℕ) where
   tell-booked SkipAndReport = refl
 
   row-booked : (r : Row) → Booked (rowStep room a b cookie s r)
-  unfolding answerInit takeInitAck echoedBack echoing dataRead readData readLateData readSack readSackPending readSackReceived echoHeartbeat clearTries readError readShutdown answerShutdown
-  row-booked AnswerInit = either (isPoorLent (b .lent) (length cookie)) _ _ refl (either (isPoor (initOf s)) _ _ refl (either (isThere NAME s) _ _ refl refl))
+  unfolding answerInit repeatAck takeInitAck echoedBack echoing dataRead readData readLateData readSack readSackPending readSackReceived echoHeartbeat clearTries readError readShutdown answerShutdown
+  row-booked AnswerInit = either (isPoorLent (offered a (b .lent)) (length cookie)) _ _ refl (either (isPoor (initOf s)) _ _ refl (either (isThere NAME s) _ _ refl refl))
+  row-booked RepeatAck = either (isPoor (initOf s)) _ _ refl refl
   row-booked TakeInitAck = either (isPoor (initOf s)) _ _ refl (either (isOdd (valueOf COOKIE 4 s .len)) _ _ refl (either (isThere NAME s) _ _ refl refl))
   row-booked ReadEcho = echo-booked (b .echoed)
   row-booked ReadLateData = either (isKept (arrivalOf a s .verdict)) _ _ refl refl

@@ -1,34 +1,28 @@
 -- The laws of a head that comes back (02, T-08). Assumes nothing.
-use Prim.Native.Nat.{ℕ, zero, suc, _+_, _^_}
-use mathlib.Core.Path.{_≡_, refl, ap, _∙_}
+use Prim.Native.Nat.{ℕ, _^_}
+use mathlib.Core.Path.{_≡_, refl, sym, ap, subst, _∙_}
 use mathlib.Core.Bool.{Bool, true, false}
 use mathlib.Core.List.{List}
 use native.Mathlib.Omega.{arith}
 use lib.Dec.{eqb}
-use lib.ListN.{length, replicate}
-use Rattle.scans.specs.Scan.{pick, foldFrom}
+use lib.ListN.{length}
+use Rattle.scans.specs.Scan.{pick}
 use Rattle.scans.specs.Each.{clash}
 use Rattle.scans.specs.Upto.{pick-keeps}
-use Rattle.numbers.specs.declared.circle.Tsn.{Tsn}
-use Rattle.numbers.specs.declared.circle.Ssn.{Ssn}
-use Rattle.numbers.specs.Numbering.{Numbering, ring}
-use Rattle.numbers.specs.Profile.{Profile, rail}
+use Rattle.numbers.specs.Numbering.{ring}
+use Rattle.numbers.specs.Profile.{rail}
 use Rattle.octets.specs.Bytes.{u8}
 use Rattle.chunks.specs.declared.kind.Kind.the-variants as kinds
 use Rattle.chunks.specs.Kind.{kindOf}
 use Rattle.chunks.specs.InitChunk.{initOf}
 use Rattle.parameters.specs.Parameter.{isThere, NAME}
-use Rattle.holding.specs.declared.held.Held.{Held}
-use Rattle.holding.specs.declared.taking.Answer.the-variants.{Nothing}
-use Rattle.holding.specs.Held.{noHeld}
-use Rattle.holding.specs.Message.{Choice, none, isLeftEnd, opens, better, chosen}
-use Rattle.holding.specs.Taking.{tookBy, took}
-use Rattle.delivery.specs.Receiving.{fresh, taken}
+use Rattle.delivery.specs.Receiving.{fresh}
 use Rattle.states.specs.declared.state.State.{State}
 use Rattle.states.specs.declared.rows.Met.{Met}
 use Rattle.states.specs.Calls.{knowsPeer}
 use Rattle.states.specs.Rows.{cells, rowOf}
-use Rattle.states.specs.RowsLaws.{each-state}
+use Rattle.states.specs.declared.rows.Row.{Row}
+use Rattle.states.specs.RowsLaws.{each-state, row-is-cell}
 use Rattle.association.specs.declared.ends.Ends.{Ends}
 use Rattle.association.specs.declared.ends.Association.{Association}
 use Rattle.association.specs.Fresh.{started}
@@ -122,9 +116,9 @@ restart-tag s e m = go (eqb (m .«my_tag») (e .«my_tag»)) (knowsPeer s) (eqb 
     go true false t o q = clash (ap isRestart q)
 
 module _ (room : ℕ) (a : Association) (source : ℕ) (m : Made) where
-  -- where a good echo starts, nothing of the record is left but our port
+  -- where a good echo starts, nothing of the record is left but our port and the book that we keep to
   pub start-fresh : (x : Action) → starts x (a .state) ≡ true
-      → acts room a source m x .association ≡ started Established (madeEnds m (a .ends .«local_port») source) (m .«my_tsn») (m .window) (m .«peer_tsn»)
+      → acts room a source m x .association ≡ started Established (madeEnds m (a .ends .«local_port») source) (m .«my_tsn») (m .window) (m .«peer_tsn») (a .sending .mode)
   unfolding acts established
   start-fresh x q = rw q refl
 
@@ -147,17 +141,6 @@ module _ (room : ℕ) (a : Association) (source : ℕ) (m : Made) where
   echo-stays Again q = rw q refl
   echo-stays Late q = rw q refl
   echo-stays Outside q = rw q refl
-
--- from a fresh record there is nothing to take: 17
-module _ (T S : Numbering) (P : Profile) (t : Tsn) where
-  free-none : (hs : List Held) (next : List Ssn) (point n i : ℕ) (c : Choice) → foldFrom (better T P hs next point) c i (replicate n noHeld) ≡ c
-  unfolding better opens isLeftEnd
-  free-none hs next point zero i c = refl
-  free-none hs next point (suc n) i c = free-none hs next point n (i + 1) c
-
-  pub fresh-nothing : (room : ℕ) → taken T S P (fresh T P t) room .answer ≡ Nothing
-  unfolding taken took fresh chosen
-  fresh-nothing room = ap (λ (c : Choice). tookBy S (fresh T P t .held) (fresh T P t .next) room c .answer) (free-none (fresh T P t .held) (fresh T P t .next) (fresh T P t .keeping .point .0) (P .places) 0 none)
 
 -- ---- an INIT
 
@@ -184,11 +167,11 @@ module _ (room : ℕ) (a : Association) (cookie s : List ℕ) where
   repeated = either-answered (isPoor (initOf s)) _ _ (λ q. omega arith, refl) (λ q. omega arith, refl)
 
   row-answered : (b : Beside) (m : Met) (st : State) → Answered (rowStep room a b cookie s (rowOf kinds.Init m st))
-  unfolding rowOf
-  row-answered b m =
+  row-answered b m st =
       let l = offered a (b .lent) in
-      each-state (λ st. Answered (rowStep room a b cookie s (cells kinds.Init m st)))
-      (answered l) (λ n. answered l) (λ n. answered l) (answered l) (answered l) (λ n. answered l) (answered l) (λ n. repeated)
+      subst (λ (r : Row). Answered (rowStep room a b cookie s r)) (sym (row-is-cell kinds.Init m st))
+      (each-state (λ t. Answered (rowStep room a b cookie s (cells kinds.Init m t)))
+      (answered l) (λ n. answered l) (λ n. answered l) (answered l) (answered l) (λ n. answered l) (answered l) (λ n. repeated) st)
 
   -- "INIT is no longer answered 7 in any state" (02, T-08), and no INIT changes a record
   pub init-never-7 : (b : Beside) → kindOf (u8 s 0) ≡ kinds.Init → (numberOf (stepOf room a b cookie s .fate) ≡ 7 → ⊥) × (stepOf room a b cookie s .association ≡ a)
