@@ -55,7 +55,7 @@ module _ (packet : List ℕ) (lent : Lent) (cookie : List ℕ) (e : Echoed) (h :
   unfolding landed letIn
   landed-left = go (eqb number 0)
     where
-      go : (t : Bool) → (let x : After = pick t (letIn (passed packet lent cookie (heeded e) h held next places nextOut kept area verdicts) packet out) (afterOf (refusedAs h number) held next places nextOut kept area verdicts out) in
+      go : (t : Bool) → (let x : After = pick t (letIn (passed packet lent cookie (heeded (h .state) (h .ends) e) h held next places nextOut kept area verdicts) packet out) (afterOf (refusedAs h number) held next places nextOut kept area verdicts out) in
           0 < x .landed .number → x ≡ afterOf (refusedAs h number) held next places nextOut kept area verdicts out)
       go true p = absurd (omega arith)
       go false p = refl

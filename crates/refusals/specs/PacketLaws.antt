@@ -252,18 +252,18 @@ module _ (packet : List ℕ) (lent : Lent) (cookie : List ℕ) (e : Echoed) (h :
   number = numberOf (shown h held next places nextOut kept) area packet e out
 
   abbrev turn : Turn
-  turn = passed packet lent cookie (heeded e) h held next places nextOut kept area verdicts
+  turn = passed packet lent cookie (heeded (h .state) (h .ends) e) h held next places nextOut kept area verdicts
 
   let-in-short : number ≡ 0 → length packet ≤ 1472
   unfolding numberOf packetNumber
   let-in-short z =
       size-most packet
-      (not-two (eqb (sizeNumber packet) 2) _ (earlier-none (lentNumber (shown h held next places nextOut kept) (length area) (length out)) (packetNumber (shown h held next places nextOut kept) packet (heeded e)) z .1))
+      (not-two (eqb (sizeNumber packet) 2) _ (earlier-none (lentNumber (shown h held next places nextOut kept) (length area) (length out)) (packetNumber (shown h held next places nextOut kept) packet (heeded (h .state) (h .ends) e)) z .1))
 
   let-in-leaves : number ≡ 0 → (let x : After = letIn turn packet out in All Refused (verdictsOf (x .landed .count) (x .verdicts)) → LandedLeaves h held next places nextOut kept area out x)
   unfolding letIn
   let-in-leaves z w =
-      let j = passed-judging h held next places nextOut kept area verdicts packet lent cookie (let-in-short z) words (heeded e) in
+      let j = passed-judging h held next places nextOut kept area verdicts packet lent cookie (let-in-short z) words (heeded (h .state) (h .ends) e) in
       let m = j .judged .same (told-say Refused refused-word (j .telling) w) in
       let n = silent (bareWalked (turn .walk)) packet (gathered turn) out (whole-none (bareWalked (turn .walk)) (gathered turn) (ap (λ (k : ℕ). take k (turn .space)) (m .used)) (m .due) (m .complete)) in
       record {

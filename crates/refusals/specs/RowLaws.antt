@@ -42,16 +42,21 @@ use Rattle.states.specs.declared.rows.Row.the-variants as row
 use Rattle.association.specs.declared.ends.Association.{Association}
 use Rattle.association.specs.Fresh.{withState, withSending}
 use Rattle.steps.specs.declared.chunk.Beside.{Beside}
+use Rattle.steps.specs.declared.lent.Lent.{Lent}
+use Rattle.steps.specs.declared.lent.Made.{Made}
 use Rattle.steps.specs.declared.lent.Echoed.{Echoed}
 use Rattle.steps.specs.declared.lent.Echoed.the-variants.{Bad, Stale, Good}
+use Rattle.steps.specs.declared.meeting.Action.{Action}
+use Rattle.steps.specs.declared.meeting.Action.the-variants.{Restart, Retag, Late, Again, Outside}
 use Rattle.steps.specs.declared.verdict.Fate.the-variants.{Accepted, Refused}
 use Rattle.steps.specs.declared.verdict.Named.{Named}
-use Rattle.steps.specs.declared.verdict.Named.the-variants.{NoCall}
+use Rattle.steps.specs.declared.verdict.Named.the-variants.{NoCall, ErrorStale}
 use Rattle.steps.specs.declared.verdict.Event.the-variants.{NoEvent, Down}
 use Rattle.steps.specs.declared.verdict.Reason.the-variants.{HostName}
 use Rattle.steps.specs.declared.verdict.Owed.the-variants.{Nothing}
 use Rattle.steps.specs.Verdict.{Step, numberOf, accepted, answering, refused, quiet, ending}
-use Rattle.steps.specs.Opening.{isPoor, isOdd, isPoorLent, nameRefused, answerInit, echoedBack, takeInitAck, readEchoed, readEcho}
+use Rattle.steps.specs.Opening.{isPoor, isOdd, isPoorLent, nameRefused, answerInit, established, echoedBack, takeInitAck}
+use Rattle.steps.specs.Meeting.{offered, repeatAck, cookieAckBytes, actionOf, starts, startedAs, stays, acts, readEchoed, readEcho}
 use Rattle.steps.specs.Carrying.{chunkOf, payloadOf, dataRead, lateDataRead, shutdownOwed, shutdownAcked, areaIn, sackCall, echoHeartbeat, clearTries}
 use Rattle.steps.specs.Closing.{readError, shutdownTaken, shutdownAnswered}
 use Rattle.steps.specs.Unknown.{passUnknown, tellUnknown}
@@ -59,7 +64,7 @@ use Rattle.steps.specs.Steps.{rowMet}
 use Rattle.flat.specs.declared.head.Head.{Head}
 use Rattle.flat.specs.Shown.{bare, headOf}
 use Rattle.asks.specs.Answer.{withKeeping}
-use Rattle.rows.specs.Rows.{heardData, heldHeard, arrivalWith, side, readDataBy, readLateDataBy, sackIn, heardSack, placesSacked, answerWith, readSackBy, readSackPendingBy, readSackReceivedBy, heardPoint, placesShut, readShutdownBy, answerShutdownBy, isTaken, isGood, isStarting, clearedIf, keptIf, Left, headLeft, dataLeft, placesLeft, ackLeft, echoLeft, rowLeft, Rowed, rowed}
+use Rattle.rows.specs.Rows.{heardData, heldHeard, arrivalWith, side, readDataBy, readLateDataBy, sackIn, heardSack, placesSacked, answerWith, readSackBy, readSackPendingBy, readSackReceivedBy, heardPoint, placesShut, readShutdownBy, answerShutdownBy, isTaken, begins, isStarting, clearedIf, keptIf, Left, headLeft, dataLeft, placesLeft, ackLeft, echoLeft, rowLeft, Rowed, rowed}
 
 -- what a row leaves of its chunk, where the head was h
 record Leaves (h : Head) (ws ns ps ms cs bytes : List ℕ) (l : Left) : Type 0 where
@@ -228,10 +233,10 @@ module _ (h : Head) (held next places nextOut kept area s : List ℕ) where
 
   -- ---- what opens and closes
 
-  answer-leaves : (b : Beside) (cookie : List ℕ) → Heads (answerInit (bare h) (b .lent) cookie s)
+  answer-leaves : (lent : Lent) (cookie : List ℕ) → Heads (answerInit (bare h) lent cookie s)
   unfolding answerInit
-  answer-leaves b cookie =
-      either-heads (isPoorLent (b .lent) (length cookie)) _ _ (same 8 NoCall) (either-heads (isPoor (initOf s)) _ _ (same 8 NoCall) (either-heads (isThere NAME s) _ _ took took))
+  answer-leaves lent cookie =
+      either-heads (isPoorLent lent (length cookie)) _ _ (same 8 NoCall) (either-heads (isPoor (initOf s)) _ _ (same 8 NoCall) (either-heads (isThere NAME s) _ _ took took))
 
   ack-leaves : (room : ℕ) → Refusal (ackLeft h held next places nextOut kept area s (takeInitAck room (bare h) s))
   unfolding takeInitAck echoedBack isTaken
@@ -253,25 +258,50 @@ module _ (h : Head) (held next places nextOut kept area s : List ℕ) where
       go false false true = took
       go false false false = took
 
-  echo-leaves : (e : Echoed) (source : ℕ) → Refusal (echoLeft h held next places nextOut kept area s e (readEcho (bare h) e source s))
-  unfolding readEcho isStarting
-  echo-leaves e source = go (isOdd (partFrom 4 s .len)) e
+  repeat-leaves : Heads (repeatAck (bare h) s)
+  unfolding repeatAck
+  repeat-leaves = either-heads (isPoor (initOf s)) _ _ (same 8 NoCall) took
+
+  -- an echo, where t says whether all begins from it
+  abbrev echoIf : Bool → Step → Left
+  echoIf t d = record {
+    step = d;
+    held = clearedIf t 512 held;
+    next = clearedIf t 128 next;
+    places = clearedIf t 1024 places;
+    nextOut = clearedIf t 128 nextOut;
+    kept = clearedIf t 256 kept;
+    area = area;
+  }
+
+  echo-same : (n : ℕ) (c : Named) → Refusal (echoIf false (ending (refused (bare h) n c)))
+  echo-same n c p = record { held = refl; next = refl; places = refl; nextOut = refl; kept = refl; area = refl; reply = refl; owed = refl; head = refl; keeping = λ x y. refl }
+
+  -- in every state a good one is refused only outside A to D
+  stays-leaves : (room : ℕ) (m : Made) (x : Action) → Refusal (echoIf false (stays room (bare h) m x))
+  stays-leaves room m Restart = took
+  stays-leaves room m Retag = took
+  stays-leaves room m Again = took
+  stays-leaves room m Late = took
+  stays-leaves room m Outside = echo-same 7 NoCall
+
+  acts-leaves : (room source : ℕ) (m : Made) (x : Action) → Refusal (echoIf (starts x (h .state)) (acts room (bare h) source m x))
+  unfolding acts
+  acts-leaves room source m x = go (starts x (h .state))
     where
-      go : (x : Bool) (e : Echoed)
-          → (let t : Bool = pick x false (isGood e) in
-          Refusal (record {
-            step = pick x (ending (refused (bare h) 8 NoCall)) (readEchoed (bare h) source e);
-            held = clearedIf t 512 held;
-            next = clearedIf t 128 next;
-            places = clearedIf t 1024 places;
-            nextOut = clearedIf t 128 nextOut;
-            kept = clearedIf t 256 kept;
-            area = area;
-          }))
-      go true e p = record { held = refl; next = refl; places = refl; nextOut = refl; kept = refl; area = refl; reply = refl; owed = refl; head = refl; keeping = λ x y. refl }
-      go false (Good m) p = took p
-      go false (Stale m) p = record { held = refl; next = refl; places = refl; nextOut = refl; kept = refl; area = refl; reply = refl; owed = refl; head = refl; keeping = λ x y. refl }
-      go false Bad p = record { held = refl; next = refl; places = refl; nextOut = refl; kept = refl; area = refl; reply = refl; owed = refl; head = refl; keeping = λ x y. refl }
+      go : (t : Bool) → Refusal (echoIf t (pick t (accepted (established (bare h) source m) (startedAs x (h .state)) cookieAckBytes) (stays room (bare h) m x)))
+      go true = took
+      go false = stays-leaves room m x
+
+  echo-leaves : (room : ℕ) (e : Echoed) (source : ℕ) → Refusal (echoLeft h held next places nextOut kept area s e (readEcho room (bare h) e source s))
+  unfolding readEcho isStarting
+  echo-leaves room e source = go (isOdd (partFrom 4 s .len)) e
+    where
+      go : (x : Bool) (e : Echoed) → Refusal (echoIf (pick x false (begins (h .state) (h .ends) e)) (pick x (ending (refused (bare h) 8 NoCall)) (readEchoed room (bare h) source e)))
+      go true e = echo-same 8 NoCall
+      go false (Good m) = acts-leaves room source m (actionOf (h .state) (h .ends) m)
+      go false (Stale m) = echo-same 27 ErrorStale
+      go false Bad = echo-same 27 NoCall
 
   heartbeat-leaves : Heads (echoHeartbeat (bare h) s)
   unfolding echoHeartbeat
@@ -303,9 +333,9 @@ module _ (h : Head) (held next places nextOut kept area s : List ℕ) where
 
   row-leaves : (room : ℕ) (b : Beside) (cookie : List ℕ) (r : Row) → Refusal (rowLeft h held next places nextOut kept area s room b cookie r)
   row-leaves room b cookie row.Refused = same 7 NoCall
-  row-leaves room b cookie row.AnswerInit = answer-leaves b cookie
+  row-leaves room b cookie row.AnswerInit = answer-leaves (offered (bare h) (b .lent)) cookie
   row-leaves room b cookie row.TakeInitAck = ack-leaves room
-  row-leaves room b cookie row.ReadEcho = echo-leaves (b .echoed) (b .source)
+  row-leaves room b cookie row.ReadEcho = echo-leaves room (b .echoed) (b .source)
   row-leaves room b cookie row.BecomeEstablished = took
   row-leaves room b cookie row.ReadData = data-leaves
   row-leaves room b cookie row.ReadLateData = late-leaves
@@ -320,6 +350,7 @@ module _ (h : Head) (held next places nextOut kept area s : List ℕ) where
   row-leaves room b cookie row.ReadShutdown = shutdown-leaves
   row-leaves room b cookie row.CrossShutdown = shut-leaves (ShutdownAckSent 0)
   row-leaves room b cookie row.RepeatShutdownAck = shut-leaves (h .state)
+  row-leaves room b cookie row.RepeatAck = repeat-leaves
   row-leaves room b cookie row.ReflectComplete = took
   row-leaves room b cookie row.SendComplete = took
   row-leaves room b cookie row.BecomeComplete = took
