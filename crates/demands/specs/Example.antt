@@ -59,7 +59,7 @@ ends = record { «local_port» = 5001; «peer_port» = 5000; «my_tag» = 1; «p
 
 -- fresh, for the peer's initial TSN
 abbrev here : Association
-here = started Established ends (record { 0 = 1 }) 1500 (record { 0 = sender.last })
+here = started Established ends (record { 0 = 1 }) 1500 (record { 0 = sender.last }) 0
 
 abbrev nothing : Lent
 nothing = record { tag = 0; tsn = record { 0 = 0 }; streams = 0; options = 0 }
@@ -80,7 +80,7 @@ module _ (area out : List ℕ) (long : 65536 ≤ length area) (room : 1472 ≤ l
   lent-well : lentNumber here (length area) (length out) ≡ 0
   unfolding lentNumber
   lent-well =
-      rw (kept-started Established ends (record { 0 = 1 }) 1500 (record { 0 = sender.last }) refl ended-well (omega arith) (omega arith) .sound, le-ltb (length area) leastArea long, le-ltb (length out) leastOut room)
+      rw (kept-started Established ends (record { 0 = 1 }) 1500 (record { 0 = sender.last }) 0 refl ended-well (omega arith) (omega arith) (omega arith) .sound, le-ltb (length area) leastArea long, le-ltb (length out) leastOut room)
 
   written-well : packetNumber here packet Bad ≡ 0
   unfolding packetNumber sizeNumber sumNumber sealed fieldOf packetCrc crcOf crcFrom bits headNumber arePorts ruleFor ruleOf headerOf shapeNumber firstItem walk walkBy size ill least filled alone u16 u32 big

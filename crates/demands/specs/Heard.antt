@@ -18,16 +18,20 @@ use Rattle.holding.specs.declared.taking.Answer.{Answer as Taking}
 use Rattle.holding.specs.declared.taking.Answer.the-variants.{Taken, Nothing, Short}
 use Rattle.delivery.specs.Arrival.{numberOf}
 use Rattle.line.specs.Runs.{Event as LineEvent, arrive, take, sack, Answer, judges, gives, tells, Lent, turn, start}
+use Rattle.states.specs.declared.state.State.{State}
 use Rattle.states.specs.declared.call.Call.the-variants as call
 use Rattle.states.specs.declared.rows.Row.{Row}
-use Rattle.states.specs.declared.rows.Row.the-variants.{Refused, ReadData, ReadLateData, AnswerInit, TakeInitAck, ReadSack, ReadSackPending, ReadSackReceived, EchoHeartbeat, ClearTries, BecomeClosed, ReadShutdown, CrossShutdown, RepeatShutdownAck, ReflectComplete, SendComplete, PassError, ReadError, ReadEcho, BecomeEstablished, BecomeComplete, PassUnknown, TellUnknown}
+use Rattle.states.specs.declared.rows.Row.the-variants.{Refused, ReadData, ReadLateData, AnswerInit, TakeInitAck, ReadSack, ReadSackPending, ReadSackReceived, EchoHeartbeat, ClearTries, BecomeClosed, ReadShutdown, CrossShutdown, RepeatShutdownAck, RepeatAck, ReflectComplete, SendComplete, PassError, ReadError, ReadEcho, BecomeEstablished, BecomeComplete, PassUnknown, TellUnknown}
 use Rattle.association.specs.declared.ends.Association.{Association}
 use Rattle.steps.specs.declared.chunk.Beside.{Beside}
 use Rattle.steps.specs.declared.lent.Lent as lending
+use Rattle.steps.specs.declared.lent.Made.{Made}
 use Rattle.steps.specs.declared.lent.Echoed.{Echoed}
 use Rattle.steps.specs.declared.lent.Echoed.the-variants.{Bad, Stale, Good}
+use Rattle.steps.specs.declared.meeting.Action.{Action}
 use Rattle.steps.specs.Lent.{heeded}
 use Rattle.steps.specs.Opening.{isPoor, isOdd}
+use Rattle.steps.specs.Meeting.{actionOf, starts}
 use Rattle.steps.specs.Carrying.{chunkOf, payloadOf}
 use Rattle.steps.specs.Steps.{rowMet}
 use Rattle.arriving.specs.Walked.{Turn, begun, besideAt, turned}
@@ -60,47 +64,51 @@ ackStart s =
     pick (isPoor (initOf s)) []
     (pick (isOdd (valueOf COOKIE 4 s .len)) [] (pick (isThere NAME s) [] (begins (initOf s .tsn) (smaller 128 (initOf s .outs)) ∷ [])))
 
--- "A good echo … starts from a fresh record"
-abbrev pub wordStart : Echoed → List Heard
-wordStart (Good m) = begins (m .«peer_tsn») (m .«streams_in») ∷ []
-wordStart (Stale m) = []
-wordStart Bad = []
+-- "a good echo starts from a fresh record only where it restarts (A) or enters ESTABLISHED; else what was received stays" (02, T-08)
+abbrev pub actStart : State → Made → Action → List Heard
+actStart state m x = pick (starts x state) (begins (m .«peer_tsn») (m .«streams_in») ∷ []) []
 
-abbrev pub echoStart : Echoed → List ℕ → List Heard
-echoStart e s = pick (isOdd (partFrom 4 s .len)) [] (wordStart e)
+abbrev pub wordStart : Association → Echoed → List Heard
+wordStart a (Good m) = actStart (a .state) m (actionOf (a .state) (a .ends) m)
+wordStart a (Stale m) = []
+wordStart a Bad = []
+
+abbrev pub echoStart : Association → Echoed → List ℕ → List Heard
+echoStart a e s = pick (isOdd (partFrom 4 s .len)) [] (wordStart a e)
 
 -- a DATA, as the receiving side gets it
 abbrev pub arrives : List ℕ → Heard
 arrives s = asks (arrive (chunkOf s) (payloadOf s))
 
 -- by the row of the state table that it meets
-abbrev pub rowHeard : Beside → List ℕ → Row → List Heard
-rowHeard b s Refused = pick (isData s) (not-read ∷ []) []
-rowHeard b s ReadData = arrives s ∷ []
-rowHeard b s ReadLateData = arrives s ∷ []
-rowHeard b s TakeInitAck = ackStart s
-rowHeard b s ReadEcho = echoStart (b .echoed) s
-rowHeard b s AnswerInit = []
-rowHeard b s BecomeEstablished = []
-rowHeard b s ReadSack = []
-rowHeard b s ReadSackPending = []
-rowHeard b s ReadSackReceived = []
-rowHeard b s EchoHeartbeat = []
-rowHeard b s ClearTries = []
-rowHeard b s BecomeClosed = []
-rowHeard b s PassError = []
-rowHeard b s ReadError = []
-rowHeard b s ReadShutdown = []
-rowHeard b s CrossShutdown = []
-rowHeard b s RepeatShutdownAck = []
-rowHeard b s ReflectComplete = []
-rowHeard b s SendComplete = []
-rowHeard b s BecomeComplete = []
-rowHeard b s (PassUnknown h) = []
-rowHeard b s (TellUnknown h) = []
+abbrev pub rowHeard : Association → Beside → List ℕ → Row → List Heard
+rowHeard a b s Refused = pick (isData s) (not-read ∷ []) []
+rowHeard a b s ReadData = arrives s ∷ []
+rowHeard a b s ReadLateData = arrives s ∷ []
+rowHeard a b s TakeInitAck = ackStart s
+rowHeard a b s ReadEcho = echoStart a (b .echoed) s
+rowHeard a b s AnswerInit = []
+rowHeard a b s BecomeEstablished = []
+rowHeard a b s ReadSack = []
+rowHeard a b s ReadSackPending = []
+rowHeard a b s ReadSackReceived = []
+rowHeard a b s EchoHeartbeat = []
+rowHeard a b s ClearTries = []
+rowHeard a b s BecomeClosed = []
+rowHeard a b s PassError = []
+rowHeard a b s ReadError = []
+rowHeard a b s ReadShutdown = []
+rowHeard a b s CrossShutdown = []
+rowHeard a b s RepeatShutdownAck = []
+rowHeard a b s RepeatAck = []
+rowHeard a b s ReflectComplete = []
+rowHeard a b s SendComplete = []
+rowHeard a b s BecomeComplete = []
+rowHeard a b s (PassUnknown h) = []
+rowHeard a b s (TellUnknown h) = []
 
 unfoldable pub chunkHeard : Association → Beside → List ℕ → List Heard
-chunkHeard a b s = rowHeard b s (rowMet a b s)
+chunkHeard a b s = rowHeard a b s (rowMet a b s)
 
 -- ---- of the chunks of a packet
 
@@ -127,7 +135,7 @@ listenedOver a area packet lent cookie e =
 unfoldable pub heardOf : Association → Event → Buffers → List Heard
 heardOf a (Packet l e) b =
     pick (eqb (arrival.numberOf a (b .received) (b .input) e (b .out)) 0)
-    (listenedOver a (b .received) (b .input) l (b .cookie) (heeded e) .heard)
+    (listenedOver a (b .received) (b .input) l (b .cookie) (heeded (a .state) (a .ends) e) .heard)
     []
 heardOf a Take b = pick (eqb (takeBar a (b .received)) 0) (asks (take (b .out))) (take-barred (takeBar a (b .received)) (b .out)) ∷ []
 heardOf a Acknowledge b =

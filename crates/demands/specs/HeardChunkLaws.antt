@@ -27,22 +27,27 @@ use Rattle.states.specs.declared.state.State.{State}
 use Rattle.states.specs.declared.state.State.the-variants.{ShutdownAckSent}
 use Rattle.states.specs.declared.rows.Met.{Met}
 use Rattle.states.specs.declared.rows.Row.{Row}
-use Rattle.states.specs.declared.rows.Row.the-variants.{Refused, ReadData, ReadLateData, AnswerInit, TakeInitAck, ReadSack, ReadSackPending, ReadSackReceived, EchoHeartbeat, ClearTries, BecomeClosed, ReadShutdown, CrossShutdown, RepeatShutdownAck, ReflectComplete, SendComplete, PassError, ReadError, ReadEcho, BecomeEstablished, BecomeComplete, PassUnknown, TellUnknown}
+use Rattle.states.specs.declared.rows.Row.the-variants.{Refused, ReadData, ReadLateData, AnswerInit, TakeInitAck, ReadSack, ReadSackPending, ReadSackReceived, EchoHeartbeat, ClearTries, BecomeClosed, ReadShutdown, CrossShutdown, RepeatShutdownAck, RepeatAck, ReflectComplete, SendComplete, PassError, ReadError, ReadEcho, BecomeEstablished, BecomeComplete, PassUnknown, TellUnknown}
 use Rattle.states.specs.Rows.{cells, rowOf}
 use Rattle.states.specs.RowsLaws.{each-state}
 use Rattle.association.specs.declared.ends.Association.{Association}
 use Rattle.steps.specs.declared.chunk.Beside.{Beside}
+use Rattle.steps.specs.declared.lent.Lent.{Lent}
+use Rattle.steps.specs.declared.lent.Made.{Made}
 use Rattle.steps.specs.declared.lent.Echoed.{Echoed}
 use Rattle.steps.specs.declared.lent.Echoed.the-variants.{Bad, Stale, Good}
+use Rattle.steps.specs.declared.meeting.Action.{Action}
+use Rattle.steps.specs.declared.meeting.Action.the-variants.{Restart, Retag, Late, Again, Outside}
 use Rattle.steps.specs.Verdict.{Step, numberOf}
-use Rattle.steps.specs.Opening.{isPoor, isOdd, isPoorLent, answerInit, echoing, echoedBack, takeInitAck, established, readEcho}
+use Rattle.steps.specs.Opening.{isPoor, isOdd, isPoorLent, answerInit, echoing, echoedBack, takeInitAck, established}
+use Rattle.steps.specs.Meeting.{offered, repeatAck, actionOf, starts, withPeerTag, stays, acts, readEcho}
 use Rattle.steps.specs.Carrying.{isKept, arrivalIn, arrivalOf, dataRead, readData, lateDataRead, readLateData, areaIn, areaData, heardSack, isLast, readSack, readSackPending, readSackReceived, echoHeartbeat, clearTries}
 use Rattle.steps.specs.Closing.{heardShutdown, readError, readShutdown, answerShutdown}
 use Rattle.steps.specs.Unknown.{passUnknown, tellUnknown}
 use Rattle.steps.specs.Steps.{rowStep, rowArea, metBy, rowMet, stepOf, areaOf}
 use Rattle.arriving.specs.Verdict.{fateCode}
 use Rattle.demands.specs.News.{numbered, isData}
-use Rattle.demands.specs.Heard.{Heard, not-read, ackStart, echoStart, arrives, rowHeard, chunkHeard, Side, sideOf, goesOn, saidOn, circleGoes, circleSaid}
+use Rattle.demands.specs.Heard.{Heard, not-read, ackStart, actStart, echoStart, arrives, rowHeard, chunkHeard, Side, sideOf, goesOn, saidOn, circleGoes, circleSaid}
 
 -- what two tests of one kind choose
 pub pick-both : {A B : Type 0} (Q : A → B → Type 0) (t : Bool) (x y : A) (u v : B) → Q x u → Q y v → Q (pick t x y) (pick t u v)
@@ -81,10 +86,14 @@ module _ (a : Association) (area s : List ℕ) where
 
   -- ---- what opens
 
-  answer-rests : (b : Beside) (cookie : List ℕ) → Rests (answerInit a (b .lent) cookie s)
+  answer-rests : (l : Lent) (cookie : List ℕ) → Rests (answerInit a l cookie s)
   unfolding answerInit goesOn
-  answer-rests b cookie =
-      either-rests (isPoorLent (b .lent) (length cookie)) _ _ refl (either-rests (isPoor (initOf s)) _ _ refl (either-rests (isThere NAME s) _ _ refl refl))
+  answer-rests l cookie =
+      either-rests (isPoorLent l (length cookie)) _ _ refl (either-rests (isPoor (initOf s)) _ _ refl (either-rests (isThere NAME s) _ _ refl refl))
+
+  repeat-rests : Rests (repeatAck a s)
+  unfolding repeatAck goesOn
+  repeat-rests = either-rests (isPoor (initOf s)) _ _ refl refl
 
   ack-goes : (room : ℕ) → Goes (takeInitAck room a s) area (ackStart s)
   unfolding takeInitAck echoedBack echoing goesOn
@@ -93,11 +102,25 @@ module _ (a : Association) (area s : List ℕ) where
       (pick-both (λ (p : Step) hs. Goes p area hs) (isOdd (valueOf COOKIE 4 s .len)) _ _ _ _ refl
       (pick-both (λ (p : Step) hs. Goes p area hs) (isThere NAME s) _ _ _ _ refl refl))
 
-  echo-goes : (e : Echoed) (source : ℕ) → Goes (readEcho a e source s) area (echoStart e s)
-  unfolding readEcho established goesOn
-  echo-goes (Good m) source = pick-both (λ (p : Step) hs. Goes p area hs) (isOdd (partFrom 4 s .len)) _ _ _ _ refl refl
-  echo-goes (Stale m) source = pick-both (λ (p : Step) hs. Goes p area hs) (isOdd (partFrom 4 s .len)) _ _ _ _ refl refl
-  echo-goes Bad source = pick-both (λ (p : Step) hs. Goes p area hs) (isOdd (partFrom 4 s .len)) _ _ _ _ refl refl
+  -- an echo that starts nothing changes at most the peer's tag
+  stays-rests : (room : ℕ) (m : Made) (x : Action) → Rests (stays room a m x)
+  unfolding withPeerTag goesOn
+  stays-rests room m Restart = refl
+  stays-rests room m Retag = refl
+  stays-rests room m Again = refl
+  stays-rests room m Late = refl
+  stays-rests room m Outside = refl
+
+  acts-goes : (room source : ℕ) (m : Made) (x : Action) → Goes (acts room a source m x) area (actStart (a .state) m x)
+  unfolding acts established goesOn
+  acts-goes room source m x = pick-both (λ (p : Step) hs. Goes p area hs) (starts x (a .state)) _ _ _ _ refl (stays-rests room m x)
+
+  echo-goes : (room : ℕ) (e : Echoed) (source : ℕ) → Goes (readEcho room a e source s) area (echoStart a e s)
+  unfolding readEcho goesOn
+  echo-goes room (Good m) source =
+      pick-both (λ (p : Step) hs. Goes p area hs) (isOdd (partFrom 4 s .len)) _ _ _ _ refl (acts-goes room source m (actionOf (a .state) (a .ends) m))
+  echo-goes room (Stale m) source = pick-both (λ (p : Step) hs. Goes p area hs) (isOdd (partFrom 4 s .len)) _ _ _ _ refl refl
+  echo-goes room Bad source = pick-both (λ (p : Step) hs. Goes p area hs) (isOdd (partFrom 4 s .len)) _ _ _ _ refl refl
 
   -- ---- what is carried beside it, and what closes
 
@@ -154,13 +177,13 @@ module _ (a : Association) (area s : List ℕ) where
   refused-goes false = refl
 
   module _ (room : ℕ) (b : Beside) (cookie : List ℕ) where
-    row-goes : (r : Row) → Goes (rowStep room a b cookie s r) (rowArea a area s r) (rowHeard b s r)
+    row-goes : (r : Row) → Goes (rowStep room a b cookie s r) (rowArea a area s r) (rowHeard a b s r)
     row-goes Refused = refused-goes (isData s)
     row-goes ReadData = now-goes
     row-goes ReadLateData = late-goes
-    row-goes AnswerInit = answer-rests b cookie
+    row-goes AnswerInit = answer-rests (offered a (b .lent)) cookie
     row-goes TakeInitAck = ack-goes room
-    row-goes ReadEcho = echo-goes (b .echoed) (b .source)
+    row-goes ReadEcho = echo-goes room (b .echoed) (b .source)
     row-goes BecomeEstablished = rests (rowStep room a b cookie s BecomeEstablished) refl
     row-goes ReadSack = sack-rests
     row-goes ReadSackPending = pending-rests
@@ -173,6 +196,7 @@ module _ (a : Association) (area s : List ℕ) where
     row-goes ReadShutdown = shutdown-rests
     row-goes CrossShutdown = answered-rests (ShutdownAckSent 0)
     row-goes RepeatShutdownAck = answered-rests (a .state)
+    row-goes RepeatAck = repeat-rests
     row-goes ReflectComplete = rests (rowStep room a b cookie s ReflectComplete) refl
     row-goes SendComplete = rests (rowStep room a b cookie s SendComplete) refl
     row-goes BecomeComplete = rests (rowStep room a b cookie s BecomeComplete) refl
@@ -246,6 +270,7 @@ isRead ReadError = false
 isRead ReadShutdown = false
 isRead CrossShutdown = false
 isRead RepeatShutdownAck = false
+isRead RepeatAck = false
 isRead ReflectComplete = false
 isRead SendComplete = false
 isRead BecomeComplete = false
@@ -267,8 +292,7 @@ other-row kind.Abort m s e = each-state (Unlike (cells kind.Abort m)) refl (λ n
 other-row kind.Shutdown m s e = each-state (Unlike (cells kind.Shutdown m)) refl (λ n. refl) (λ n. refl) refl refl (λ n. refl) refl (λ n. refl) s
 other-row kind.ShutdownAck m s e = each-state (Unlike (cells kind.ShutdownAck m)) refl (λ n. refl) (λ n. refl) refl refl (λ n. refl) refl (λ n. refl) s
 other-row kind.Error m s e = each-state (Unlike (cells kind.Error m)) refl (λ n. refl) (λ n. refl) refl refl (λ n. refl) refl (λ n. refl) s
-other-row kind.CookieEcho m s e =
-    each-state (Unlike (cells kind.CookieEcho m)) (pick-keeps (λ (r : Row). isRead r ≡ false) (m .first) ReadEcho Refused refl refl) (λ n. refl) (λ n. refl) refl refl (λ n. refl) refl (λ n. refl) s
+other-row kind.CookieEcho m s e = pick-keeps (λ (r : Row). isRead r ≡ false) (m .first) ReadEcho Refused refl refl
 other-row kind.CookieAck m s e = each-state (Unlike (cells kind.CookieAck m)) refl (λ n. refl) (λ n. refl) refl refl (λ n. refl) refl (λ n. refl) s
 other-row kind.ShutdownComplete m s e = each-state (Unlike (cells kind.ShutdownComplete m)) refl (λ n. refl) (λ n. refl) refl refl (λ n. refl) refl (λ n. refl) s
 other-row (kind.Unknown h) m s e = each-state (Unlike (cells (kind.Unknown h) m)) refl (λ n. refl) (λ n. refl) refl refl (λ n. refl) refl (λ n. refl) s
@@ -307,7 +331,7 @@ module _ (room : ℕ) (a : Association) (b : Beside) (cookie area s : List ℕ) 
   -- of a DATA
   abbrev Tells : Row → Type 0
   Tells r =
-      (numbered (numberOf (rowStep room a b cookie s r .fate)) ∷ [] ≡ circleSaid now (rowHeard b s r)) × (eqb (fateCode (rowStep room a b cookie s r .fate)) 6 ≡ false)
+      (numbered (numberOf (rowStep room a b cookie s r .fate)) ∷ [] ≡ circleSaid now (rowHeard a b s r)) × (eqb (fateCode (rowStep room a b cookie s r .fate)) 6 ≡ false)
 
   refused-tells : isData s ≡ true → Tells Refused
   unfolding saidOn
@@ -341,13 +365,14 @@ module _ (room : ℕ) (a : Association) (b : Beside) (cookie area s : List ℕ) 
       pick-keeps Silent (isPoor (initOf s)) _ _ refl
       (pick-keeps Silent (isOdd (valueOf COOKIE 4 s .len)) _ _ refl (pick-keeps Silent (isThere NAME s) _ _ refl refl))
 
-  echo-silent : (e : Echoed) → Silent (echoStart e s)
+  echo-silent : (e : Echoed) → Silent (echoStart a e s)
   unfolding saidOn
-  echo-silent (Good m) = pick-keeps Silent (isOdd (partFrom 4 s .len)) _ _ refl refl
+  echo-silent (Good m) =
+      pick-keeps Silent (isOdd (partFrom 4 s .len)) _ _ refl (pick-keeps Silent (starts (actionOf (a .state) (a .ends) m) (a .state)) _ _ refl refl)
   echo-silent (Stale m) = pick-keeps Silent (isOdd (partFrom 4 s .len)) _ _ refl refl
   echo-silent Bad = pick-keeps Silent (isOdd (partFrom 4 s .len)) _ _ refl refl
 
-  row-silent : isData s ≡ false → (r : Row) → isRead r ≡ false → Silent (rowHeard b s r)
+  row-silent : isData s ≡ false → (r : Row) → isRead r ≡ false → Silent (rowHeard a b s r)
   unfolding saidOn
   row-silent e Refused u = rw e refl
   row-silent e ReadData u = clash (sym u)
@@ -367,6 +392,7 @@ module _ (room : ℕ) (a : Association) (b : Beside) (cookie area s : List ℕ) 
   row-silent e ReadShutdown u = refl
   row-silent e CrossShutdown u = refl
   row-silent e RepeatShutdownAck u = refl
+  row-silent e RepeatAck u = refl
   row-silent e ReflectComplete u = refl
   row-silent e SendComplete u = refl
   row-silent e BecomeComplete u = refl

@@ -217,7 +217,7 @@ module _ (a : Association) (area packet : List ℕ) (lent : Lent) (cookie : List
   module _ (e : Echoed) (out : List ℕ) where
     let-in-short : arrival.numberOf a area packet e out ≡ 0 → length packet ≤ 1472
     unfolding arrival.numberOf packetNumber
-    let-in-short z = size-most packet (not-two (eqb (sizeNumber packet) 2) _ (earlier-none (lentNumber a (length area) (length out)) (packetNumber a packet (heeded e)) z .1))
+    let-in-short z = size-most packet (not-two (eqb (sizeNumber packet) 2) _ (earlier-none (lentNumber a (length area) (length out)) (packetNumber a packet (heeded (a .state) (a .ends) e)) z .1))
 
     abbrev Leaves : Arrived → List ℕ → List Heard → Type 0
     Leaves r after hs =
@@ -228,14 +228,14 @@ module _ (a : Association) (area packet : List ℕ) (lent : Lent) (cookie : List
     refused-leaves n = (refl, refl)
 
     pub packet-heard : Leaves (arrivedOf a area packet lent cookie e out) (areaOf a area packet lent cookie e out)
-        (pick (eqb (arrival.numberOf a area packet e out) 0) (listenedOver a area packet lent cookie (heeded e) .heard) [])
+        (pick (eqb (arrival.numberOf a area packet e out) 0) (listenedOver a area packet lent cookie (heeded (a .state) (a .ends) e) .heard) [])
     unfolding arrivedOf areaOf
     packet-heard = go (eqb (arrival.numberOf a area packet e out) 0) refl
       where
         turn : Turn
-        turn = passed a area packet lent cookie (heeded e)
+        turn = passed a area packet lent cookie (heeded (a .state) (a .ends) e)
 
         go : (x : Bool) → eqb (arrival.numberOf a area packet e out) 0 ≡ x
-            → Leaves (pick x (acceptedAs (turn .walked) (answeredLength (turn .walked) packet (turn .reply) out)) (refusedWith a (arrival.numberOf a area packet e out))) (pick x (turn .area) area) (pick x (listenedOver a area packet lent cookie (heeded e) .heard) [])
-        go true q = passed-heard (heeded e) (let-in-short (eqb-true (arrival.numberOf a area packet e out) 0 q))
+            → Leaves (pick x (acceptedAs (turn .walked) (answeredLength (turn .walked) packet (turn .reply) out)) (refusedWith a (arrival.numberOf a area packet e out))) (pick x (turn .area) area) (pick x (listenedOver a area packet lent cookie (heeded (a .state) (a .ends) e) .heard) [])
+        go true q = passed-heard (heeded (a .state) (a .ends) e) (let-in-short (eqb-true (arrival.numberOf a area packet e out) 0 q))
         go false q = refused-leaves (arrival.numberOf a area packet e out)
