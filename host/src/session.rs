@@ -11,7 +11,7 @@ use crate::heartbeat::Heartbeat;
 use crate::last_word::{Farewell, LastWord};
 use crate::library::Library;
 use crate::outbox::Outbox;
-use crate::packet::{chunk_at, first_chunk, source_port, tag, Incoming, DATA, HEARTBEAT_ACK, INIT};
+use crate::packet::{chunk_at, first_chunk, source_port, tag, Incoming, ABORT, DATA, HEARTBEAT_ACK, INIT, INIT_ACK};
 use crate::path::Path;
 use crate::random::Random;
 use crate::round_trip::RoundTrip;
@@ -382,9 +382,10 @@ impl<L: Library> Session<L> {
         for verdict in verdicts {
             self.note_turn(verdict.turn, before, &reply);
         }
-        // What answers an INIT goes to its sender and is of no association; everything else goes where the peer is known to be.
-        match first_chunk(packet) {
-            Some(INIT) => self.outbox.send(from, reply),
+        // What answers an INIT goes to its sender and is of no association; everything else goes where the peer is known to be, and so does the SHUTDOWN ACK that an
+        // INIT may ask for again: it shows the peer's tag.
+        match (first_chunk(packet), first_chunk(&reply)) {
+            (Some(INIT), Some(INIT_ACK | ABORT)) => self.outbox.send(from, reply),
             _ => self.send_to_peer(reply),
         }
         self.note_data(packet, verdicts, now);

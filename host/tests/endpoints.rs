@@ -500,6 +500,24 @@ fn a_stranger_restarts_nothing<L: Library>() {
     assert_eq!(pair.ends[1].endpoint.standing(), before);
 }
 
+/// RFC 9260 section 9.2: an INIT asks for the SHUTDOWN ACK again. It shows the peer's tag, so it goes where the peer is, whoever has asked.
+fn a_shutdown_ack_that_an_init_asks_for_goes_to_the_peer<L: Library>() {
+    let mut pair = Pair::<L>::up(slow(1), 22);
+    pair.has_strangers = true;
+    let init = pair.ends[0].sent[0].clone();
+    pair.ends[1].loses = Box::new(|packet| first_chunk(packet) == SHUTDOWN_ACK);
+    let now = pair.now;
+    pair.ends[0].endpoint.shutdown(now).expect("an established association shuts down");
+    assert!(pair.run_until(MINUTE, |pair| pair.state(1) == State::ShutdownAckSent));
+    let (before, peer) = (sent(&pair, 1, SHUTDOWN_ACK), pair.ends[0].address);
+    for (count, from) in [(1, "10.0.0.77:9899".parse().expect("an address")), (2, peer)] {
+        pair.arrive(1, &init, from);
+        pair.run_for(Duration::from_millis(1));
+        assert_eq!(sent(&pair, 1, SHUTDOWN_ACK), before + count);
+    }
+    assert!(pair.ends[1].astray.is_empty());
+}
+
 fn noise_changes_nothing<L: Library>() {
     let mut pair = Pair::<L>::up(slow(1), 14);
     let (from, now) = (pair.ends[0].address, pair.now);
@@ -541,5 +559,6 @@ on_both! {
     a_head_that_comes_back_is_met
     two_ends_that_ask_at_once_have_one_association
     a_stranger_restarts_nothing
+    a_shutdown_ack_that_an_init_asks_for_goes_to_the_peer
     noise_changes_nothing
 }
