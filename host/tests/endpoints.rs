@@ -482,6 +482,43 @@ fn two_ends_that_ask_at_once_have_one_association<L: Library>() {
     }
 }
 
+/// RFC 9260 section 5.2.4 B behind the opening: the battery was swapped while we asked as well, so that the cookies of both lives have our one tag. Up with the
+/// first life, we take the tag of the second, and go on only where its first TSN is the one that the record was made from.
+fn a_head_swapped_during_the_opening_goes_on_only_by_the_same_first_tsn<L: Library>() {
+    for is_same in [true, false] {
+        let mut pair = Pair::<L>::new(slow(5), 21);
+        pair.ends[0].loses = Box::new(|packet| first_chunk(packet) == COOKIE_ECHO);
+        pair.ends[1].loses = Box::new(|packet| first_chunk(packet) == INIT);
+        let (to, now) = (pair.ends[0].address, pair.now);
+        pair.ends[1].endpoint.associate(to, PORTS[0], now).expect("a closed record can associate");
+        let second = if is_same { config(0) } else { Config { first_tsn: Some(7), ..config(0) } };
+        let echoes = [(config(0), 101), (second, 102)].map(|(config, key)| {
+            let now = pair.now;
+            pair.ends[0].endpoint = Endpoint::new(config, Random::from_key([key; 32]), now);
+            pair.associate();
+            pair.run_for(Duration::from_millis(100));
+            pair.ends[0].sent.iter().rfind(|packet| first_chunk(packet) == COOKIE_ECHO).cloned().expect("the cookie was echoed")
+        });
+        let (from, tag) = (pair.ends[0].address, pair.ends[0].endpoint.standing().my_tag);
+        pair.arrive(1, &echoes[0], from);
+        assert_eq!(pair.state(1), State::Established);
+        assert_ne!(pair.ends[1].endpoint.core().peer_tag(), tag);
+        pair.arrive(1, &echoes[1], from);
+        pair.ends[0].loses = Box::new(|_| false);
+        pair.run_for(Duration::from_millis(100));
+        if is_same {
+            assert_eq!(pair.ends[1].endpoint.core().peer_tag(), tag);
+            pair.ends[0].endpoint.hand_in(b"of the second life", 0, false, 0).expect("there is room");
+            pair.run_for(Duration::from_secs(1));
+            assert_eq!(pair.ends[1].taken, [(0, 0, b"of the second life".to_vec())]);
+            assert_eq!(pair.ends[1].events, [Event::Up]);
+        } else {
+            assert_eq!(pair.ends[1].events, [Event::Up, Event::Down(Why::WeAborted(Cause::User))]);
+            assert_eq!(pair.ends[0].events.last(), Some(&Event::Down(Why::PeerAborted)));
+        }
+    }
+}
+
 /// Until there are paths, only the peer's own address may begin anew.
 fn a_stranger_restarts_nothing<L: Library>() {
     let mut pair = Pair::<L>::up(slow(1), 16);
@@ -558,6 +595,7 @@ on_both! {
     opens_again_after_the_end
     a_head_that_comes_back_is_met
     two_ends_that_ask_at_once_have_one_association
+    a_head_swapped_during_the_opening_goes_on_only_by_the_same_first_tsn
     a_stranger_restarts_nothing
     a_shutdown_ack_that_an_init_asks_for_goes_to_the_peer
     noise_changes_nothing
