@@ -66,6 +66,14 @@ fn a_demonstration_tells_its_book() {
 }
 
 #[test]
+fn a_head_whose_battery_is_swapped_is_met_in_each_of_its_lives() {
+    let (ended, said) = well("demo --battery 3");
+    assert_eq!(said.matches("  head restarted (").count(), 3, "{}", said);
+    // Three lives of half the tiles, and one of all.
+    assert!(ended.verdict.starts_with("5,625 tiles of 4 lives came once and in order; "), "{}", ended.verdict);
+}
+
+#[test]
 fn both_circles_close_in_fair_weather() {
     let (ended, said) = well("demo --loss 0 --repeat 0 --reorder 0 --damage 0 --messages 65600 --heads 2");
     for head in 1..=2 {
