@@ -1,9 +1,10 @@
 /* The foreign side of the interoperation tests: libusrsctp, one association over UDP on loopback (RFC 6951).
  *
  *     peer connect|listen here=UDP there=UDP send=N take=N plan=one|spread first=both|us|peer end=shutdown|abort|peer-shutdown|peer-abort
- *          extensions=off|on|many streams=N fragment=BYTES mtu=BYTES heartbeat=MS idle=MS seconds=S
+ *          extensions=off|on|many streams=N fragment=BYTES mtu=BYTES heartbeat=MS idle=MS vanish=N restarts=N seconds=S
  *
- * Sends its messages, compares those that come byte by byte, ends as told. Exit status 0 only where all was as planned. */
+ * Sends its messages, compares those that come byte by byte, ends as told. 'vanish': when so many have come, without a word. 'restarts': so often the other begins
+ * anew, and then all messages go again. Exit status 0 only where all was as planned. */
 #include <arpa/inet.h>
 #include <errno.h>
 #include <pthread.h>
@@ -29,11 +30,11 @@ enum {
 };
 
 static const char *role = "connect", *plan = "spread", *first = "both", *ends = "shutdown", *extensions = "off";
-static unsigned here = 19899, there = 29899, to_send, to_take, heartbeat = 30000, idle, seconds = 60;
+static unsigned here = 19899, there = 29899, to_send, to_take, heartbeat = 30000, idle, vanish, restarts, seconds = 60;
 /* What Oilwhisper reads: DATA of at most 512 bytes, chunks of a packet that make at most 1,472 with its header. */
 static unsigned fragment = 512, mtu = 1400, streams = STREAMS;
 static struct socket *sock;
-static bool is_shut_down, is_lost;
+static bool is_shut_down, is_lost, is_restarted;
 
 static void fault(const char *format, ...)
 {
@@ -128,7 +129,10 @@ static void note(const union sctp_notification *news)
         is_lost = true;
         break;
     case SCTP_RESTART:
-        fault("the association restarted");
+        if (restarts == 0)
+            fault("the association restarted");
+        restarts--;
+        is_restarted = true;
         break;
     case SCTP_CANT_STR_ASSOC:
         fault("no association");
@@ -154,7 +158,7 @@ static size_t take(uint8_t *message, struct sctp_rcvinfo *info)
             return 0;
         if (flags & MSG_NOTIFICATION) {
             note((const union sctp_notification *)(message + length));
-            if (is_lost || is_shut_down)
+            if (is_lost || is_shut_down || is_restarted)
                 return 0;
             continue;
         }
@@ -168,16 +172,27 @@ static size_t take(uint8_t *message, struct sctp_rcvinfo *info)
     }
 }
 
-static void take_all(void)
+/* All messages of one life of the other's; false where it began anew before. */
+static bool take_all(void)
 {
     static uint8_t message[LONGEST + 1];
-    static uint32_t ordered[STREAMS], latest[STREAMS];
+    uint32_t ordered[STREAMS] = {0}, latest[STREAMS] = {0};
     bool *came = calloc(to_take + 1, sizeof *came);
     struct sctp_rcvinfo info;
     uint64_t bytes = 0;
     unsigned circles = 0;
     for (unsigned count = 0; count < to_take; count++) {
+        if (vanish != 0 && count == vanish) {
+            printf("peer: vanishes after %u messages\n", count);
+            _exit(0);
+        }
         size_t length = take(message, &info);
+        if (length == 0 && is_restarted) {
+            printf("peer: restarted after %u messages, each once and in order\n", count);
+            is_restarted = false;
+            free(came);
+            return false;
+        }
         if (length == 0)
             fault("an end after %u of %u messages", count, to_take);
         unsigned i = ntohl(info.rcv_ppid) - NUMBERED;
@@ -200,6 +215,7 @@ static void take_all(void)
     }
     printf("peer: %u messages compared, %llu bytes, %u SSN circles closed\n", to_take, (unsigned long long)bytes, circles);
     free(came);
+    return true;
 }
 
 static void set(struct socket *s, int name, const void *value, socklen_t size, const char *what)
@@ -315,7 +331,7 @@ static void read_word(const char *word)
     const struct { const char *name; unsigned *number; const char **text; } known[] = {
         {"here", &here, NULL}, {"there", &there, NULL}, {"send", &to_send, NULL}, {"take", &to_take, NULL}, {"heartbeat", &heartbeat, NULL},
         {"idle", &idle, NULL}, {"seconds", &seconds, NULL}, {"fragment", &fragment, NULL}, {"mtu", &mtu, NULL}, {"streams", &streams, NULL},
-        {"plan", NULL, &plan}, {"first", NULL, &first}, {"end", NULL, &ends},
+        {"vanish", &vanish, NULL}, {"restarts", &restarts, NULL}, {"plan", NULL, &plan}, {"first", NULL, &first}, {"end", NULL, &ends},
         {"extensions", NULL, &extensions}};
     if (value == NULL) {
         role = word;
@@ -343,6 +359,12 @@ int main(int count, char **words)
     alarm(seconds);
     start_stack();
     associate();
+    /* What is sent to a life stands in the stack before it ends, so that none of it goes to the next. */
+    while (restarts > 0) {
+        send_all(NULL);
+        if (take_all())
+            fault("all messages came before a restart");
+    }
     /* 'first=us': Oilwhisper's messages come first. */
     if (strcmp(first, "us") == 0)
         take_all();

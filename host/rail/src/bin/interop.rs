@@ -1,10 +1,12 @@
 //! Our side of the interoperation tests (tests/interop/run): one association over loopback with a foreign stack, by a plan that both sides know.
 //!
 //!     interop connect|listen here=UDP there=UDP port=PORT to=PORT send=N take=N plan=one|spread|small|tsctp first=both|us|peer tsn=N
-//!             end=shutdown|abort|peer-shutdown|peer-abort|refused:N heartbeat=MS idle=MS linger=MS weather=fair|bad seconds=S pcap=FILE
+//!             end=shutdown|abort|peer-shutdown|peer-abort|refused:N|vanish:N restarts=N heartbeat=MS idle=MS linger=MS weather=fair|bad seconds=S
+//!             pcap=FILE
 
 use oilwhisper::calls::{Cause, Refusal, Taken};
 use oilwhisper::endpoint::{Config, Endpoint, Event, Why};
+use oilwhisper::ffi::PLACES;
 use oilwhisper::library::Proved;
 use oilwhisper::pcap::{Capture, Pcap, Tap};
 use oilwhisper::random::Random;
@@ -179,6 +181,8 @@ enum End {
     PeerAborts,
     /// It goes no further than to this number.
     Refused(Refusal),
+    /// When so many messages have come each way, and without a word.
+    WeVanish(u32),
 }
 
 struct Side {
@@ -195,24 +199,37 @@ struct Side {
     idle: Duration,
     done_since: Option<Instant>,
     is_ending: bool,
+    /// So often the peer is still to begin anew.
+    restarts: u32,
 }
 
 impl Side {
     fn turn(&mut self) -> Outcome<()> {
         self.line.turn(TURN).map_err(|e| format!("the socket: {}", e))?;
-        self.take()?;
         while let Some(event) = self.line.endpoint.event() {
             match event {
                 Event::Up => self.is_up = true,
                 Event::Down(why) => self.down = Some(why),
-                Event::Restarted(_) => self.is_up = true,
+                Event::Restarted(lost) => self.begin_anew(lost)?,
                 Event::Quiet(_) | Event::Heard => {}
             }
         }
+        // What is there behind a restart is of the new life.
+        self.take()?;
         if self.is_up && self.down.is_none() {
             self.hand_in()?;
             self.conclude()?;
         }
+        Ok(())
+    }
+
+    /// The peer has lost all: every message goes again, both ways.
+    fn begin_anew(&mut self, lost: usize) -> Outcome<()> {
+        self.restarts = self.restarts.checked_sub(1).ok_or("the peer began anew")?;
+        println!("ours: restarted after {} messages, each once and in order; {} were not taken", self.ledger.count, lost);
+        self.ledger = Ledger::new(self.plan, self.ledger.came.len() as u32);
+        self.handed_in = 0;
+        self.waiting = None;
         Ok(())
     }
 
@@ -265,6 +282,8 @@ impl Side {
     fn is_over(&self) -> bool {
         match self.end {
             End::Refused(number) => self.line.endpoint.counts().refusals().any(|(refusal, _)| refusal == number),
+            // What is handed in and has no place left beside it was acknowledged.
+            End::WeVanish(count) => self.down.is_some() || self.ledger.count >= count && self.handed_in >= count + PLACES as u32,
             _ => self.down.is_some(),
         }
     }
@@ -275,7 +294,7 @@ impl Side {
             End::WeShutDown | End::PeerShutsDown => Some(Why::ShutDown),
             End::WeAbort => Some(Why::WeAborted(Cause::User)),
             End::PeerAborts => Some(Why::PeerAborted),
-            End::Refused(_) => None,
+            End::Refused(_) | End::WeVanish(_) => None,
         };
         if self.down != planned {
             return Err(match self.down {
@@ -285,6 +304,9 @@ impl Side {
         }
         if planned.is_some() && (!self.ledger.is_full() || self.handed_in < self.to_send) {
             return Err("it ended too early".to_owned());
+        }
+        if self.restarts > 0 {
+            return Err("the peer did not begin anew".to_owned());
         }
         Ok(())
     }
@@ -321,6 +343,7 @@ fn plan_of(word: &str) -> Outcome<Plan> {
 fn end_of(word: &str) -> Outcome<End> {
     match word.split_once(':') {
         Some(("refused", number)) => number.parse().map(|number| End::Refused(Refusal(number))).map_err(|_| format!("{} is no number", number)),
+        Some(("vanish", number)) => number.parse().map(End::WeVanish).map_err(|_| format!("{} is no number", number)),
         _ => match word {
             "shutdown" => Ok(End::WeShutDown),
             "abort" => Ok(End::WeAbort),
@@ -386,6 +409,7 @@ fn run(words: &Words) -> Outcome<()> {
         idle: words.time("idle", 0)?,
         done_since: None,
         is_ending: false,
+        restarts: words.number("restarts", 0)?,
     };
     if words.text("role", "") == "connect" {
         let to = way(words.text("weather", "fair"), here, loopback(words.number("there", 19_899)?))?;
