@@ -38,9 +38,12 @@ pub struct Datagram {
 
 /// A packet that has come.
 #[derive(Clone, Copy, Debug)]
-pub(crate) struct Incoming<'a> {
+pub struct Incoming<'a> {
+    /// The SCTP packet.
     pub packet: &'a [u8],
+    /// Where it came from.
     pub from: SocketAddr,
+    /// When it came.
     pub at: Instant,
 }
 
