@@ -147,7 +147,8 @@ static void others(void) {
     opens();
     CHECK(ow_heartbeat(&ours.record, value, packet, sizeof packet).length > 0);
     CHECK(ow_error_stream(&ours.record, 99, packet, sizeof packet).length > 0);
-    CHECK(ow_error_stale(&ours.record, 1, 2, 3, packet, sizeof packet).number == OW_STATE);
+    CHECK(ow_error_stale(&ours.record, 1, 2, 3, packet, sizeof packet).length > 0);
+    CHECK(ow_error_stale(&ours.record, 0, 2, 3, packet, sizeof packet).number == OW_HEAD);
     CHECK(ow_t2(&ours.record, packet, sizeof packet).number == OW_STATE);
     CHECK(ow_t3(&ours.record).number == OW_STATE);
     ours.record.head.state = 9;
