@@ -8,9 +8,9 @@ ghost use mathlib.Core.Path.{_≡_};
 ghost use mathlib.Core.List.{[]};
 ghost use Rattle.path.specs.Sizes.{sizesOf};
 ghost use Rattle.numbers.specs.Profile.{rail};
-ghost use Rattle.sending.specs.Acknowledge.{judgedPoint, limitOf, sackOf, shutOf};
+ghost use Rattle.sending.specs.Acknowledge.{judgedPoint, limitOf, wholeSack, shutOf};
 ghost use Rattle.sending.specs.Sending.{hasOutstanding};
-ghost use Rattle.sender.specs.Seen.{seen};
+ghost use Rattle.sender.specs.Seen.{sendingShown};
 ghost use Rattle.acks.specs.Acks.{acceptedHead, acceptedWords, ackedHead, ackedWords, shutHead, shutWords, overdueHead, overdueWords, expiredHead, expiredWords};
 
 // A number of 01's table, 0 if none, beside the head.
@@ -27,7 +27,7 @@ pub struct Expired {
 }
 
 fn judge(s: Sender, k: Sack) -> u8
-    ensures { λ r. ⌜ r ≡ judgedPoint (seen rail s [] []) k ⌝ }
+    ensures { λ r. ⌜ r ≡ judgedPoint (sendingShown rail s [] []) k ⌝ }
 {
     let from = s.acked;
     let point = k.point;
@@ -42,7 +42,7 @@ fn judge(s: Sender, k: Sack) -> u8
 
 // Below which offset an unacknowledged chunk gets a miss.
 fn limit(s: Sender, k: Sack, highest: u32) -> u64
-    ensures { λ r. ⌜ r ≡ limitOf (seen rail s [] []) k highest ⌝ }
+    ensures { λ r. ⌜ r ≡ limitOf (sendingShown rail s [] []) k highest ⌝ }
 {
     let p = s.path;
     if p.running {
@@ -101,8 +101,8 @@ fn answered(s: Sender, t: &mut [u32; 1024], k: Sack) -> Acked
 
 // A SACK.
 pub fn acknowledge(s: Sender, t: &mut [u32; 1024], point: Tsn, window: u32, blocks: Blocks) -> Acked
-    ensures { λ r. ⌜ r ≡ ackedHead (sizesOf (s .mode)) rail s (now (t .entry)) (sackOf point window blocks) ⌝ }
-    ensures { λ _. ⌜ now (t .exit) ≡ ackedWords rail s (now (t .entry)) (sackOf point window blocks) ⌝ }
+    ensures { λ r. ⌜ r ≡ ackedHead (sizesOf (s .mode)) rail s (now (t .entry)) (wholeSack point window blocks) ⌝ }
+    ensures { λ _. ⌜ now (t .exit) ≡ ackedWords rail s (now (t .entry)) (wholeSack point window blocks) ⌝ }
 {
     let k = Sack {
         point: point,
@@ -144,7 +144,7 @@ fn overdue(mut s: Sender, t: &mut [u32; 1024]) -> Sender
 }
 
 fn has_outstanding(s: Sender, t: &[u32; 1024]) -> bool
-    ensures { λ r. ⌜ r ≡ hasOutstanding (seen rail s (now (t .entry)) []) ⌝ }
+    ensures { λ r. ⌜ r ≡ hasOutstanding (sendingShown rail s (now (t .entry)) []) ⌝ }
 {
     let w = marks::tallied(t, s.acked);
     w.left

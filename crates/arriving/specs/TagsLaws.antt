@@ -14,7 +14,7 @@ use Rattle.association.specs.declared.ends.Association.{Association}
 use Rattle.steps.specs.declared.lent.Made.{Made}
 use Rattle.steps.specs.declared.lent.Echoed.{Echoed}
 use Rattle.steps.specs.declared.meeting.Action.the-variants.{Restart}
-use Rattle.steps.specs.Meeting.{actionOf, starts, acts}
+use Rattle.steps.specs.Meeting.{actionOf, startsAnew, acts}
 use Rattle.steps.specs.MeetingLaws.{restart-tag, start-fresh}
 use Rattle.arriving.specs.Tags.{arePorts, isReflecting, ruleOf, hasAbort, ruleFor, isTag, headNumber}
 
@@ -29,7 +29,7 @@ other-tag a h s w o i e r t = rw (o, i, e, r, t) (go (arePorts (a .state) (a .en
     go false n = refl
 
 -- "messages of the old life are not delivered in the new one" (02, T-08): after a restart our tag of before is another
-pub old-life-out : (room : ℕ) (a : Association) (source : ℕ) (m : Made) → actionOf (a .state) (a .ends) m ≡ Restart → starts Restart (a .state) ≡ true
+pub old-life-out : (room : ℕ) (a : Association) (source : ℕ) (m : Made) → actionOf (a .state) (a .ends) m ≡ Restart → startsAnew Restart (a .state) ≡ true
     → (h : Header) (s : List ℕ) (w : Echoed) → h .tag ≡ a .ends .«my_tag» → eqb (u8 s 0) 1 ≡ false → eqb (u8 s 0) 10 ≡ false → isReflecting (u8 s 0) (flagged s 1) ≡ false
     → headNumber (acts room a source m Restart .association) h s w ≡ 4
 old-life-out room a source m x q h s w t i e r =

@@ -16,6 +16,6 @@ pub struct Arrived {
 }
 
 // What a lent area, and a lent output, must have.
-const AREA: usize = Rail::PLACES * Rail::PAYLOAD;
+const AREA: usize = Rail::AREA;
 
-const OUTPUT: usize = 12 + ROOM;
+const OUTPUT: usize = Rail::LONGEST_PACKET;

@@ -1,5 +1,6 @@
 // Ports and verification tag (number 4). The first chunk settles which tag rule holds.
 use association::Ends;
+use chunks::types;
 use octets::size;
 use packets::Header;
 use states::State;
@@ -78,7 +79,7 @@ fn rule_of(kind: u8, t: bool, state: State, ends: Ends, echoed: Echoed) -> Rule
 fn is_abort(s: &[u8]) -> bool
     ensures { λ r. ⌜ r ≡ isAbort (now (s .entry)) ⌝ }
 {
-    octets::get8(s, 0) == 6
+    octets::get8(s, 0) == types::ABORT
 }
 
 fn first_abort(s: &[u8]) -> usize

@@ -1,16 +1,17 @@
 // The chunks of a packet, one by one: each on the record that the one before left, its reply behind those before.
 use crate::verdict::Verdict;
 use association::Association;
+use numbers::Rail;
 use steps::Owed;
 ghost use mathlib.Core.Path.{_≡_};
 ghost use Rattle.scans.specs.Scan.{either};
 ghost use Rattle.arriving.specs.Walked.{owes, isDue};
 
 // The most chunks that a packet holds: (1,472 - 12) / 4.
-pub const CHUNKS: usize = 365;
+pub const CHUNKS: usize = Rail::CHUNKS;
 
 // What the replies to a packet share, behind their header.
-pub const ROOM: usize = 1460;
+pub const ROOM: usize = Rail::CHUNK_ROOM;
 
 // The record so far, the verdicts of the chunks passed, how many bytes of replies are gathered, whether the rest is unread, whether a SHUTDOWN is
 // due, and what the whole reply owes beside it.

@@ -7,13 +7,13 @@ use Rattle.calls.specs.declared.answer.Answer.{Answer}
 use Rattle.calls.specs.declared.acknowledging.Acknowledged.{Acknowledged}
 use Rattle.calls.specs.CallLaws.{done-one, kept-one}
 use Rattle.asks.specs.declared.answer.Answered.{Answered}
-use Rattle.asks.specs.Answer.{answeredOf}
-use Rattle.asks.specs.Acknowledging.{acknowledgedOf}
-use Rattle.asks.specs.Opening.{Tables}
-use Rattle.asks.specs.OpeningLaws.{tables-one}
-use Rattle.asks.specs.Timers.{Lapse}
-use Rattle.asks.specs.Messages.{Handover, Delivery}
-use Rattle.asks.specs.Transmit.{Dispatch}
+use Rattle.asks.specs.TableAnswer.{answeredOf}
+use Rattle.asks.specs.TableAcknowledging.{acknowledgedOf}
+use Rattle.asks.specs.TableOpening.{Tables}
+use Rattle.asks.specs.TableOpeningLaws.{tables-one}
+use Rattle.asks.specs.TableTimers.{Lapse}
+use Rattle.asks.specs.TableMessages.{Handover, Delivery}
+use Rattle.asks.specs.TableTransmit.{Dispatch}
 use Rattle.asks.proofs.answer.bar.Reads as bar-reads
 use Rattle.asks.proofs.closing.shutdown.Reads as shutdown-reads
 use Rattle.asks.proofs.closing.abort.Reads as abort-reads

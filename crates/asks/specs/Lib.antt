@@ -1,14 +1,15 @@
 -- The calls of the host over head and tables: what they answer and leave, and that it is what `calls` says of the record that head and tables show.
-pub mod Answer
-pub mod AnswerLaws
-pub mod Opening
-pub mod OpeningLaws
-pub mod Timers
-pub mod TimersLaws
-pub mod Messages
-pub mod MessagesLaws
-pub mod Acknowledging
-pub mod AcknowledgingLaws
-pub mod Transmit
-pub mod TransmitLaws
+-- To read: TableAnswer, TableOpening, TableTimers, TableMessages, TableAcknowledging, TableTransmit. The rest are laws.
+pub mod TableAnswer
+pub mod TableAnswerLaws
+pub mod TableOpening
+pub mod TableOpeningLaws
+pub mod TableTimers
+pub mod TableTimersLaws
+pub mod TableMessages
+pub mod TableMessagesLaws
+pub mod TableAcknowledging
+pub mod TableAcknowledgingLaws
+pub mod TableTransmit
+pub mod TableTransmitLaws
 pub mod BesideLaws

@@ -14,10 +14,10 @@ ghost use lib.ListN.{length};
 ghost use Rattle.numbers.specs.Profile.{rail};
 ghost use Rattle.chunks.specs.SackChunk.{sackBytes};
 ghost use Rattle.calls.specs.Packet.{toPeer, Sent};
-ghost use Rattle.calls.specs.Acknowledging.{chunkOf, acknowledged, acknowledgedOut};
+ghost use Rattle.calls.specs.Acknowledging.{sackValues, acknowledgedCall, acknowledgedOut};
 ghost use Rattle.flat.specs.Shown.{shown};
-ghost use Rattle.asks.specs.Answer.{withKeeping};
-ghost use Rattle.asks.specs.Acknowledging.{acknowledgedIn};
+ghost use Rattle.asks.specs.TableAnswer.{headWithKeeping};
+ghost use Rattle.asks.specs.TableAcknowledging.{acknowledgedIn};
 
 // The number, 0 if none; the bytes of the packet; what it says; the head.
 pub struct Acknowledged {
@@ -28,7 +28,7 @@ pub struct Acknowledged {
 }
 
 fn chunk_of(k: delivery::Sack) -> Sack
-    ensures { λ r. ⌜ r ≡ chunkOf k ⌝ }
+    ensures { λ r. ⌜ r ≡ sackValues k ⌝ }
 {
     let point = k.point;
     let blocks = k.blocks;
@@ -43,7 +43,7 @@ fn chunk_of(k: delivery::Sack) -> Sack
 }
 
 fn with_keeping(mut head: Head, k: Keeping) -> Head
-    ensures { λ r. ⌜ r ≡ withKeeping head k ⌝ }
+    ensures { λ r. ⌜ r ≡ headWithKeeping head k ⌝ }
 {
     head.keeping = k;
     head
@@ -60,7 +60,7 @@ fn send_sack(e: Ends, k: Sack, out: &mut [u8]) -> usize
 
 // What has come is told to the peer: the values, and the packet. The duplicates listed are told with it.
 pub fn sack(head: Head, held: &[u32; 512], places: &[u32; 1024], out: &mut [u8]) -> Acknowledged
-    ensures { λ r. ⌜ ((ns ms cs : List ℕ) → (acknowledgedIn r (now (held .entry)) ns (now (places .entry)) ms cs ≡ acknowledged (shown head (now (held .entry)) ns (now (places .entry)) ms cs) (now (out .entry))) × (now (out .exit) ≡ acknowledgedOut (shown head (now (held .entry)) ns (now (places .entry)) ms cs) (now (out .entry)))) ⌝ }
+    ensures { λ r. ⌜ ((ns ms cs : List ℕ) → (acknowledgedIn r (now (held .entry)) ns (now (places .entry)) ms cs ≡ acknowledgedCall (shown head (now (held .entry)) ns (now (places .entry)) ms cs) (now (out .entry))) × (now (out .exit) ≡ acknowledgedOut (shown head (now (held .entry)) ns (now (places .entry)) ms cs) (now (out .entry)))) ⌝ }
 {
     let n = answer::bar(head, held, places, out.len() < OUTPUT, Call::Acknowledge);
     if n == 0 {

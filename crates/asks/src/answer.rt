@@ -8,7 +8,7 @@ ghost use mathlib.Core.List.{List};
 ghost use Prim.Native.Nat.{ℕ};
 ghost use Rattle.calls.specs.Answer.{barred};
 ghost use Rattle.flat.specs.Shown.{shown};
-ghost use Rattle.asks.specs.Answer.{withSender, refusedWith, toldWith, overWith};
+ghost use Rattle.asks.specs.TableAnswer.{withSender, refusedWith, toldWith, overWith};
 
 // A number of document 01's table, 0 if none; the bytes of the packet that was written; whether an expiry closed the association; the head.
 pub struct Answered {

@@ -12,14 +12,14 @@ ghost use mathlib.Core.Path.{_≡_};
 ghost use mathlib.Core.List.{List};
 ghost use Prim.Native.Nat.{ℕ, _≤_};
 ghost use lib.ListN.{length};
-ghost use Rattle.calls.specs.Answer.{Done};
-ghost use Rattle.calls.specs.Closing.{shutting, causeOf, aborted, aborting};
+ghost use Rattle.calls.specs.Answer.{CallDone};
+ghost use Rattle.calls.specs.Closing.{shutting, abortCause, aborted, aborting};
 ghost use Rattle.flat.specs.Shown.{shown};
-ghost use Rattle.asks.specs.Answer.{answerIn};
+ghost use Rattle.asks.specs.TableAnswer.{answerIn};
 
 // No more messages: SHUTDOWN, once all that was handed in is acknowledged.
 pub fn shutdown(head: Head, held: &[u32; 512], places: &[u32; 1024], out: &mut [u8]) -> Answered
-    ensures { λ r. ⌜ ((ns ms cs : List ℕ) → Done (shutting (shown head (now (held .entry)) ns (now (places .entry)) ms cs) (now (out .entry))) (now (out .entry)) (answerIn r (now (held .entry)) ns (now (places .entry)) ms cs) (now (out .exit))) ⌝ }
+    ensures { λ r. ⌜ ((ns ms cs : List ℕ) → CallDone (shutting (shown head (now (held .entry)) ns (now (places .entry)) ms cs) (now (out .entry))) (now (out .entry)) (answerIn r (now (held .entry)) ns (now (places .entry)) ms cs) (now (out .exit))) ⌝ }
 {
     let n = answer::bar(head, held, places, out.len() < OUTPUT, Call::Shutdown);
     if n == 0 {
@@ -34,7 +34,7 @@ pub fn shutdown(head: Head, held: &[u32; 512], places: &[u32; 1024], out: &mut [
 }
 
 fn cause_of(why: Reason) -> Cause
-    ensures { λ r. ⌜ r ≡ causeOf why ⌝ }
+    ensures { λ r. ⌜ r ≡ abortCause why ⌝ }
 {
     match why {
         Reason::User => Cause::UserAbort,
@@ -45,7 +45,7 @@ fn cause_of(why: Reason) -> Cause
 
 fn end(head: Head, why: Reason, out: &mut [u8]) -> Answered
     requires { ⌜ 12 ≤ length (now out) ⌝ }
-    ensures { λ r. ⌜ ((held ns places ms cs : List ℕ) → Done (aborted (shown head held ns places ms cs) why) (now (out .entry)) (answerIn r held ns places ms cs) (now (out .exit))) ⌝ }
+    ensures { λ r. ⌜ ((held ns places ms cs : List ℕ) → CallDone (aborted (shown head held ns places ms cs) why) (now (out .entry)) (answerIn r held ns places ms cs) (now (out .exit))) ⌝ }
 {
     let state = head.state;
     if state.knows_peer() {
@@ -64,7 +64,7 @@ pub fn abort(
     why: Reason,
     out: &mut [u8],
 ) -> Answered
-    ensures { λ r. ⌜ ((ns ms cs : List ℕ) → Done (aborting (shown head (now (held .entry)) ns (now (places .entry)) ms cs) why (now (out .entry))) (now (out .entry)) (answerIn r (now (held .entry)) ns (now (places .entry)) ms cs) (now (out .exit))) ⌝ }
+    ensures { λ r. ⌜ ((ns ms cs : List ℕ) → CallDone (aborting (shown head (now (held .entry)) ns (now (places .entry)) ms cs) why (now (out .entry))) (now (out .entry)) (answerIn r (now (held .entry)) ns (now (places .entry)) ms cs) (now (out .exit))) ⌝ }
 {
     let n = answer::bar(head, held, places, out.len() < OUTPUT, Call::Abort);
     if n == 0 {

@@ -11,7 +11,7 @@ ghost use Prim.Native.Nat.{ℕ};
 ghost use Rattle.calls.specs.Messages.{undelivered, deliveredAs, takeBar};
 ghost use Rattle.flat.specs.declared.head.Head.{Head};
 ghost use Rattle.flat.specs.Shown.{shown, bare};
-ghost use Rattle.asks.specs.Messages.{Delivery, given, deliveredFrom};
+ghost use Rattle.asks.specs.TableMessages.{Delivery, deliveredBeside, deliveredFrom};
 
 // The number, 0 if none; the message, of which a refusal with 18 gives the length needed.
 pub struct Delivered {
@@ -20,7 +20,7 @@ pub struct Delivered {
 }
 
 fn not_delivered(number: u8, n: usize) -> Delivered
-    ensures { λ r. ⌜ ((head : Head) → r ≡ given (undelivered (bare head) number n)) ⌝ }
+    ensures { λ r. ⌜ ((head : Head) → r ≡ deliveredBeside (undelivered (bare head) number n)) ⌝ }
 {
     let message = Message {
         length: n,
@@ -33,7 +33,7 @@ fn not_delivered(number: u8, n: usize) -> Delivered
 }
 
 fn answered(answer: Answer) -> Delivered
-    ensures { λ r. ⌜ ((head : Head) → r ≡ given (deliveredAs answer (bare head))) ⌝ }
+    ensures { λ r. ⌜ ((head : Head) → r ≡ deliveredBeside (deliveredAs answer (bare head))) ⌝ }
 {
     match answer {
         Answer::Taken(message) => Delivered { number: 0, message },

@@ -11,7 +11,7 @@ ghost use Prim.Native.Nat.{ℕ};
 ghost use Rattle.states.specs.declared.call.Call.the-variants.{HandIn};
 ghost use Rattle.calls.specs.Answer.{isShortArea, barred};
 ghost use Rattle.flat.specs.Shown.{shown};
-ghost use Rattle.asks.specs.Messages.{Handover, handedOver};
+ghost use Rattle.asks.specs.TableMessages.{Handover, handedOver};
 
 // A message for a stream: its chunks wait, their payloads in the lent area. The head stays.
 pub fn hand_in(

@@ -11,11 +11,11 @@ use states::Call;
 use states::State;
 ghost use mathlib.Core.Path.{_≡_};
 ghost use Rattle.scans.specs.Upto.{smaller};
-ghost use Rattle.calls.specs.Answer.{Done};
+ghost use Rattle.calls.specs.Answer.{CallDone};
 ghost use Rattle.calls.specs.Opening.{wanting, associateRefusal, associating};
-ghost use Rattle.flat.specs.Shown.{shown, bare, headOf};
-ghost use Rattle.asks.specs.Answer.{answerIn};
-ghost use Rattle.asks.specs.Opening.{Tables, tablesAfter};
+ghost use Rattle.flat.specs.Shown.{shown, bare, associationHead};
+ghost use Rattle.asks.specs.TableAnswer.{answerIn};
+ghost use Rattle.asks.specs.TableOpening.{Tables, tablesAfter};
 
 // No more than there are.
 fn wanted(streams: u16) -> u16
@@ -29,7 +29,7 @@ fn wanted(streams: u16) -> u16
 
 // A fresh head that waits for an INIT ACK.
 fn waiting(head: Head, tag: u32, tsn: Tsn, port: u16, streams: u16) -> Head
-    ensures { λ r. ⌜ r ≡ headOf (wanting (bare head) tag tsn port streams) ⌝ }
+    ensures { λ r. ⌜ r ≡ associationHead (wanting (bare head) tag tsn port streams) ⌝ }
 {
     let before = head.ends;
     let streams_out = wanted(streams);
@@ -75,7 +75,7 @@ pub fn associate(
     streams: u16,
     out: &mut [u8],
 ) -> Answered
-    ensures { λ r. ⌜ Done (associating (shown head (now (held .entry)) (now (next_in .entry)) (now (places .entry)) (now («next_out» .entry)) (now (kept .entry))) tag tsn port streams (now (out .entry))) (now (out .entry)) (answerIn r (now (held .exit)) (now (next_in .exit)) (now (places .exit)) (now («next_out» .exit)) (now (kept .exit))) (now (out .exit)) ⌝ }
+    ensures { λ r. ⌜ CallDone (associating (shown head (now (held .entry)) (now (next_in .entry)) (now (places .entry)) (now («next_out» .entry)) (now (kept .entry))) tag tsn port streams (now (out .entry))) (now (out .entry)) (answerIn r (now (held .exit)) (now (next_in .exit)) (now (places .exit)) (now («next_out» .exit)) (now (kept .exit))) (now (out .exit)) ⌝ }
     ensures { λ r. ⌜ _≡_ {A = Tables} (record { held = now (held .exit); next = now (next_in .exit); places = now (places .exit); nextOut = now («next_out» .exit); kept = now (kept .exit) }) (tablesAfter (r .number) (record { held = now (held .entry); next = now (next_in .entry); places = now (places .entry); nextOut = now («next_out» .entry); kept = now (kept .entry) })) ⌝ }
 {
     let b = answer::bar(head, held, places, out.len() < OUTPUT, Call::Associate);

@@ -9,21 +9,22 @@ use packets::Header;
 ghost use mathlib.Core.Path.{_≡_};
 ghost use Prim.Native.Nat.{_≤_};
 ghost use lib.ListN.{length, take, drop};
+ghost use Rattle.chunks.specs.Types.{abortType};
 ghost use Rattle.chunks.specs.Frame.{framed};
-ghost use Rattle.chunks.specs.Cause.{caused, code, information};
+ghost use Rattle.chunks.specs.Cause.{caused, causeCode, information};
 ghost use Rattle.chunks.specs.ShutdownChunk.{shutdownBytes, shutdownAckBytes};
 ghost use Rattle.chunks.specs.CookieChunk.{cookieEchoBytes};
 ghost use Rattle.chunks.specs.HeartbeatChunk.{heartbeatBytes};
-ghost use Rattle.calls.specs.Packet.{headOf, toPeer, Sent};
-ghost use Rattle.calls.specs.Opening.{initOf, initBytes};
+ghost use Rattle.calls.specs.Packet.{headToPeer, toPeer, Sent};
+ghost use Rattle.calls.specs.Opening.{associationInit, initBytes};
 ghost use Rattle.calls.specs.Telling.{errorBytes};
 ghost use Rattle.flat.specs.Shown.{bare};
 
 // The window of a record with every place free.
-const WINDOW: u32 = (Rail::PLACES * Rail::PAYLOAD) as u32;
+const WINDOW: u32 = Rail::AREA as u32;
 
 pub(crate) fn head_of(e: Ends, tag: u32) -> Header
-    ensures { λ r. ⌜ r ≡ headOf e tag ⌝ }
+    ensures { λ r. ⌜ r ≡ headToPeer e tag ⌝ }
 {
     Header {
         source: e.local_port,
@@ -39,7 +40,7 @@ pub(crate) fn to_peer(e: Ends) -> Header
 }
 
 fn init(head: Head) -> Init
-    ensures { λ r. ⌜ r ≡ initOf (bare head) ⌝ }
+    ensures { λ r. ⌜ r ≡ associationInit (bare head) ⌝ }
 {
     let ends = head.ends;
     let sender = head.sender;
@@ -56,7 +57,7 @@ fn init(head: Head) -> Init
 // "INIT has tag 0".
 pub(crate) fn send_init(head: Head, out: &mut [u8]) -> usize
     requires { ⌜ 12 ≤ length (now out) ⌝ }
-    ensures { λ r. ⌜ Sent (headOf (head .ends) 0) (initBytes (bare head)) (now (out .entry)) r (now (out .exit)) ⌝ }
+    ensures { λ r. ⌜ Sent (headToPeer (head .ends) 0) (initBytes (bare head)) (now (out .entry)) r (now (out .exit)) ⌝ }
 {
     let h = head_of(head.ends, 0);
     let v = init(head);
@@ -95,7 +96,7 @@ pub(crate) fn send_shutdown_ack(e: Ends, out: &mut [u8]) -> usize
 
 pub(crate) fn send_abort(e: Ends, c: Cause, out: &mut [u8]) -> usize
     requires { ⌜ 12 ≤ length (now out) ⌝ }
-    ensures { λ r. ⌜ Sent (toPeer e) (framed 6 0 (caused (code c) (information c))) (now (out .entry)) r (now (out .exit)) ⌝ }
+    ensures { λ r. ⌜ Sent (toPeer e) (framed abortType 0 (caused (causeCode c) (information c))) (now (out .entry)) r (now (out .exit)) ⌝ }
 {
     let h = to_peer(e);
     let n = chunks::cause::write_abort(&mut out[12..], false, c);

@@ -11,10 +11,10 @@ use states::Call;
 ghost use mathlib.Core.Path.{_≡_};
 ghost use mathlib.Core.List.{List};
 ghost use Prim.Native.Nat.{ℕ};
-ghost use Rattle.calls.specs.Answer.{Done};
+ghost use Rattle.calls.specs.Answer.{CallDone};
 ghost use Rattle.calls.specs.Telling.{tellingStream, staleRefusal, tellingStale, beating};
 ghost use Rattle.flat.specs.Shown.{shown};
-ghost use Rattle.asks.specs.Answer.{answerIn};
+ghost use Rattle.asks.specs.TableAnswer.{answerIn};
 
 // A DATA chunk had a stream that is not agreed (14): ERROR with cause 1.
 pub fn error_stream(
@@ -24,7 +24,7 @@ pub fn error_stream(
     stream: StreamId,
     out: &mut [u8],
 ) -> Answered
-    ensures { λ r. ⌜ ((ns ms cs : List ℕ) → Done (tellingStream (shown head (now (held .entry)) ns (now (places .entry)) ms cs) stream (now (out .entry))) (now (out .entry)) (answerIn r (now (held .entry)) ns (now (places .entry)) ms cs) (now (out .exit))) ⌝ }
+    ensures { λ r. ⌜ ((ns ms cs : List ℕ) → CallDone (tellingStream (shown head (now (held .entry)) ns (now (places .entry)) ms cs) stream (now (out .entry))) (now (out .entry)) (answerIn r (now (held .entry)) ns (now (places .entry)) ms cs) (now (out .exit))) ⌝ }
 {
     let n = answer::bar(head, held, places, out.len() < OUTPUT, Call::Acknowledge);
     if n == 0 {
@@ -58,7 +58,7 @@ pub fn error_stale(
     late: u32,
     out: &mut [u8],
 ) -> Answered
-    ensures { λ r. ⌜ ((ns ms cs : List ℕ) → Done (tellingStale (shown head (now (held .entry)) ns (now (places .entry)) ms cs) port tag late (now (out .entry))) (now (out .entry)) (answerIn r (now (held .entry)) ns (now (places .entry)) ms cs) (now (out .exit))) ⌝ }
+    ensures { λ r. ⌜ ((ns ms cs : List ℕ) → CallDone (tellingStale (shown head (now (held .entry)) ns (now (places .entry)) ms cs) port tag late (now (out .entry))) (now (out .entry)) (answerIn r (now (held .entry)) ns (now (places .entry)) ms cs) (now (out .exit))) ⌝ }
 {
     let b = answer::bar(head, held, places, out.len() < OUTPUT, Call::TellStale);
     let ends = head.ends;
@@ -83,7 +83,7 @@ pub fn heartbeat(
     value: [u8; 8],
     out: &mut [u8],
 ) -> Answered
-    ensures { λ r. ⌜ ((ns ms cs : List ℕ) → Done (beating (shown head (now (held .entry)) ns (now (places .entry)) ms cs) value (now (out .entry))) (now (out .entry)) (answerIn r (now (held .entry)) ns (now (places .entry)) ms cs) (now (out .exit))) ⌝ }
+    ensures { λ r. ⌜ ((ns ms cs : List ℕ) → CallDone (beating (shown head (now (held .entry)) ns (now (places .entry)) ms cs) value (now (out .entry))) (now (out .entry)) (answerIn r (now (held .entry)) ns (now (places .entry)) ms cs) (now (out .exit))) ⌝ }
 {
     let n = answer::bar(head, held, places, out.len() < OUTPUT, Call::Heartbeat);
     if n == 0 {

@@ -12,14 +12,14 @@ ghost use mathlib.Core.List.{List};
 ghost use Prim.Native.Nat.{ℕ, _≤_};
 ghost use lib.ListN.{length};
 ghost use Rattle.states.specs.declared.call.Call.the-variants.{FirstTimer, SecondTimer, ThirdTimer};
-ghost use Rattle.calls.specs.Answer.{barred, Done, Kept};
-ghost use Rattle.calls.specs.Timers.{repeating, backedOff, triedTo, expiring, sampling};
-ghost use Rattle.flat.specs.Shown.{shown, bare, headOf};
-ghost use Rattle.asks.specs.Answer.{answerIn};
-ghost use Rattle.asks.specs.Timers.{Lapse, lapsed};
+ghost use Rattle.calls.specs.Answer.{barred, CallDone, QuietlyDone};
+ghost use Rattle.calls.specs.Timers.{repeating, associationBackedOff, triedTo, expiring, sampling};
+ghost use Rattle.flat.specs.Shown.{shown, bare, associationHead};
+ghost use Rattle.asks.specs.TableAnswer.{answerIn};
+ghost use Rattle.asks.specs.TableTimers.{Lapse, lapsed};
 
 fn backed_off(head: Head, state: State) -> Head
-    ensures { λ r. ⌜ r ≡ headOf (backedOff (bare head) state) ⌝ }
+    ensures { λ r. ⌜ r ≡ associationHead (associationBackedOff (bare head) state) ⌝ }
 {
     let ends = head.ends;
     let keeping = head.keeping;
@@ -37,7 +37,7 @@ fn backed_off(head: Head, state: State) -> Head
 // What the state waits for is asked again.
 fn ask_again(state: State, head: Head, kept: &[u8; 256], out: &mut [u8]) -> Answered
     requires { ⌜ 12 ≤ length (now out) ⌝ }
-    ensures { λ r. ⌜ ((held ns places ms : List ℕ) → Done (repeating state (shown head held ns places ms (now (kept .entry)))) (now (out .entry)) (answerIn r held ns places ms (now (kept .entry))) (now (out .exit))) ⌝ }
+    ensures { λ r. ⌜ ((held ns places ms : List ℕ) → CallDone (repeating state (shown head held ns places ms (now (kept .entry)))) (now (out .entry)) (answerIn r held ns places ms (now (kept .entry))) (now (out .exit))) ⌝ }
 {
     match state {
         State::CookieWait(_) => {
@@ -66,7 +66,7 @@ fn ask_again(state: State, head: Head, kept: &[u8; 256], out: &mut [u8]) -> Answ
 
 fn try_again(head: Head, next: State, kept: &[u8; 256], out: &mut [u8]) -> Answered
     requires { ⌜ 12 ≤ length (now out) ⌝ }
-    ensures { λ r. ⌜ ((held ns places ms : List ℕ) → Done (triedTo (shown head held ns places ms (now (kept .entry))) next) (now (out .entry)) (answerIn r held ns places ms (now (kept .entry))) (now (out .exit))) ⌝ }
+    ensures { λ r. ⌜ ((held ns places ms : List ℕ) → CallDone (triedTo (shown head held ns places ms (now (kept .entry))) next) (now (out .entry)) (answerIn r held ns places ms (now (kept .entry))) (now (out .exit))) ⌝ }
 {
     if next.is_closed() {
         return answer::over(head);
@@ -84,7 +84,7 @@ fn expire(
     call: Call,
     out: &mut [u8],
 ) -> Answered
-    ensures { λ r. ⌜ ((ns ms : List ℕ) → Done (expiring (shown head (now (held .entry)) ns (now (places .entry)) ms (now (kept .entry))) call (now (out .entry))) (now (out .entry)) (answerIn r (now (held .entry)) ns (now (places .entry)) ms (now (kept .entry))) (now (out .exit))) ⌝ }
+    ensures { λ r. ⌜ ((ns ms : List ℕ) → CallDone (expiring (shown head (now (held .entry)) ns (now (places .entry)) ms (now (kept .entry))) call (now (out .entry))) (now (out .entry)) (answerIn r (now (held .entry)) ns (now (places .entry)) ms (now (kept .entry))) (now (out .exit))) ⌝ }
 {
     let state = head.state;
     let n = answer::bar(head, held, places, out.len() < OUTPUT, call);
@@ -103,7 +103,7 @@ pub fn t1(
     kept: &[u8; 256],
     out: &mut [u8],
 ) -> Answered
-    ensures { λ r. ⌜ ((ns ms : List ℕ) → Done (expiring (shown head (now (held .entry)) ns (now (places .entry)) ms (now (kept .entry))) FirstTimer (now (out .entry))) (now (out .entry)) (answerIn r (now (held .entry)) ns (now (places .entry)) ms (now (kept .entry))) (now (out .exit))) ⌝ }
+    ensures { λ r. ⌜ ((ns ms : List ℕ) → CallDone (expiring (shown head (now (held .entry)) ns (now (places .entry)) ms (now (kept .entry))) FirstTimer (now (out .entry))) (now (out .entry)) (answerIn r (now (held .entry)) ns (now (places .entry)) ms (now (kept .entry))) (now (out .exit))) ⌝ }
 {
     expire(head, held, places, kept, Call::FirstTimer, out)
 }
@@ -116,7 +116,7 @@ pub fn t2(
     kept: &[u8; 256],
     out: &mut [u8],
 ) -> Answered
-    ensures { λ r. ⌜ ((ns ms : List ℕ) → Done (expiring (shown head (now (held .entry)) ns (now (places .entry)) ms (now (kept .entry))) SecondTimer (now (out .entry))) (now (out .entry)) (answerIn r (now (held .entry)) ns (now (places .entry)) ms (now (kept .entry))) (now (out .exit))) ⌝ }
+    ensures { λ r. ⌜ ((ns ms : List ℕ) → CallDone (expiring (shown head (now (held .entry)) ns (now (places .entry)) ms (now (kept .entry))) SecondTimer (now (out .entry))) (now (out .entry)) (answerIn r (now (held .entry)) ns (now (places .entry)) ms (now (kept .entry))) (now (out .exit))) ⌝ }
 {
     expire(head, held, places, kept, Call::SecondTimer, out)
 }
@@ -143,7 +143,7 @@ pub fn t3(head: Head, held: &[u32; 512], places: &mut [u32; 1024]) -> Answered
 
 // A round trip of so many milliseconds was measured. Which ones count is the host's to say (RFC 9260 section 6.3.1 C5).
 pub fn rtt(head: Head, held: &[u32; 512], places: &[u32; 1024], sample: u32) -> Answered
-    ensures { λ r. ⌜ ((ns ms cs : List ℕ) → Kept (sampling (shown head (now (held .entry)) ns (now (places .entry)) ms cs) sample) (answerIn r (now (held .entry)) ns (now (places .entry)) ms cs)) ⌝ }
+    ensures { λ r. ⌜ ((ns ms cs : List ℕ) → QuietlyDone (sampling (shown head (now (held .entry)) ns (now (places .entry)) ms cs) sample) (answerIn r (now (held .entry)) ns (now (places .entry)) ms cs)) ⌝ }
 {
     let n = answer::bar(head, held, places, false, Call::Sample);
     if n == 0 {

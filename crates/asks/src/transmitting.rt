@@ -19,13 +19,13 @@ ghost use lib.Dec.{ltb};
 ghost use lib.ListN.{length};
 ghost use Rattle.scans.specs.Scan.{either};
 ghost use Rattle.numbers.specs.Profile.{rail};
-ghost use Rattle.sending.specs.ChooseParts.{loadedBy};
+ghost use Rattle.sending.specs.ChoosePartsLaws.{loadedBy};
 ghost use Rattle.sender.specs.declared.Sender.{Sender};
-ghost use Rattle.sender.specs.Seen.{seen};
-ghost use Rattle.calls.specs.Transmit.{dataOf, Bundle, bundled, bundleLength, bundleOut, transmitBar};
-ghost use Rattle.calls.specs.TransmitLaws.{Added};
+ghost use Rattle.sender.specs.Seen.{sendingShown};
+ghost use Rattle.calls.specs.Transmit.{dataSent, Bundle, bundled, bundleLength, bundleOut, transmitBar};
+ghost use Rattle.calls.specs.TransmitLaws.{ChunkAdded};
 ghost use Rattle.flat.specs.Shown.{shown};
-ghost use Rattle.asks.specs.Transmit.{Dispatch, dispatched};
+ghost use Rattle.asks.specs.TableTransmit.{Dispatch, dispatched};
 
 // The number, 0 if none; the bytes of the packet, 0 if nothing goes; whether one of its chunks is sent again, and its first and last TSN, by which
 // the host knows whether to measure a round trip (RFC 9260 section 6.3.1 C5); the head.
@@ -48,7 +48,7 @@ fn is_short(area: usize, out: usize) -> bool
 }
 
 fn data_of(c: Chunk) -> Data
-    ensures { λ r. ⌜ r ≡ dataOf c ⌝ }
+    ensures { λ r. ⌜ r ≡ dataSent c ⌝ }
 {
     let tsn = c.tsn;
     let stream = c.stream;
@@ -67,7 +67,7 @@ fn data_of(c: Chunk) -> Data
 // The chunk of place i behind those that end at `at`.
 fn add(p: Place, i: u16, area: &[u8], at: usize, out: &mut [u8]) -> usize
     requires { ⌜ (at ≤ length (now out)) × (at ≤ 2000000) ⌝ }
-    ensures { λ r. ⌜ Added (now (area .entry)) p i at (now (out .entry)) r (now (out .exit)) ⌝ }
+    ensures { λ r. ⌜ ChunkAdded (now (area .entry)) p i at (now (out .entry)) r (now (out .exit)) ⌝ }
 {
     let c = p.chunk;
     let d = data_of(c);
@@ -79,7 +79,7 @@ fn add(p: Place, i: u16, area: &[u8], at: usize, out: &mut [u8]) -> usize
 // The chunks of the places chosen, one behind the other; the answer is where they end.
 fn bundle(load: Load, places: &[u32; 1024], area: &[u8], out: &mut [u8]) -> usize
     requires { ⌜ 12 ≤ length (now out) ⌝ }
-    ensures { λ r. ⌜ ((s : Sender) (ms : List ℕ) → _≡_ {A = Bundle} (record { at = r; out = now (out .exit) }) (bundled (now (area .entry)) (loadedBy (seen rail s (now (places .entry)) ms) load) (now (out .entry)))) ⌝ }
+    ensures { λ r. ⌜ ((s : Sender) (ms : List ℕ) → _≡_ {A = Bundle} (record { at = r; out = now (out .exit) }) (bundled (now (area .entry)) (loadedBy (sendingShown rail s (now (places .entry)) ms) load) (now (out .entry)))) ⌝ }
 {
     let chosen = load.places;
     let count = load.count;

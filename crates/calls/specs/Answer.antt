@@ -45,12 +45,12 @@ abbrev pub quietly : Association → Plan
 quietly a = refusing a 0
 
 -- done, with a packet of one chunk to send
-abbrev pub carrying : Association → Header → List ℕ → Plan
-carrying a h bs = record { number = 0; association = a; over = false; sends = true; header = h; chunk = bs }
+abbrev pub carryingChunk : Association → Header → List ℕ → Plan
+carryingChunk a h bs = record { number = 0; association = a; over = false; sends = true; header = h; chunk = bs }
 
 -- "the next expiry closes and reports": nothing but the state changes
-abbrev pub ending : Association → Plan
-ending a = record { number = 0; association = withState a Closed; over = true; sends = false; header = toPeer (a .ends); chunk = [] }
+abbrev pub closingPlan : Association → Plan
+closingPlan a = record { number = 0; association = withState a Closed; over = true; sends = false; header = toPeer (a .ends); chunk = [] }
 
 -- a call that no number refuses goes as planned
 abbrev pub unless : ℕ → Association → Plan → Plan
@@ -65,14 +65,14 @@ answerOf p out = record {
   association = p .association;
 }
 
-unfoldable pub outOf : Plan → List ℕ → List ℕ
-outOf p out = pick (p .sends) (sentOne (p .header) (p .chunk) out) out
+unfoldable pub planOut : Plan → List ℕ → List ℕ
+planOut p out = pick (p .sends) (sentOne (p .header) (p .chunk) out) out
 
 -- the promise of a call
-pub record Done (p : Plan) (out : List ℕ) (r : Answer) (exit : List ℕ) : Type 0 where
+pub record CallDone (p : Plan) (out : List ℕ) (r : Answer) (exit : List ℕ) : Type 0 where
   pub answer : r ≡ answerOf p out
-  pub bytes : exit ≡ outOf p out
+  pub bytes : exit ≡ planOut p out
 
 -- the promise of a call with no output
-pub record Kept (p : Plan) (r : Answer) : Type 0 where
+pub record QuietlyDone (p : Plan) (r : Answer) : Type 0 where
   pub answer : r ≡ answerOf p []

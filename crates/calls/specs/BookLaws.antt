@@ -12,7 +12,7 @@ use Rattle.holding.specs.declared.taking.Answer as took
 use Rattle.holding.specs.declared.taking.Answer.the-variants.{Taken, Nothing, Short}
 use Rattle.path.specs.Sizes.{sizesOf}
 use Rattle.sending.specs.Sending.{isBare}
-use Rattle.sending.specs.Expiry.{expired}
+use Rattle.sending.specs.Expiry.{sendingExpired}
 use Rattle.sending.specs.BookLaws.{fresh-mode, expired-mode, sampled-mode, doubled-mode, handed-mode, filled-mode}
 use Rattle.states.specs.declared.state.State.{State}
 use Rattle.states.specs.declared.call.Call.{Call}
@@ -31,10 +31,10 @@ use Rattle.calls.specs.declared.messages.Delivered.{Delivered}
 use Rattle.calls.specs.declared.transmitting.Transmitted.{Transmitted}
 use Rattle.calls.specs.Answer.{isShortArea, isShortOut, barred, Plan, refusing, unless, answerOf}
 use Rattle.calls.specs.Opening.{wanting, associateRefusal, associating}
-use Rattle.calls.specs.Messages.{handedIn, deliveredAs, taking, takeBar, delivered, deliveredOut}
+use Rattle.calls.specs.Messages.{handInCall, deliveredAs, taking, takeBar, delivered, deliveredOut}
 use Rattle.calls.specs.Transmit.{transmitBar, transmitted}
-use Rattle.calls.specs.Acknowledging.{acknowledged, acknowledgedOut}
-use Rattle.calls.specs.Timers.{backedOff, triedTo, expiring, expiringThird, sampling}
+use Rattle.calls.specs.Acknowledging.{acknowledgedCall, acknowledgedOut}
+use Rattle.calls.specs.Timers.{associationBackedOff, triedTo, expiring, expiringThird, sampling}
 use Rattle.calls.specs.Closing.{shutting, aborting}
 use Rattle.calls.specs.Telling.{tellingStream, staleRefusal, tellingStale, beating}
 
@@ -55,7 +55,7 @@ module _ (a : Association) where
       unless-booked (earlier (barred a (isShortOut out) Associate) (associateRefusal (a .ends .«local_port») tag port streams)) _ (fresh-mode _ _ _ _ _)
 
   tried-booked : (s : State) → Booked (triedTo a s)
-  unfolding triedTo backedOff
+  unfolding triedTo associationBackedOff
   tried-booked =
       let d = doubled-mode _ (a .sending) in
       each-state (λ s. Booked (triedTo a s)) refl (λ n. d) (λ n. d) d d (λ n. d) d (λ n. d)
@@ -68,7 +68,7 @@ module _ (a : Association) where
   unfolding expiringThird
   third-booked =
       unless-booked (barred a false ThirdTimer) _
-      (pick-keeps Booked (eqb (expired (sizesOf (a .sending .mode)) (a .sending) .number) 0) _ _ (pick-keeps Booked (expired (sizesOf (a .sending .mode)) (a .sending) .over) _ _ refl (expired-mode _ (a .sending))) refl)
+      (pick-keeps Booked (eqb (sendingExpired (sizesOf (a .sending .mode)) (a .sending) .number) 0) _ _ (pick-keeps Booked (sendingExpired (sizesOf (a .sending .mode)) (a .sending) .over) _ _ refl (expired-mode _ (a .sending))) refl)
 
   pub sample-booked : (sample : ℕ) → Booked (sampling a sample)
   unfolding sampling
@@ -94,8 +94,8 @@ module _ (a : Association) where
   unfolding beating
   heartbeat-booked value out = unless-booked (barred a (isShortOut out) Heartbeat) _ refl
 
-  pub hand-in-booked : (area : List ℕ) (len : ℕ) (stream : StreamId) (unordered : Bool) (ppid : ℕ) → handedIn a area len stream unordered ppid .association .sending .mode ≡ a .sending .mode
-  unfolding handedIn
+  pub hand-in-booked : (area : List ℕ) (len : ℕ) (stream : StreamId) (unordered : Bool) (ppid : ℕ) → handInCall a area len stream unordered ppid .association .sending .mode ≡ a .sending .mode
+  unfolding handInCall
   hand-in-booked area len stream unordered ppid =
       pick-keeps (λ (x : HandedIn). x .association .sending .mode ≡ a .sending .mode) (eqb (barred a (isShortArea area) HandIn) 0) _ _
       (handed-mode _ (a .sending) len stream unordered ppid (a .ends .«streams_out»)) refl
@@ -115,8 +115,8 @@ module _ (a : Association) where
   take-booked area room =
       pick-keeps (λ (x : Delivered). x .association .sending .mode ≡ a .sending .mode) (eqb (takeBar a area) 0) _ _ (delivered-booked (taking a room .answer) _) refl
 
-  pub sack-booked : (out : List ℕ) → acknowledged a out .association .sending .mode ≡ a .sending .mode
-  unfolding acknowledged
+  pub sack-booked : (out : List ℕ) → acknowledgedCall a out .association .sending .mode ≡ a .sending .mode
+  unfolding acknowledgedCall
   sack-booked out =
       pick-keeps (λ (x : Acknowledged). x .association .sending .mode ≡ a .sending .mode) (eqb (barred a (isShortOut out) Acknowledge) 0) _ _ refl refl
 

@@ -18,9 +18,9 @@ use Rattle.association.specs.Fresh.{withState, withReceiving}
 use Rattle.association.specs.Bounds.{isSound}
 use Rattle.association.specs.BoundsLaws.{sound-closed}
 use Rattle.calls.specs.declared.answer.Answer.{Answer}
-use Rattle.calls.specs.Answer.{isShortArea, barred, Plan, Done, Kept}
+use Rattle.calls.specs.Answer.{isShortArea, barred, Plan, CallDone, QuietlyDone}
 use Rattle.calls.specs.Messages.{undelivered, deliveredAs, taking, delivered, deliveredOut}
-use Rattle.calls.specs.Timers.{backedOff, triedTo}
+use Rattle.calls.specs.Timers.{associationBackedOff, triedTo}
 
 -- 1 comes before all else
 pub unsound-first : (a : Association) (short : Bool) (call : Call) → isSound a ≡ false → barred a short call ≡ 1
@@ -38,16 +38,16 @@ unfolding delivered deliveredOut
 take-unsound a area out given = (rw given, rw given)
 
 -- two outcomes that a call's promise allows are one
-pub done-one : {p : Plan} {out : List ℕ} {r s : Answer} {x y : List ℕ} → Done p out r x → Done p out s y → (r ≡ s) × (x ≡ y)
+pub done-one : {p : Plan} {out : List ℕ} {r s : Answer} {x y : List ℕ} → CallDone p out r x → CallDone p out s y → (r ≡ s) × (x ≡ y)
 done-one d e = (d .answer ∙ sym (e .answer), d .bytes ∙ sym (e .bytes))
 
-pub kept-one : {p : Plan} {r s : Answer} → Kept p r → Kept p s → r ≡ s
+pub kept-one : {p : Plan} {r s : Answer} → QuietlyDone p r → QuietlyDone p s → r ≡ s
 kept-one d e = d .answer ∙ sym (e .answer)
 
 -- ---- tries
 
 pub tried-within : (a : Association) (s : State) → withinTries s ≡ true → withinTries (triedTo a s .association .state) ≡ true
-unfolding triedTo backedOff
+unfolding triedTo associationBackedOff
 tried-within a Closed h = refl
 tried-within a (CookieWait n) h = h
 tried-within a (CookieEchoed n) h = h

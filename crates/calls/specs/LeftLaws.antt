@@ -15,13 +15,13 @@ use Rattle.numbers.specs.Profile.{rail}
 use Rattle.path.specs.Sizes.{sizesOf}
 use Rattle.holding.specs.declared.taking.Answer as took
 use Rattle.holding.specs.declared.taking.Answer.the-variants.{Taken, Nothing, Short}
-use Rattle.holding.specs.Taking as taken
+use Rattle.holding.specs.Taking.{takeNumber}
 use Rattle.delivery.specs.declared.receiving.Receiving.{Receiving}
-use Rattle.delivery.specs.Laws.{taken-refused}
+use Rattle.delivery.specs.ReceivingLaws.{taken-refused}
 use Rattle.sending.specs.declared.sending.Sending.{Sending}
 use Rattle.sending.specs.Sending.{isBare}
-use Rattle.sending.specs.Expiry.{expired}
-use Rattle.sending.specs.Laws.{handed-number, refused-message, refused-area}
+use Rattle.sending.specs.Expiry.{sendingExpired}
+use Rattle.sending.specs.SendingLaws.{handed-number, refused-message, refused-area}
 use Rattle.states.specs.declared.state.State.{State}
 use Rattle.states.specs.declared.call.Call.{Call}
 use Rattle.states.specs.declared.call.Call.the-variants.{Associate, HandIn, Acknowledge, ThirdTimer, Shutdown, Abort, Heartbeat, Sample, TellStale}
@@ -36,11 +36,11 @@ use Rattle.calls.specs.declared.closing.Reason.{Reason}
 use Rattle.calls.specs.declared.messages.HandedIn.{HandedIn}
 use Rattle.calls.specs.declared.messages.Delivered.{Delivered}
 use Rattle.calls.specs.declared.transmitting.Transmitted.{Transmitted}
-use Rattle.calls.specs.Answer.{isShortArea, isShortOut, barred, Plan, refusing, unless, answerOf, outOf}
+use Rattle.calls.specs.Answer.{isShortArea, isShortOut, barred, Plan, refusing, unless, answerOf, planOut}
 use Rattle.calls.specs.Opening.{associateRefusal, associating}
-use Rattle.calls.specs.Messages.{handedIn, handedArea, deliveredAs, taking, takeBar, delivered, deliveredOut}
+use Rattle.calls.specs.Messages.{handInCall, handInCallArea, deliveredAs, taking, takeBar, delivered, deliveredOut}
 use Rattle.calls.specs.Transmit.{transmitBar, transmitted, transmittedOut}
-use Rattle.calls.specs.Acknowledging.{acknowledged, acknowledgedOut}
+use Rattle.calls.specs.Acknowledging.{acknowledgedCall, acknowledgedOut}
 use Rattle.calls.specs.Timers.{triedTo, expiring, expiringThird, sampling}
 use Rattle.calls.specs.Closing.{shutting, aborting}
 use Rattle.calls.specs.Telling.{tellingStream, staleRefusal, tellingStale, beating}
@@ -48,23 +48,23 @@ use Rattle.calls.specs.Telling.{tellingStream, staleRefusal, tellingStal
 -- ---- calls that answer by a plan
 
 -- a plan with a number is a refusal and nothing else
-abbrev pub Leaves : Association → Plan → Type 0
-Leaves a p = (p .number ≡ 0 → ⊥) → p ≡ refusing a (p .number)
+abbrev pub PlanLeaves : Association → Plan → Type 0
+PlanLeaves a p = (p .number ≡ 0 → ⊥) → p ≡ refusing a (p .number)
 
 module _ (a : Association) where
   -- so it gives the record as it came, writes no byte and says nothing but its number
-  pub left-all : (p : Plan) (out : List ℕ) → Leaves a p → (answerOf p out .number ≡ 0 → ⊥)
-      → (answerOf p out ≡ record { number = p .number; length = 0; over = false; association = a }) × (outOf p out ≡ out)
-  unfolding answerOf outOf
-  left-all p out l n = (ap (λ (q : Plan). answerOf q out) (l n), ap (λ (q : Plan). outOf q out) (l n))
+  pub plan-left-all : (p : Plan) (out : List ℕ) → PlanLeaves a p → (answerOf p out .number ≡ 0 → ⊥)
+      → (answerOf p out ≡ record { number = p .number; length = 0; over = false; association = a }) × (planOut p out ≡ out)
+  unfolding answerOf planOut
+  plan-left-all p out l n = (ap (λ (q : Plan). answerOf q out) (l n), ap (λ (q : Plan). planOut q out) (l n))
 
-  goes-on : (p : Plan) → p .number ≡ 0 → Leaves a p
+  goes-on : (p : Plan) → p .number ≡ 0 → PlanLeaves a p
   goes-on p e n = absurd (n e)
 
-  unless-leaves : (n : ℕ) (p : Plan) → Leaves a p → Leaves a (unless n a p)
-  unless-leaves n p l = pick-keeps (Leaves a) (eqb n 0) p (refusing a n) l (λ h. refl)
+  unless-leaves : (n : ℕ) (p : Plan) → PlanLeaves a p → PlanLeaves a (unless n a p)
+  unless-leaves n p l = pick-keeps (PlanLeaves a) (eqb n 0) p (refusing a n) l (λ h. refl)
 
-  pub associate-leaves : (tag : ℕ) (tsn : Tsn) (port streams : ℕ) (out : List ℕ) → Leaves a (associating a tag tsn port streams out)
+  pub associate-leaves : (tag : ℕ) (tsn : Tsn) (port streams : ℕ) (out : List ℕ) → PlanLeaves a (associating a tag tsn port streams out)
   unfolding associating
   associate-leaves tag tsn port streams out = unless-leaves (earlier (barred a (isShortOut out) Associate) (associateRefusal (a .ends .«local_port») tag port streams)) _ (goes-on _ refl)
 
@@ -72,37 +72,37 @@ module _ (a : Association) where
   unfolding triedTo
   tried-goes = each-state (λ s. triedTo a s .number ≡ 0) refl (λ n. refl) (λ n. refl) refl refl (λ n. refl) refl (λ n. refl)
 
-  pub expiry-leaves : (call : Call) (out : List ℕ) → Leaves a (expiring a call out)
+  pub expiry-leaves : (call : Call) (out : List ℕ) → PlanLeaves a (expiring a call out)
   unfolding expiring
   expiry-leaves call out = unless-leaves (barred a (isShortOut out) call) _ (goes-on _ (tried-goes (triedAgain (a .state))))
 
-  pub third-leaves : Leaves a (expiringThird a)
+  pub third-leaves : PlanLeaves a (expiringThird a)
   unfolding expiringThird
   third-leaves =
       unless-leaves (barred a false ThirdTimer) _
-      (pick-keeps (Leaves a) (eqb (expired (sizesOf (a .sending .mode)) (a .sending) .number) 0) _ _ (pick-keeps (Leaves a) (expired (sizesOf (a .sending .mode)) (a .sending) .over) _ _ (goes-on _ refl) (goes-on _ refl)) (λ h. refl))
+      (pick-keeps (PlanLeaves a) (eqb (sendingExpired (sizesOf (a .sending .mode)) (a .sending) .number) 0) _ _ (pick-keeps (PlanLeaves a) (sendingExpired (sizesOf (a .sending .mode)) (a .sending) .over) _ _ (goes-on _ refl) (goes-on _ refl)) (λ h. refl))
 
-  pub sample-leaves : (sample : ℕ) → Leaves a (sampling a sample)
+  pub sample-leaves : (sample : ℕ) → PlanLeaves a (sampling a sample)
   unfolding sampling
   sample-leaves sample = unless-leaves (barred a false Sample) _ (goes-on _ refl)
 
-  pub shutdown-leaves : (out : List ℕ) → Leaves a (shutting a out)
+  pub shutdown-leaves : (out : List ℕ) → PlanLeaves a (shutting a out)
   unfolding shutting
-  shutdown-leaves out = unless-leaves (barred a (isShortOut out) Shutdown) _ (pick-keeps (Leaves a) (isBare (a .sending)) _ _ (goes-on _ refl) (goes-on _ refl))
+  shutdown-leaves out = unless-leaves (barred a (isShortOut out) Shutdown) _ (pick-keeps (PlanLeaves a) (isBare (a .sending)) _ _ (goes-on _ refl) (goes-on _ refl))
 
-  pub abort-leaves : (why : Reason) (out : List ℕ) → Leaves a (aborting a why out)
+  pub abort-leaves : (why : Reason) (out : List ℕ) → PlanLeaves a (aborting a why out)
   unfolding aborting
-  abort-leaves why out = unless-leaves (barred a (isShortOut out) Abort) _ (pick-keeps (Leaves a) (knowsPeer (a .state)) _ _ (goes-on _ refl) (goes-on _ refl))
+  abort-leaves why out = unless-leaves (barred a (isShortOut out) Abort) _ (pick-keeps (PlanLeaves a) (knowsPeer (a .state)) _ _ (goes-on _ refl) (goes-on _ refl))
 
-  pub stream-leaves : (stream : StreamId) (out : List ℕ) → Leaves a (tellingStream a stream out)
+  pub stream-leaves : (stream : StreamId) (out : List ℕ) → PlanLeaves a (tellingStream a stream out)
   unfolding tellingStream
   stream-leaves stream out = unless-leaves (barred a (isShortOut out) Acknowledge) _ (goes-on _ refl)
 
-  pub stale-leaves : (port tag late : ℕ) (out : List ℕ) → Leaves a (tellingStale a port tag late out)
+  pub stale-leaves : (port tag late : ℕ) (out : List ℕ) → PlanLeaves a (tellingStale a port tag late out)
   unfolding tellingStale
   stale-leaves port tag late out = unless-leaves (earlier (barred a (isShortOut out) TellStale) (staleRefusal (a .ends .«local_port») port tag)) _ (goes-on _ refl)
 
-  pub heartbeat-leaves : (value out : List ℕ) → Leaves a (beating a value out)
+  pub heartbeat-leaves : (value out : List ℕ) → PlanLeaves a (beating a value out)
   unfolding beating
   heartbeat-leaves value out = unless-leaves (barred a (isShortOut out) Heartbeat) _ (goes-on _ refl)
 
@@ -114,9 +114,9 @@ module _ (a : Association) where
   either-left number left false x y after before f e h = (e, refl)
 
   -- 19 and 20 as well as 1, 18, 7
-  pub hand-in-left : (area message : List ℕ) (stream : StreamId) (unordered : Bool) (ppid : ℕ) → 0 < handedIn a area (length message) stream unordered ppid .number
-      → (handedIn a area (length message) stream unordered ppid .association ≡ a) × (handedArea a area message stream ≡ area)
-  unfolding handedIn handedArea
+  pub hand-in-left : (area message : List ℕ) (stream : StreamId) (unordered : Bool) (ppid : ℕ) → 0 < handInCall a area (length message) stream unordered ppid .number
+      → (handInCall a area (length message) stream unordered ppid .association ≡ a) × (handInCallArea a area message stream ≡ area)
+  unfolding handInCall handInCallArea
   hand-in-left area message stream unordered ppid =
       let streams : ℕ = a .ends .«streams_out» in
       either-left (λ (x : HandedIn). x .number) (λ x. x .association) (eqb (barred a (isShortArea area) HandIn) 0) _ _ _ area
@@ -126,7 +126,7 @@ module _ (a : Association) where
       ))
       refl
 
-  given : (x : took.Answer) (b : Association) → (deliveredAs x b .association ≡ b) × (deliveredAs x b .number ≡ taken.numberOf x)
+  given : (x : took.Answer) (b : Association) → (deliveredAs x b .association ≡ b) × (deliveredAs x b .number ≡ takeNumber x)
   given (Taken m) b = (refl, refl)
   given Nothing b = (refl, refl)
   given (Short n) b = (refl, refl)
@@ -140,8 +140,8 @@ module _ (a : Association) where
       (λ h. let l = taken-refused circles rail (a .receiving) area out (omega (arith, h, g .1)) in (g .0 ∙ ap (λ (r : Receiving). withReceiving a r) (l .0), l .1))
       refl
 
-  pub sack-left : (out : List ℕ) → 0 < acknowledged a out .number → (acknowledged a out .association ≡ a) × (acknowledgedOut a out ≡ out)
-  unfolding acknowledged acknowledgedOut
+  pub sack-left : (out : List ℕ) → 0 < acknowledgedCall a out .number → (acknowledgedCall a out .association ≡ a) × (acknowledgedOut a out ≡ out)
+  unfolding acknowledgedCall acknowledgedOut
   sack-left out =
       either-left (λ (x : Acknowledged). x .number) (λ x. x .association) (eqb (barred a (isShortOut out) Acknowledge) 0) _ _ _ out (λ h. absurd (omega arith)) refl
 

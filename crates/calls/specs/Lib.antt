@@ -1,4 +1,5 @@
 -- The calls of the host, but the arrival of a packet.
+-- To read: Packet, Answer, Opening, Timers, Closing, Telling, Messages, Acknowledging, Peek, Transmit, Outcomes. The rest are laws.
 pub mod Packet
 pub mod PacketLaws
 pub mod Answer
@@ -18,7 +19,7 @@ pub mod SoundLaws
 pub mod LeftLaws
 pub mod PortLaws
 pub mod BookLaws
-pub mod SizeLaws
+pub mod CallSizeLaws
 pub mod Outcomes
 pub mod OutcomesLaws
 pub mod StreamLaws

@@ -14,9 +14,9 @@ use Rattle.holding.specs.declared.taking.Answer as took
 use Rattle.holding.specs.declared.taking.Answer.the-variants.{Taken, Nothing, Short}
 use Rattle.holding.specs.Taking.{written}
 use Rattle.delivery.specs.declared.receiving.Taken as receiver
-use Rattle.delivery.specs.Receiving.{taken}
+use Rattle.delivery.specs.Receiving.{takenInto}
 use Rattle.sending.specs.declared.cutting.Handed.{Handed}
-use Rattle.sending.specs.HandIn as sender
+use Rattle.sending.specs.HandIn.{handedIn, handedInArea}
 use Rattle.states.specs.declared.call.Call.the-variants.{HandIn}
 use Rattle.association.specs.declared.ends.Association.{Association}
 use Rattle.association.specs.Fresh.{withReceiving, withSending}
@@ -28,25 +28,25 @@ use Rattle.calls.specs.Answer.{isShortArea, barred}
 -- ---- handing in
 
 -- 19 and 20 are the sending side's
-abbrev pub handing : Association → ℕ → StreamId → Bool → ℕ → Handed
-handing a len stream unordered ppid = sender.handedIn rail (a .sending) len stream unordered ppid (a .ends .«streams_out»)
+abbrev pub sendersHanding : Association → ℕ → StreamId → Bool → ℕ → Handed
+sendersHanding a len stream unordered ppid = handedIn rail (a .sending) len stream unordered ppid (a .ends .«streams_out»)
 
 -- a message that the sending side answers so
 abbrev pub handedAs : Association → Handed → HandedIn
 handedAs a h = record { number = h .number; chunks = h .chunks; association = withSending a (h .sending) }
 
 -- what the call answers: 1, 18, 7, 19, 20
-unfoldable pub handedIn : Association → List ℕ → ℕ → StreamId → Bool → ℕ → HandedIn
-handedIn a area len stream unordered ppid =
+unfoldable pub handInCall : Association → List ℕ → ℕ → StreamId → Bool → ℕ → HandedIn
+handInCall a area len stream unordered ppid =
     pick (eqb (barred a (isShortArea area) HandIn) 0)
-    (handedAs a (handing a len stream unordered ppid))
+    (handedAs a (sendersHanding a len stream unordered ppid))
     (record { number = barred a (isShortArea area) HandIn; chunks = 0; association = a })
 
 -- what then stands in the lent area
-unfoldable pub handedArea : Association → List ℕ → List ℕ → StreamId → List ℕ
-handedArea a area message stream =
+unfoldable pub handInCallArea : Association → List ℕ → List ℕ → StreamId → List ℕ
+handInCallArea a area message stream =
     pick (eqb (barred a (isShortArea area) HandIn) 0)
-    (sender.areaAfter rail (a .sending) area message stream (a .ends .«streams_out»))
+    (handedInArea rail (a .sending) area message stream (a .ends .«streams_out»))
     area
 
 -- ---- taking
@@ -67,7 +67,7 @@ deliveredAs (Short n) a = undelivered a 18 n
 
 -- a take from the receiving side into `room` bytes
 abbrev pub taking : Association → ℕ → receiver.Taken
-taking a room = taken circles rail (a .receiving) room
+taking a room = takenInto circles rail (a .receiving) room
 
 -- 1, 18 for the area
 abbrev pub takeBar : Association → List ℕ → ℕ

@@ -5,7 +5,9 @@ use lib.Dec.{eqb}
 use Rattle.scans.specs.Scan.{pick}
 use Rattle.scans.specs.Upto.{smaller}
 use Rattle.numbers.specs.declared.circle.Tsn.{Tsn}
+use Rattle.numbers.specs.Profile.{areaBytes, rail}
 use Rattle.chunks.specs.declared.init.Init.{Init}
+use Rattle.chunks.specs.Types.{initType}
 use Rattle.chunks.specs.InitChunk.{initFields, ownInit}
 use Rattle.chunks.specs.Frame.{framed, inRow}
 use Rattle.states.specs.declared.state.State.the-variants.{CookieWait}
@@ -13,22 +15,22 @@ use Rattle.states.specs.declared.call.Call.the-variants.{Associate}
 use Rattle.association.specs.declared.ends.Association.{Association}
 use Rattle.association.specs.Fresh.{started}
 use Rattle.association.specs.Bounds.{lacksPort, earlier}
-use Rattle.calls.specs.Packet.{headOf}
-use Rattle.calls.specs.Answer.{isShortOut, barred, Plan, carrying, unless}
+use Rattle.calls.specs.Packet.{headToPeer}
+use Rattle.calls.specs.Answer.{isShortOut, barred, Plan, carryingChunk, unless}
 
 -- the INIT of a record: every place free, the streams wanted, the next TSN
-abbrev pub initOf : Association → Init
-initOf a = record {
+abbrev pub associationInit : Association → Init
+associationInit a = record {
   tag = a .ends .«my_tag»;
-  window = 65536;
+  window = areaBytes rail;
   outs = a .ends .«streams_out»;
-  ins = 128;
+  ins = rail .streams;
   tsn = a .sending .«next_tsn»;
 }
 
 -- the same as bytes, with our own parameters
 abbrev pub initBytes : Association → List ℕ
-initBytes a = framed 1 0 (initFields (initOf a) ++ inRow ownInit)
+initBytes a = framed initType 0 (initFields (associationInit a) ++ inRow ownInit)
 
 -- "our own INIT, starts from a fresh record", in the mode that the record was made in: the peer's tag and initial TSN are not known yet; "128
 -- streams each way at most"
@@ -40,8 +42,8 @@ wanting a tag tsn port streams =
       «peer_port» = port;
       «my_tag» = tag;
       «peer_tag» = 0;
-      «streams_in» = 128;
-      «streams_out» = smaller streams 128;
+      «streams_in» = rail .streams;
+      «streams_out» = smaller streams (rail .streams);
       options = 0;
     })
     tsn
@@ -57,4 +59,4 @@ associateRefusal local tag port streams = pick (lacksPort local port) 4 (pick (e
 unfoldable pub associating : Association → ℕ → Tsn → ℕ → ℕ → List ℕ → Plan
 associating a tag tsn port streams out =
     unless (earlier (barred a (isShortOut out) Associate) (associateRefusal (a .ends .«local_port») tag port streams)) a
-    (carrying (wanting a tag tsn port streams) (headOf (wanting a tag tsn port streams .ends) 0) (initBytes (wanting a tag tsn port streams)))
+    (carryingChunk (wanting a tag tsn port streams) (headToPeer (wanting a tag tsn port streams .ends) 0) (initBytes (wanting a tag tsn port streams)))

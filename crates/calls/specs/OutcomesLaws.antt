@@ -22,12 +22,12 @@ use Rattle.octets.specs.Bytes.{laid}
 use Rattle.octets.specs.BytesLaws.{laid-nil, laid-more, length-laid}
 use Rattle.octets.specs.Walk.{joined}
 use Rattle.octets.specs.Writing.{Wrote, wroteCount, wroteAt}
-use Rattle.octets.specs.WritingLaws.{first, wrote-all, WroteAt, stayed, written, wrote-at}
+use Rattle.octets.specs.WritingLaws.{holds-first, wrote-all, WroteAt, stayed, written, wrote-at}
 use Rattle.packets.specs.declared.header.Header.{Header}
 use Rattle.packets.specs.Header.{sealCount, sealBytes}
 use Rattle.chunks.specs.declared.sack.Sack.{Sack}
 use Rattle.chunks.specs.CookieChunk.{longestCookie, isCookie}
-use Rattle.chunks.specs.DataChunk.{dataBytes, dataFields, flagsOf}
+use Rattle.chunks.specs.DataChunk.{dataBytes, dataFields, dataFlags}
 use Rattle.chunks.specs.DataLaws.{data-is, data-over, data-none}
 use Rattle.chunks.specs.Frame.{framed}
 use Rattle.chunks.specs.FrameLaws.{one-to-is, Carried}
@@ -36,13 +36,13 @@ use Rattle.chunks.specs.SackChunk.{sackBytes}
 use Rattle.path.specs.Sizes.{railSizes}
 use Rattle.places.specs.declared.place.Place.{Place}
 use Rattle.holding.specs.Taking.{payloadAt}
-use Rattle.delivery.specs.Acknowledging as receiving
-use Rattle.delivery.specs.BoundsLaws as receiver
-use Rattle.delivery.specs.TableLaws.{sack-is, acknowledged-is}
+use Rattle.delivery.specs.ReceivingSack.{acknowledgedReceiving}
+use Rattle.delivery.specs.ReceivingBoundsLaws.{receiving-test-sound}
+use Rattle.delivery.specs.ReceivingTableLaws.{receiving-sack-is, acknowledged-receiving-is}
 use Rattle.sending.specs.declared.choosing.Chosen.{Chosen}
 use Rattle.sending.specs.Sending.{noPlace, isBare}
-use Rattle.sending.specs.Choose.{sizeOf, filled}
-use Rattle.sending.specs.SizeLaws.{sizeAt, sizesFrom, filled-fits}
+use Rattle.sending.specs.Choose.{sizeOf, packetFilled}
+use Rattle.sending.specs.SendingSizeLaws.{sizeAt, sizesFrom, filled-fits}
 use Rattle.states.specs.declared.state.State.{State}
 use Rattle.states.specs.declared.state.State.the-variants.{Closed, CookieWait, CookieEchoed, Established, ShutdownPending, ShutdownSent, ShutdownReceived, ShutdownAckSent}
 use Rattle.states.specs.declared.call.Call.{Call}
@@ -58,19 +58,19 @@ use Rattle.calls.specs.declared.closing.Reason.{Reason}
 use Rattle.calls.specs.declared.acknowledging.Acknowledged.{Acknowledged}
 use Rattle.calls.specs.declared.transmitting.Transmitted.{Transmitted}
 use Rattle.calls.specs.Packet.{toPeer, sentLength, sentOne}
-use Rattle.calls.specs.Answer.{isShortArea, isShortOut, barred, Plan, refusing, carrying, ending, unless, answerOf, outOf}
-use Rattle.calls.specs.AnswerLaws.{let-in}
-use Rattle.calls.specs.Opening.{initOf, wanting, associateRefusal, associating}
-use Rattle.calls.specs.Acknowledging.{chunkOf, noSack, acknowledgedAs, acknowledged, acknowledgedOut}
-use Rattle.calls.specs.Timers.{cookieOf, backedOff, triedTo, expiring}
-use Rattle.calls.specs.Closing.{causeOf, shutting, aborting}
+use Rattle.calls.specs.Answer.{isShortArea, isShortOut, barred, Plan, refusing, carryingChunk, closingPlan, unless, answerOf, planOut}
+use Rattle.calls.specs.AnswerLaws.{call-let-in}
+use Rattle.calls.specs.Opening.{associationInit, wanting, associateRefusal, associating}
+use Rattle.calls.specs.Acknowledging.{sackValues, noSack, acknowledgedAs, acknowledgedCall, acknowledgedOut}
+use Rattle.calls.specs.Timers.{cookieResent, associationBackedOff, triedTo, expiring}
+use Rattle.calls.specs.Closing.{abortCause, shutting, aborting}
 use Rattle.calls.specs.Telling.{tellingStream, staleRefusal, tellingStale, beating}
-use Rattle.calls.specs.Transmit.{dataOf, chunkBytes, Bundle, added, turned, bundled, bundleLength, bundleOut, transmitBar, transmittedAs, transmitted, transmittedOut}
-use Rattle.calls.specs.SizeLaws.{chunk-most, packet-short}
-use Rattle.calls.specs.Outcomes.{Arrays, Stands, Carries, Tells, Outgoing, chosenChunks, Bundling}
+use Rattle.calls.specs.Transmit.{dataSent, chunkBytes, Bundle, added, addedChosen, bundled, bundleLength, bundleOut, transmitBar, transmittedAs, transmitted, transmittedOut}
+use Rattle.calls.specs.CallSizeLaws.{chunk-most, packet-short}
+use Rattle.calls.specs.Outcomes.{Arrays, Stands, Carries, Tells, CallSends, chosenChunks, Bundling}
 use Rattle.calls.specs.Outcomes.Carries.{init, cookie-echo, sack, shutdown, shutdown-ack, heartbeat}
 use Rattle.calls.specs.Outcomes.Tells.{abort, error}
-use Rattle.calls.specs.Outcomes.Outgoing.{silent, sends}
+use Rattle.calls.specs.Outcomes.CallSends.{silent, sends}
 use Rattle.calls.specs.Outcomes.Bundling.{nothing, bundle}
 
 -- ---- bytes that fit are written
@@ -81,7 +81,7 @@ laid-none (b ∷ bs) out at e = absurd (omega arith)
 
 module _ (out : List ℕ) (at : ℕ) (bs : List ℕ) (s : length bs ≤ 65532) (h : at + length bs ≤ length out) where
   fit-count : length bs ≡ wroteCount (drop at out) bs
-  fit-count = wrote-all refl s (omega (arith, length-drop at out)) (first (drop at out) bs refl) .count
+  fit-count = wrote-all refl s (omega (arith, length-drop at out)) (holds-first (drop at out) bs refl) .count
 
   fit-bytes : wroteAt out at bs ≡ laid out at bs
   fit-bytes = go fit-count (wrote-at out at bs)
@@ -104,24 +104,24 @@ unfolding barred
 sound-in a short call e = first-none a short (pick (permitted call (a .state)) 0 7) e .0
 
 long-in : (a : Association) (out : List ℕ) (call : Call) → barred a (isShortOut out) call ≡ 0 → leastOut ≤ length out
-long-in a out call e = ltb-false (length out) leastOut (let-in a (isShortOut out) call e .0)
+long-in a out call e = ltb-false (length out) leastOut (call-let-in a (isShortOut out) call e .0)
 
 -- ---- calls that answer by a plan
 
 module _ (a : Association) (out : List ℕ) where
   abbrev Goes : (List ℕ → Type 0) → Plan → Type 0
-  Goes C p = Outgoing C out (answerOf p out .length) (outOf p out)
+  Goes C p = CallSends C out (answerOf p out .length) (planOut p out)
 
   pub refusing-goes : (C : List ℕ → Type 0) (n : ℕ) → Goes C (refusing a n)
-  unfolding answerOf outOf
+  unfolding answerOf planOut
   refusing-goes C n = silent refl refl
 
   quiet-goes : (C : List ℕ → Type 0) (p : Plan) → p .sends ≡ false → Goes C p
-  unfolding answerOf outOf
+  unfolding answerOf planOut
   quiet-goes C p e = rw e (silent refl refl)
 
-  carrying-goes : (C : List ℕ → Type 0) (b : Association) (h : Header) (bs : List ℕ) → leastOut ≤ length out → C bs → Goes C (carrying b h bs)
-  unfolding answerOf outOf
+  carrying-goes : (C : List ℕ → Type 0) (b : Association) (h : Header) (bs : List ℕ) → leastOut ≤ length out → C bs → Goes C (carryingChunk b h bs)
+  unfolding answerOf planOut
   carrying-goes C b h bs m c = sends bs c m (λ l. stands-one h bs out m l)
 
   unless-goes : (C : List ℕ → Type 0) (n : ℕ) (p : Plan) → (n ≡ 0 → Goes C p) → Goes C (unless n a p)
@@ -135,19 +135,19 @@ module _ (a : Association) (out : List ℕ) where
   unfolding associating
   associate-goes tag tsn port streams =
       unless-goes Carries (earlier (barred a (isShortOut out) Associate) (associateRefusal (a .ends .«local_port») tag port streams)) _
-      (λ e. carrying-goes Carries _ _ _ (long-in a out Associate (earlier-none (barred a (isShortOut out) Associate) (associateRefusal (a .ends .«local_port») tag port streams) e .0)) (init (initOf (wanting a tag tsn port streams)) refl))
+      (λ e. carrying-goes Carries _ _ _ (long-in a out Associate (earlier-none (barred a (isShortOut out) Associate) (associateRefusal (a .ends .«local_port») tag port streams) e .0)) (init (associationInit (wanting a tag tsn port streams)) refl))
 
-  kept-cookie : Arrays a → (e : Ends) → pick (isCookie (a .cookie .len)) (areEnds e true) false ≡ true → (length (cookieOf (a .cookie)) ≤ longestCookie) × (length (cookieOf (a .cookie)) ≡ 0 → ⊥)
+  kept-cookie : Arrays a → (e : Ends) → pick (isCookie (a .cookie .len)) (areEnds e true) false ≡ true → (length (cookieResent (a .cookie)) ≤ longestCookie) × (length (cookieResent (a .cookie)) ≡ 0 → ⊥)
   kept-cookie w e h =
       let l = one-to-is longestCookie (a .cookie .len) (after-so (isCookie (a .cookie .len)) (areEnds e true) h .0) in
-      let k : length (cookieOf (a .cookie)) ≡ a .cookie .len = length-take-le (a .cookie .len) (a .cookie .bytes) (omega (arith, w .cookie, l .1)) in
+      let k : length (cookieResent (a .cookie)) ≡ a .cookie .len = length-take-le (a .cookie .len) (a .cookie .bytes) (omega (arith, w .cookie, l .1)) in
       (omega (arith, k, l .1), λ z. omega (arith, k, l .0, z))
 
   tried-goes : Arrays a → leastOut ≤ length out → (s : State) → isHead s (a .ends) (a .cookie) ≡ true → Goes Carries (triedTo a s)
-  unfolding triedTo backedOff
-  tried-goes w m Closed h = quiet-goes Carries (ending a) refl
-  tried-goes w m (CookieWait n) h = carrying-goes Carries _ _ _ m (init (initOf (backedOff a (CookieWait n))) refl)
-  tried-goes w m (CookieEchoed n) h = let l = kept-cookie w (a .ends) h in carrying-goes Carries _ _ _ m (cookie-echo (cookieOf (a .cookie)) (l .0) (l .1) refl)
+  unfolding triedTo associationBackedOff
+  tried-goes w m Closed h = quiet-goes Carries (closingPlan a) refl
+  tried-goes w m (CookieWait n) h = carrying-goes Carries _ _ _ m (init (associationInit (associationBackedOff a (CookieWait n))) refl)
+  tried-goes w m (CookieEchoed n) h = let l = kept-cookie w (a .ends) h in carrying-goes Carries _ _ _ m (cookie-echo (cookieResent (a .cookie)) (l .0) (l .1) refl)
   tried-goes w m Established h = quiet-goes Carries _ refl
   tried-goes w m ShutdownPending h = quiet-goes Carries _ refl
   tried-goes w m (ShutdownSent n) h = carrying-goes Carries _ _ _ m (shutdown (a .receiving .keeping .point) refl)
@@ -171,7 +171,7 @@ module _ (a : Association) (out : List ℕ) where
   unfolding aborting
   abort-goes why =
       unless-goes Tells (barred a (isShortOut out) Abort) _
-      (λ e. pick-keeps (Goes Tells) (knowsPeer (a .state)) _ _ (carrying-goes Tells _ _ _ (long-in a out Abort e) (abort (causeOf why) refl)) (quiet-goes Tells _ refl))
+      (λ e. pick-keeps (Goes Tells) (knowsPeer (a .state)) _ _ (carrying-goes Tells _ _ _ (long-in a out Abort e) (abort (abortCause why) refl)) (quiet-goes Tells _ refl))
 
   pub stream-goes : (stream : StreamId) → Goes Tells (tellingStream a stream out)
   unfolding tellingStream
@@ -191,21 +191,21 @@ module _ (a : Association) (out : List ℕ) where
 
   -- ---- a SACK
 
-  sack-carried : length (a .receiving .keeping .come) ≡ 128 → isSound a ≡ true → Carries (sackBytes rail (chunkOf (receiving.acknowledged rail (a .receiving) .sack)))
+  sack-carried : length (a .receiving .keeping .come) ≡ 128 → isSound a ≡ true → Carries (sackBytes rail (sackValues (acknowledgedReceiving rail (a .receiving) .sack)))
   sack-carried c s =
-      let e = ap (λ x. x .sack) (acknowledged-is rail (a .receiving)) ∙ sack-is rail (a .receiving) in
-      let b = receiver.test-sound (ring (2 ^ 32)) rail (a .receiving) (sound-parts a s .receiving) in
+      let e = ap (λ x. x .sack) (acknowledged-receiving-is rail (a .receiving)) ∙ receiving-sack-is rail (a .receiving) in
+      let b = receiving-test-sound (ring (2 ^ 32)) rail (a .receiving) (sound-parts a s .receiving) in
       rw e (sack _ (blocks-half rail (a .receiving .keeping) c refl) (b .numbers .few) refl)
 
-  pub sack-goes : Arrays a → Outgoing Carries out (acknowledged a out .length) (acknowledgedOut a out)
-  unfolding acknowledged acknowledgedOut
+  pub sack-goes : Arrays a → CallSends Carries out (acknowledgedCall a out .length) (acknowledgedOut a out)
+  unfolding acknowledgedCall acknowledgedOut
   sack-goes w = go (eqb (barred a (isShortOut out) Acknowledge) 0) refl
     where
       bs : List ℕ
-      bs = sackBytes rail (chunkOf (receiving.acknowledged rail (a .receiving) .sack))
+      bs = sackBytes rail (sackValues (acknowledgedReceiving rail (a .receiving) .sack))
 
       go : (t : Bool) → eqb (barred a (isShortOut out) Acknowledge) 0 ≡ t
-          → Outgoing Carries out (pick t (acknowledgedAs a (receiving.acknowledged rail (a .receiving)) out) (record { number = barred a (isShortOut out) Acknowledge; length = 0; sack = noSack; association = a }) .length) (pick t (sentOne (toPeer (a .ends)) bs out) out)
+          → CallSends Carries out (pick t (acknowledgedAs a (acknowledgedReceiving rail (a .receiving)) out) (record { number = barred a (isShortOut out) Acknowledge; length = 0; sack = noSack; association = a }) .length) (pick t (sentOne (toPeer (a .ends)) bs out) out)
       go true e =
           let z = eqb-true (barred a (isShortOut out) Acknowledge) 0 e in
           let m = long-in a out Acknowledge z in
@@ -217,7 +217,7 @@ module _ (a : Association) (out : List ℕ) where
 -- a writer that writes nothing of bs, whatever the output, has nothing to write
 empty-wrote : (bs : List ℕ) → length bs ≤ 65532 → Wrote bs bs 0 bs → bs ≡ []
 empty-wrote bs s w =
-    let v : Wrote bs bs (length bs) (laid bs 0 bs) = wrote-all refl s (omega arith) (first bs bs refl) in
+    let v : Wrote bs bs (length bs) (laid bs 0 bs) = wrote-all refl s (omega arith) (holds-first bs bs refl) in
     go bs (omega (arith, w .count, v .count))
   where
     go : (l : List ℕ) → length l ≡ 0 → l ≡ []
@@ -225,22 +225,22 @@ empty-wrote bs s w =
     go (b ∷ l) e = absurd (omega arith)
 
 module _ (area : List ℕ) (p : Place) (i : ℕ) where
-  abbrev pub payloadOf : List ℕ
-  payloadOf = payloadAt rail area i (p .chunk .len)
+  abbrev pub payloadSent : List ℕ
+  payloadSent = payloadAt rail area i (p .chunk .len)
 
   -- a place's chunk is DATA with its payload, or nothing where that is none
-  pub chunk-carried : sizeOf p ≤ 536 → Carried 512 payloadOf (framed 0 (flagsOf (dataOf (p .chunk))) (dataFields (dataOf (p .chunk)) ++ payloadOf)) (chunkBytes area p i)
+  pub chunk-carried : sizeOf p ≤ 536 → Carried 512 payloadSent (framed 0 (dataFlags (dataSent (p .chunk))) (dataFields (dataSent (p .chunk)) ++ payloadSent)) (chunkBytes area p i)
   unfolding chunkBytes
-  chunk-carried h = go (decLt 512 (length payloadOf)) (decLt 0 (length payloadOf))
+  chunk-carried h = go (decLt 512 (length payloadSent)) (decLt 0 (length payloadSent))
     where
       small : length (chunkBytes area p i) ≤ 65532
       small = omega (arith, chunk-most area p i)
 
-      go : Dec (512 < length payloadOf) → Dec (0 < length payloadOf)
-          → Carried 512 payloadOf (framed 0 (flagsOf (dataOf (p .chunk))) (dataFields (dataOf (p .chunk)) ++ payloadOf)) (dataBytes rail (dataOf (p .chunk)) payloadOf)
-      go (yes l) n = none (empty-wrote _ small (data-over (dataOf (p .chunk)) payloadOf l))
-      go (no l) (no n) = none (empty-wrote _ small (data-none (dataOf (p .chunk)) payloadOf (omega arith) (omega arith)))
-      go (no l) (yes n) = whole (omega arith) (λ z. omega arith) (data-is (dataOf (p .chunk)) payloadOf (omega arith) (λ z. omega arith))
+      go : Dec (512 < length payloadSent) → Dec (0 < length payloadSent)
+          → Carried 512 payloadSent (framed 0 (dataFlags (dataSent (p .chunk))) (dataFields (dataSent (p .chunk)) ++ payloadSent)) (dataBytes rail (dataSent (p .chunk)) payloadSent)
+      go (yes l) n = none (empty-wrote _ small (data-over (dataSent (p .chunk)) payloadSent l))
+      go (no l) (no n) = none (empty-wrote _ small (data-none (dataSent (p .chunk)) payloadSent (omega arith) (omega arith)))
+      go (no l) (yes n) = whole (omega arith) (λ z. omega arith) (data-is (dataSent (p .chunk)) payloadSent (omega arith) (λ z. omega arith))
 
 -- the bytes bs stand from 12 on, and the packet ends behind them
 record Holds (out bs : List ℕ) (t : Bundle) : Type 0 where
@@ -277,7 +277,7 @@ module _ (area out : List ℕ) (m : leastOut ≤ length out) where
       }
 
   fold-holds : (n : ℕ) (ps : List Place) (is : List ℕ) (j k : ℕ) → k ≡ n - j → (bs : List ℕ) (t : Bundle) → t .at + sizesFrom ps n j is ≤ 548 → Holds out bs t
-      → Holds out (bs ++ joined (map (λ (i : ℕ). chunkBytes area (getD ps i noPlace) i) (take k is))) (foldFrom (turned area n ps) t j is)
+      → Holds out (bs ++ joined (map (λ (i : ℕ). chunkBytes area (getD ps i noPlace) i) (take k is))) (foldFrom (addedChosen area n ps) t j is)
   fold-holds n ps [] j k e bs t h w = rw (take-none k, append-nil bs) w
   fold-holds n ps (i ∷ is) j zero e bs t h w = rw (le-ltb j n (omega arith)) (fold-holds n ps is (j + 1) zero (omega arith) bs t (omega arith) w)
   fold-holds n ps (i ∷ is) j (suc k) e bs t h w =
@@ -304,16 +304,16 @@ module _ (area out : List ℕ) (m : leastOut ≤ length out) where
           (record { header = h; count = (λ i. sealCount (w .at-is i) (w .out-is i)); bytes = (λ i. sealBytes h (w .at-is i) (w .out-is i)) })
       go false e = nothing refl (w .out-is ∙ sym (laid-none (joined (chosenChunks area f)) out 12 (omega (arith, ltb-false 12 (b .at) e, w .at-is))))
 
-pub transmit-goes : (a : Association) (area out : List ℕ) → Bundling area (filled railSizes rail (a .sending)) out (transmitted a area out .length) (transmittedOut a area out)
+pub transmit-goes : (a : Association) (area out : List ℕ) → Bundling area (packetFilled railSizes rail (a .sending)) out (transmitted a area out .length) (transmittedOut a area out)
 unfolding transmitted transmittedOut
 transmit-goes a area out = go (eqb (transmitBar a area out) 0) refl
   where
     go : (t : Bool) → eqb (transmitBar a area out) 0 ≡ t
-        → Bundling area (filled railSizes rail (a .sending)) out (pick t (transmittedAs a area out (filled railSizes rail (a .sending))) (record { number = transmitBar a area out; length = 0; resent = false; first = tsn0; last = tsn0; association = a }) .length)
-        (pick t (bundleOut (toPeer (a .ends)) (bundled area (filled railSizes rail (a .sending)) out)) out)
+        → Bundling area (packetFilled railSizes rail (a .sending)) out (pick t (transmittedAs a area out (packetFilled railSizes rail (a .sending))) (record { number = transmitBar a area out; length = 0; resent = false; first = tsn0; last = tsn0; association = a }) .length)
+        (pick t (bundleOut (toPeer (a .ends)) (bundled area (packetFilled railSizes rail (a .sending)) out)) out)
     go true e =
         let z = eqb-true (transmitBar a area out) 0 e in
-        let m = ltb-false (length out) leastOut (neither (isShortArea area) (isShortOut out) (let-in a (either (isShortArea area) (isShortOut out)) Transmit z .0) .1) in
-        bundled-goes area out m (toPeer (a .ends)) (filled railSizes rail (a .sending)) (bundled area (filled railSizes rail (a .sending)) out) (sizes-each (filled railSizes rail (a .sending) .sending .places) (filled railSizes rail (a .sending) .count) (filled railSizes rail (a .sending) .places) 0 (filled railSizes rail (a .sending) .count) (omega arith) (filled-fits railSizes rail (a .sending))) (packet-short a area out)
-        (bundled-holds area out m (filled railSizes rail (a .sending)) (omega (arith, filled-fits railSizes rail (a .sending))))
+        let m = ltb-false (length out) leastOut (neither (isShortArea area) (isShortOut out) (call-let-in a (either (isShortArea area) (isShortOut out)) Transmit z .0) .1) in
+        bundled-goes area out m (toPeer (a .ends)) (packetFilled railSizes rail (a .sending)) (bundled area (packetFilled railSizes rail (a .sending)) out) (sizes-each (packetFilled railSizes rail (a .sending) .sending .places) (packetFilled railSizes rail (a .sending) .count) (packetFilled railSizes rail (a .sending) .places) 0 (packetFilled railSizes rail (a .sending) .count) (omega arith) (filled-fits railSizes rail (a .sending))) (packet-short a area out)
+        (bundled-holds area out m (packetFilled railSizes rail (a .sending)) (omega (arith, filled-fits railSizes rail (a .sending))))
     go false e = nothing refl refl

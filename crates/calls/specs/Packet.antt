@@ -10,12 +10,12 @@ use Rattle.association.specs.declared.ends.Ends.{Ends}
 use Rattle.association.specs.Heads.{headTo}
 
 -- to the peer's port, with a tag
-abbrev pub headOf : Ends → ℕ → Header
-headOf e tag = headTo e (e .«peer_port») tag
+abbrev pub headToPeer : Ends → ℕ → Header
+headToPeer e tag = headTo e (e .«peer_port») tag
 
 -- "Other packets carry" the tag that the peer chose
 abbrev pub toPeer : Ends → Header
-toPeer e = headOf e (e .«peer_tag»)
+toPeer e = headToPeer e (e .«peer_tag»)
 
 -- the bytes that a packet with the chunk bs takes, and what then stands in the lent output
 unfoldable pub sentLength : List ℕ → List ℕ → ℕ

@@ -17,7 +17,7 @@ use Rattle.places.specs.declared.place.Chunk.{Chunk}
 use Rattle.places.specs.declared.place.Place.{Place}
 use Rattle.sending.specs.declared.choosing.Chosen.{Chosen}
 use Rattle.sending.specs.Sending.{noPlace}
-use Rattle.sending.specs.Choose.{filled}
+use Rattle.sending.specs.Choose.{packetFilled}
 use Rattle.holding.specs.Taking.{payloadAt}
 use Rattle.states.specs.declared.call.Call.the-variants.{Transmit}
 use Rattle.association.specs.declared.ends.Association.{Association}
@@ -27,12 +27,12 @@ use Rattle.calls.specs.Packet.{toPeer}
 use Rattle.calls.specs.Answer.{isShortArea, isShortOut, barred}
 
 -- the fields of a chunk that goes out
-abbrev pub dataOf : Chunk → Data
-dataOf c = record { tsn = c .tsn; stream = c .stream; ssn = c .ssn; ppid = c .ppid; begin = c .begin; end = c .end; unordered = c .unordered }
+abbrev pub dataSent : Chunk → Data
+dataSent c = record { tsn = c .tsn; stream = c .stream; ssn = c .ssn; ppid = c .ppid; begin = c .begin; end = c .end; unordered = c .unordered }
 
 -- the chunk of place i, its payload from the place's bytes in the area
 unfoldable pub chunkBytes : List ℕ → Place → ℕ → List ℕ
-chunkBytes area p i = dataBytes rail (dataOf (p .chunk)) (payloadAt rail area i (p .chunk .len))
+chunkBytes area p i = dataBytes rail (dataSent (p .chunk)) (payloadAt rail area i (p .chunk .len))
 
 -- the packet so far: its chunks end at `at`
 pub record Bundle : Type 0 where
@@ -47,12 +47,12 @@ added area p i t = record {
 }
 
 -- the k-th of the `count` places chosen
-abbrev pub turned : List ℕ → ℕ → List Place → Bundle → ℕ → ℕ → Bundle
-turned area count ps t k i = pick (ltb k count) (added area (getD ps i noPlace) i t) t
+abbrev pub addedChosen : List ℕ → ℕ → List Place → Bundle → ℕ → ℕ → Bundle
+addedChosen area count ps t k i = pick (ltb k count) (added area (getD ps i noPlace) i t) t
 
 -- the chunks of every place chosen, in the order of choice
 unfoldable pub bundled : List ℕ → Chosen → List ℕ → Bundle
-bundled area f out = foldFrom (turned area (f .count) (f .sending .places)) (record { at = 12; out = out }) 0 (f .places)
+bundled area f out = foldFrom (addedChosen area (f .count) (f .sending .places)) (record { at = 12; out = out }) 0 (f .places)
 
 -- a packet with no chunk is none
 unfoldable pub bundleLength : Bundle → ℕ
@@ -80,12 +80,12 @@ transmittedAs a area out f = record {
 unfoldable pub transmitted : Association → List ℕ → List ℕ → Transmitted
 transmitted a area out =
     pick (eqb (transmitBar a area out) 0)
-    (transmittedAs a area out (filled railSizes rail (a .sending)))
+    (transmittedAs a area out (packetFilled railSizes rail (a .sending)))
     (record { number = transmitBar a area out; length = 0; resent = false; first = tsn0; last = tsn0; association = a })
 
 -- what then stands in the lent output
 unfoldable pub transmittedOut : Association → List ℕ → List ℕ → List ℕ
 transmittedOut a area out =
     pick (eqb (transmitBar a area out) 0)
-    (bundleOut (toPeer (a .ends)) (bundled area (filled railSizes rail (a .sending)) out))
+    (bundleOut (toPeer (a .ends)) (bundled area (packetFilled railSizes rail (a .sending)) out))
     out

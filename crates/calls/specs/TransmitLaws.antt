@@ -15,11 +15,11 @@ use Rattle.states.specs.declared.call.Call.{Call}
 use Rattle.association.specs.declared.ends.Association.{Association}
 use Rattle.association.specs.Bounds.{leastOut}
 use Rattle.calls.specs.Answer.{isShortArea, isShortOut, barred}
-use Rattle.calls.specs.AnswerLaws.{let-in}
+use Rattle.calls.specs.AnswerLaws.{call-let-in}
 use Rattle.calls.specs.Transmit.{chunkBytes, Bundle, added}
 
 -- one chunk more: where it ends, and what stands in the output
-pub record Added (area : List ℕ) (p : Place) (i at : ℕ) (out : List ℕ) (r : ℕ) (exit : List ℕ) : Type 0 where
+pub record ChunkAdded (area : List ℕ) (p : Place) (i at : ℕ) (out : List ℕ) (r : ℕ) (exit : List ℕ) : Type 0 where
   pub is : _≡_ {A = Bundle} (record { at = r; out = exit }) (added area p i (record { at = at; out = out }))
   pub within : r ≤ length out
   pub near : r ≤ at + 65532
@@ -32,7 +32,7 @@ module _ (at : ℕ) (xs : List ℕ) {bs ys : List ℕ} {r : ℕ} (h : at ≤ len
   part-few = wrote-few w
 
   pub added-one : {area : List ℕ} {p : Place} {i : ℕ} {exit : List ℕ} → bs ≡ chunkBytes area p i
-      → exit ≡ take at xs ++ (ys ++ drop (length xs - at) (drop at xs)) → Added area p i at xs (at + r) exit
+      → exit ≡ take at xs ++ (ys ++ drop (length xs - at) (drop at xs)) → ChunkAdded area p i at xs (at + r) exit
   unfolding added
   added-one {area} {p} {i} {exit} b m =
       let e : exit ≡ wroteAt xs at (chunkBytes area p i) = m ∙ wrote-part at xs h w ∙ ap (λ (l : List ℕ). wroteAt xs at l) b in
@@ -42,4 +42,4 @@ module _ (at : ℕ) (xs : List ℕ) {bs ys : List ℕ} {r : ℕ} (h : at ≤ len
 -- the lent area and output are long enough
 pub both-roomy : (a : Association) (area out : List ℕ) (call : Call) {n : ℕ} → n ≡ barred a (either (isShortArea area) (isShortOut out)) call → n ≡ 0 → 12 ≤ length out
 both-roomy a area out call e z =
-    omega (arith, ltb-false (length out) leastOut (neither (isShortArea area) (isShortOut out) (let-in a (either (isShortArea area) (isShortOut out)) call (sym e ∙ z) .0) .1))
+    omega (arith, ltb-false (length out) leastOut (neither (isShortArea area) (isShortOut out) (call-let-in a (either (isShortArea area) (isShortOut out)) call (sym e ∙ z) .0) .1))

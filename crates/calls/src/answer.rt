@@ -1,5 +1,6 @@
 // What a call answers, and what bars it.
 use association::Association;
+use numbers::Rail;
 ghost use mathlib.Core.Path.{_≡_};
 ghost use Rattle.association.specs.Bounds.{earlier};
 
@@ -12,9 +13,9 @@ pub struct Answer {
 }
 
 // What a lent output, and a lent area, must have.
-pub const OUTPUT: usize = 1472;
+pub const OUTPUT: usize = Rail::LONGEST_PACKET;
 
-pub const AREA: usize = 65536;
+pub const AREA: usize = Rail::AREA;
 
 // Of two numbers the first that is given.
 pub fn earlier(m: u8, n: u8) -> u8

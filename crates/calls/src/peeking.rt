@@ -1,7 +1,8 @@
 // What the host must know of a packet before it arrives.
 use chunks::init::Init;
+use chunks::types;
 ghost use mathlib.Core.Path.{_≡_};
-ghost use Rattle.calls.specs.Peek.{seen, peeked};
+ghost use Rattle.calls.specs.Peek.{peekedIn, peeked};
 
 // An INIT, with the port that it came from and the options that it offers, or a COOKIE ECHO, whose cookie stands in the packet at an offset and has a length.
 pub enum Peeked {
@@ -13,15 +14,15 @@ pub enum Peeked {
 
 // `s` is the packet from its first chunk on.
 fn see(packet: &[u8], s: &[u8]) -> Peeked
-    ensures { λ r. ⌜ r ≡ seen (now (packet .entry)) (now (s .entry)) ⌝ }
+    ensures { λ r. ⌜ r ≡ peekedIn (now (packet .entry)) (now (s .entry)) ⌝ }
 {
     let kind = octets::get8(s, 0);
-    if kind == 1 {
+    if kind == types::INIT {
         let v = chunks::init::read_init(s);
         let h = packets::read_header(packet);
         return Peeked::Init(v, h.source, 0);
     }
-    if kind == 10 {
+    if kind == types::COOKIE_ECHO {
         let p = chunks::cookie::cookie(s);
         return Peeked::Echo(12 + p.at, p.len);
     }

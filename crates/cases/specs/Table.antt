@@ -7,28 +7,28 @@ use Rattle.numbers.specs.declared.circle.Distance.the-variants.{Ahead, Behind, 
 use Rattle.numbers.specs.Circle.{onCircle}
 use Rattle.numbers.specs.Numbering.{on, before, far}
 use Rattle.numbers.specs.Judgement.{judged}
-use Rattle.numbers.specs.Keeping as keeping
-use Rattle.numbers.specs.Blocks.{Block, runs, laidOut, blocksOf}
-use Rattle.numbers.specs.BlocksLaws.{listedIn}
+use Rattle.numbers.specs.Keeping.{freshKeeping, offsetOf, isCome, keepingSettled, markedCome, listed}
+use Rattle.numbers.specs.Blocks.{GapBlock, runs, blocksLaidOut, blocksOf}
+use Rattle.numbers.specs.BlocksLaws.{blockList}
 use Rattle.holding.specs.Held.{holds}
-use Rattle.delivery.specs.Receiving.{fresh, isLow, lowOf}
+use Rattle.delivery.specs.Receiving.{freshReceiving, isLow, lowOf}
 use Rattle.delivery.specs.Contradiction.{contradicts, contradictsNext, clashes, isContradicted}
-use Rattle.delivery.specs.Arrival as arrival
-use Rattle.delivery.specs.Acknowledging.{sackOf}
-use Rattle.path.specs.Control as control
-use Rattle.path.specs.Clock as clock
-use Rattle.path.specs.Path as path
-use Rattle.cases.specs.Case.{Given, distance, arrivals, samples, expiry, Answer, apart, left, waits, allows, Case, answered}
+use Rattle.delivery.specs.Arrival.{isRepeat, isWedged, judgementOf, verdictOf, duplicateNoted, strayPassed, keptAtPlace, arrived}
+use Rattle.delivery.specs.ReceivingSack.{receivingSack}
+use Rattle.path.specs.Control.{freshControl, halved, collapsed}
+use Rattle.path.specs.Clock.{freshClock, timed, clockSampled, clockDoubled}
+use Rattle.path.specs.Path.{freshPath, sampledBy, pathExpired}
+use Rattle.cases.specs.Case.{CaseGiven, distance, arrivals, samples, expiry, CaseAnswer, apart, left, waits, allows, Case, caseAnswered}
 
 -- what is given, and what is to be answered; a single block
-abbrev row : Given → Answer → Case
+abbrev row : CaseGiven → CaseAnswer → Case
 row g a = record { given = g; expected = a }
 
-abbrev block : ℕ → ℕ → List Block
+abbrev block : ℕ → ℕ → List GapBlock
 block a b = record { from = a; to = b } ∷ []
 
 -- the number answered, the point, the blocks, how many are held
-abbrev leaves : ℕ → ℕ → List Block → ℕ → Answer
+abbrev leaves : ℕ → ℕ → List GapBlock → ℕ → CaseAnswer
 leaves number point blocks held = left (record { number = number; point = point; blocks = blocks; held = held })
 
 -- C1 to C13, each with 01's own sentence
@@ -56,8 +56,8 @@ table =
     ∷ []
 
 -- both sides computed
-pub cases-hold : map (λ (c : Case). answered (c .given)) table ≡ map (λ (c : Case). c .expected) table
-unfolding onCircle on before far judged keeping.fresh keeping.offsetOf keeping.isCome keeping.settled keeping.marked keeping.listed runs laidOut blocksOf listedIn holds fresh isLow lowOf arrival.isRepeat arrival.isWedged arrival.judgementOf contradicts contradictsNext clashes isContradicted arrival.verdictOf arrival.noted arrival.passed arrival.kept arrival.arrived sackOf control.fresh control.halved control.collapsed clock.fresh clock.timed clock.sampled clock.doubled path.fresh path.sampledBy path.expired
+pub cases-hold : map (λ (c : Case). caseAnswered (c .given)) table ≡ map (λ (c : Case). c .expected) table
+unfolding onCircle on before far judged freshKeeping offsetOf isCome keepingSettled markedCome listed runs blocksLaidOut blocksOf blockList holds freshReceiving isLow lowOf isRepeat isWedged judgementOf contradicts contradictsNext clashes isContradicted verdictOf duplicateNoted strayPassed keptAtPlace arrived receivingSack freshControl halved collapsed freshClock timed clockSampled clockDoubled freshPath sampledBy pathExpired
 cases-hold = refl
 
 module _ {A B : Type 0} (f g : A → B) where
@@ -66,5 +66,5 @@ module _ {A B : Type 0} (f g : A → B) where
   one-by-one [] e = tt
   one-by-one (x ∷ xs) e = (cc, one-by-one xs cc)
 
-pub each-holds : All (λ (c : Case). answered (c .given) ≡ c .expected) table
-each-holds = one-by-one (λ (c : Case). answered (c .given)) (λ (c : Case). c .expected) table cases-hold
+pub each-holds : All (λ (c : Case). caseAnswered (c .given) ≡ c .expected) table
+each-holds = one-by-one (λ (c : Case). caseAnswered (c .given)) (λ (c : Case). c .expected) table cases-hold

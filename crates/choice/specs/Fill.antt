@@ -21,13 +21,13 @@ use Rattle.places.specs.Places.{being, weightOf, tallied}
 use Rattle.sending.specs.declared.choosing.Best.{Best}
 use Rattle.sending.specs.declared.choosing.Load.{Load}
 use Rattle.sending.specs.Sending.{withFlight}
-use Rattle.sending.specs.Choose.{bestOf, sizeOf, goes, nextSsn, numbered, Going}
-use Rattle.sending.specs.TableLaws.{ssn-is, numbered-is}
-use Rattle.sending.specs.ChooseParts.{loadedBy}
-use Rattle.tables.specs.Place.{placesOf, placeAt, placePut}
+use Rattle.sending.specs.Choose.{bestPlace, sizeOf, goes, nextSsn, numbered, Going}
+use Rattle.sending.specs.SendingTableLaws.{ssn-is, numbered-is}
+use Rattle.sending.specs.ChoosePartsLaws.{loadedBy}
+use Rattle.tables.specs.PlaceWords.{placesOf, placeAt, placePut}
 use Rattle.tables.specs.Ssns.{ssnsOf, ssnPut, ssn-past}
 use Rattle.sender.specs.declared.Sender.{Sender}
-use Rattle.sender.specs.Seen.{seen}
+use Rattle.sender.specs.Seen.{sendingShown}
 
 -- the SSN that a chunk goes out with
 pub next-at : (P : Profile) (ns : List ℕ) (c : Chunk) → c .unordered ≡ false → nextSsn P (ssnsOf P ns) c ≡ getD (ssnsOf P ns) (c .stream .0) ssn0
@@ -50,7 +50,7 @@ countedIn P ns p =
 
 -- the place as it goes out
 unfoldable pub sentPlace : Profile → Sender → List ℕ → Place → Place
-sentPlace P h ns p = pick (eqb (p .status) 3) (being p 2) (record { status = 2; misses = p .misses; chunk = numbered P (seen P h [] ns) (p .chunk) })
+sentPlace P h ns p = pick (eqb (p .status) 3) (being p 2) (record { status = 2; misses = p .misses; chunk = numbered P (sendingShown P h [] ns) (p .chunk) })
 
 pub sent-new : (P : Profile) (h : Sender) (ns : List ℕ) (p : Place) {n : Ssn} → eqb (p .status) 3 ≡ false → n ≡ nextSsn P (ssnsOf P ns) (p .chunk)
     → _≡_ {A = Place}
@@ -71,7 +71,7 @@ pub sent-new : (P : Profile) (h : Sender) (ns : List ℕ) (p : Place) {n : Ssn} 
     })
     (sentPlace P h ns p)
 unfolding sentPlace
-sent-new P h ns p e f = rw (e, numbered-is P (seen P h [] ns) (p .chunk), f)
+sent-new P h ns p e f = rw (e, numbered-is P (sendingShown P h [] ns) (p .chunk), f)
 
 -- the head after it
 unfoldable pub sentHead : Sender → Place → Sender
@@ -104,8 +104,8 @@ pub record Fill : Type 0 where
 -- the next candidate goes, or none does
 unfoldable pub goingIn : Profile → Fill → Going
 goingIn P f =
-    let b : Best = bestOf (f .head .acked) (f .head .oldest) (placesOf P (f .words)) in
-    record { go = goes (loadedBy (seen P (f .head) [] []) (f .load)) b (placeAt P (f .words) (b .place)); place = b .place }
+    let b : Best = bestPlace (f .head .acked) (f .head .oldest) (placesOf P (f .words)) in
+    record { go = goes (loadedBy (sendingShown P (f .head) [] []) (f .load)) b (placeAt P (f .words) (b .place)); place = b .place }
 
 unfoldable pub fillingIn : Profile → Fill → ℕ → Fill
 fillingIn P f i =
@@ -131,8 +131,8 @@ unfoldable pub filledIn : Sizes → Profile → Sender → List ℕ → List ℕ
 filledIn z P h ws ns = runWhile (λ f. goingIn P f .go) (λ f. fillingIn P f (goingIn P f .place)) (begunIn z P h ws ns) (z .bundled)
 
 -- the best place is the one that goes, if one does
-pub goes-best : (P : Profile) (h : Sender) (ws ns : List ℕ) (l : Load) (b : Best) {p : Place} → b ≡ bestOf (h .acked) (h .oldest) (placesOf P ws) → p ≡ placeAt P ws (b .place)
-    → _≡_ {A = Going} (goingIn P (record { head = h; words = ws; ns = ns; load = l })) (record { go = goes (loadedBy (seen P h [] []) l) b p; place = b .place })
+pub goes-best : (P : Profile) (h : Sender) (ws ns : List ℕ) (l : Load) (b : Best) {p : Place} → b ≡ bestPlace (h .acked) (h .oldest) (placesOf P ws) → p ≡ placeAt P ws (b .place)
+    → _≡_ {A = Going} (goingIn P (record { head = h; words = ws; ns = ns; load = l })) (record { go = goes (loadedBy (sendingShown P h [] []) l) b p; place = b .place })
 unfolding goingIn
 goes-best P h ws ns l b e q = rw (q, e)
 

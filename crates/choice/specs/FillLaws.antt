@@ -1,4 +1,4 @@
--- A packet filled over head and words is the packet that `filled` of `sending` has. Assumes nothing.
+-- A packet filled over head and words is the packet that `packetFilled` of `sending` has. Assumes nothing.
 use Prim.Native.Nat.{ℕ, zero, suc, _*_, _%_, _^_, _<_, _≤_}
 use mathlib.Core.Path.{_≡_, refl, sym, ap, _∙_, subst}
 use mathlib.Core.Bool.{Bool, true, false}
@@ -20,23 +20,23 @@ use Rattle.places.specs.declared.place.Place.{Place}
 use Rattle.places.specs.Places.{being}
 use Rattle.sending.specs.declared.choosing.Best.{Best}
 use Rattle.sending.specs.declared.choosing.Chosen.{Chosen}
-use Rattle.sending.specs.Choose.{bestOf, goes, nextSsn, counted, numbered, Going, going, filling, filled}
-use Rattle.sending.specs.ChooseParts.{loadedBy}
-use Rattle.sending.specs.TableLaws.{goes-is, ssn-is, counted-is, numbered-is, tsn-is, sent-again, sent-first, going-is, filling-is, begun-is, filled-is}
-use Rattle.tables.specs.Place.{placesOf, placeAt, placePut}
-use Rattle.tables.specs.PlaceLaws.{Small, place-small, place-put, put-long}
+use Rattle.sending.specs.Choose.{bestPlace, goes, nextSsn, ssnsCounted, numbered, Going, going, filling, packetFilled}
+use Rattle.sending.specs.ChoosePartsLaws.{loadedBy}
+use Rattle.sending.specs.SendingTableLaws.{goes-is, ssn-is, counted-is, numbered-is, tsn-is, sent-again, sent-first, going-is, filling-is, begun-is, filled-is}
+use Rattle.tables.specs.PlaceWords.{placesOf, placeAt, placePut}
+use Rattle.tables.specs.PlaceWordsLaws.{PlaceSmall, place-small, place-put, place-put-long}
 use Rattle.tables.specs.Ssns.{ssnsOf, ssnPut, ssn-in, ssn-out, ssn-put, ssn-put-long}
 use Rattle.sender.specs.declared.Sender.{Sender}
-use Rattle.tables.specs.Open.{by}
-use Rattle.sender.specs.Seen.{seen}
+use Rattle.tables.specs.OpenLaws.{by-law}
+use Rattle.sender.specs.Seen.{sendingShown}
 use Rattle.choice.specs.Fill.{Fill, countedIn, sentPlace, sentHead, loadAfter, goingIn, fillingIn, begunIn, filledIn}
 
 -- the packet that a fill shows
 abbrev pub chosenOf : Profile → Fill → Chosen
-chosenOf P f = loadedBy (seen P (f .head) (f .words) (f .ns)) (f .load)
+chosenOf P f = loadedBy (sendingShown P (f .head) (f .words) (f .ns)) (f .load)
 
 -- tables long enough, and a TSN of 32 bits
-pub record Fit (P : Profile) (f : Fill) : Type 0 where
+pub record FillFits (P : Profile) (f : Fill) : Type 0 where
   pub words : 8 * P .places ≤ length (f .words)
   pub ns : P .streams ≤ length (f .ns)
   pub tsn : f .head .«next_tsn» .0 < 4294967296
@@ -54,9 +54,9 @@ module _ (P : Profile) (ns : List ℕ) (p : Place) where
   abbrev risen : Ssn
   risen = record { 0 = on (ring (2 ^ 16)) (getD (ssnsOf P ns) (p .chunk .stream .0) ssn0 .0) 1 }
 
-  counted-shows : P .streams ≤ length ns → eqb (p .status) 3 ≡ false → ssnsOf P (countedIn P ns p) ≡ counted P (ssnsOf P ns) (p .chunk)
+  counted-shows : P .streams ≤ length ns → eqb (p .status) 3 ≡ false → ssnsOf P (countedIn P ns p) ≡ ssnsCounted P (ssnsOf P ns) (p .chunk)
   unfolding countedIn
-  counted-shows l e = by (counted-is P (ssnsOf P ns) (p .chunk)) (rw e (go (p .chunk .unordered) (p .chunk .end) (ltb (p .chunk .stream .0) (P .streams)) refl))
+  counted-shows l e = by-law (counted-is P (ssnsOf P ns) (p .chunk)) (rw e (go (p .chunk .unordered) (p .chunk .end) (ltb (p .chunk .stream .0) (P .streams)) refl))
     where
       x : ℕ
       x = p .chunk .stream .0
@@ -94,14 +94,14 @@ next-small P ns c = rw (ssn-is P (ssnsOf P ns) c) (go (c .unordered) (ltb (c .st
     go false true q = ssn-small P ns (c .stream .0) (ltb-true (c .stream .0) (P .streams) q)
     go false false q = omega arith
 
-sent-small : (P : Profile) (h : Sender) (ns : List ℕ) (p : Place) → Small p → h .«next_tsn» .0 < 4294967296 → Small (sentPlace P h ns p)
+sent-small : (P : Profile) (h : Sender) (ns : List ℕ) (p : Place) → PlaceSmall p → h .«next_tsn» .0 < 4294967296 → PlaceSmall (sentPlace P h ns p)
 unfolding sentPlace
 sent-small P h ns p s t = go (eqb (p .status) 3)
   where
-    go : (b : Bool) → Small (pick b (being p 2) (record { status = 2; misses = p .misses; chunk = numbered P (seen P h [] ns) (p .chunk) }))
+    go : (b : Bool) → PlaceSmall (pick b (being p 2) (record { status = 2; misses = p .misses; chunk = numbered P (sendingShown P h [] ns) (p .chunk) }))
     go true = record { status = omega arith; misses = s .misses; tsn = s .tsn; order = s .order; stream = s .stream; ssn = s .ssn; ppid = s .ppid; len = s .len }
     go false =
-        rw (numbered-is P (seen P h [] ns) (p .chunk))
+        rw (numbered-is P (sendingShown P h [] ns) (p .chunk))
         (record { status = omega arith; misses = s .misses; tsn = t; order = s .order; stream = s .stream; ssn = next-small P ns (p .chunk); ppid = s .ppid; len = s .len })
 
 -- the TSN that is next stays on the circle
@@ -111,7 +111,7 @@ sent-tsn h p t = pick-keeps (λ (q : Sender). q .«next_tsn» .0 < 4294967296) (
 
 -- ---- one place more
 
-module _ (P : Profile) (f : Fill) (w : Fit P f) (i : ℕ) where
+module _ (P : Profile) (f : Fill) (w : FillFits P f) (i : ℕ) where
   abbrev at : Place
   at = placeAt P (f .words) i
 
@@ -121,14 +121,14 @@ module _ (P : Profile) (f : Fill) (w : Fit P f) (i : ℕ) where
   step-marked : eqb (at .status) 3 ≡ true → chosenOf P (fillingIn P f i) ≡ filling P (chosenOf P f) i
   unfolding fillingIn sentHead loadAfter sentPlace
   step-marked e =
-      by (filling-is P (chosenOf P f) i)
-      (rw (laid-place, counted-same P (f .ns) at e, sent-again P (seen P (f .head) (f .words) (f .ns)) i at e, tsn-is (seen P (f .head) (f .words) (f .ns)) at, e))
+      by-law (filling-is P (chosenOf P f) i)
+      (rw (laid-place, counted-same P (f .ns) at e, sent-again P (sendingShown P (f .head) (f .words) (f .ns)) i at e, tsn-is (sendingShown P (f .head) (f .words) (f .ns)) at, e))
 
   step-waiting : eqb (at .status) 3 ≡ false → chosenOf P (fillingIn P f i) ≡ filling P (chosenOf P f) i
   unfolding fillingIn sentHead loadAfter sentPlace
   step-waiting e =
-      by (filling-is P (chosenOf P f) i)
-      (rw (laid-place, counted-shows P (f .ns) at (w .ns) e, sent-first P (seen P (f .head) (f .words) (f .ns)) i at e, tsn-is (seen P (f .head) (f .words) (f .ns)) at, numbered-is P (seen P (f .head) (f .words) (f .ns)) (at .chunk), numbered-is P (seen P (f .head) [] (f .ns)) (at .chunk), e))
+      by-law (filling-is P (chosenOf P f) i)
+      (rw (laid-place, counted-shows P (f .ns) at (w .ns) e, sent-first P (sendingShown P (f .head) (f .words) (f .ns)) i at e, tsn-is (sendingShown P (f .head) (f .words) (f .ns)) at, numbered-is P (sendingShown P (f .head) (f .words) (f .ns)) (at .chunk), numbered-is P (sendingShown P (f .head) [] (f .ns)) (at .chunk), e))
 
   pub step-shows : chosenOf P (fillingIn P f i) ≡ filling P (chosenOf P f) i
   step-shows = go (eqb (at .status) 3) refl
@@ -137,23 +137,23 @@ module _ (P : Profile) (f : Fill) (w : Fit P f) (i : ℕ) where
       go true e = step-marked e
       go false e = step-waiting e
 
-  pub step-fit : Fit P (fillingIn P f i)
+  pub step-fit : FillFits P (fillingIn P f i)
   unfolding fillingIn
   step-fit = record {
-    words = rw (put-long P (f .words) i (sentPlace P (f .head) (f .ns) at)) (w .words);
+    words = rw (place-put-long P (f .words) i (sentPlace P (f .head) (f .ns) at)) (w .words);
     ns = rw (counted-long P (f .ns) at) (w .ns);
     tsn = sent-tsn (f .head) at (w .tsn);
   }
 
 -- ---- the next candidate
 
-goes-at : (P : Profile) (f : Fill) (b : Best) (p : Place) → goes (chosenOf P f) b p ≡ goes (loadedBy (seen P (f .head) [] []) (f .load)) b p
-goes-at P f b p = goes-is (chosenOf P f) b p ∙ sym (goes-is (loadedBy (seen P (f .head) [] []) (f .load)) b p)
+goes-at : (P : Profile) (f : Fill) (b : Best) (p : Place) → goes (chosenOf P f) b p ≡ goes (loadedBy (sendingShown P (f .head) [] []) (f .load)) b p
+goes-at P f b p = goes-is (chosenOf P f) b p ∙ sym (goes-is (loadedBy (sendingShown P (f .head) [] []) (f .load)) b p)
 
 going-alike : (P : Profile) (f : Fill) → going (chosenOf P f) ≡ goingIn P f
 unfolding goingIn
 going-alike P f =
-    let b : Best = bestOf (f .head .acked) (f .head .oldest) (placesOf P (f .words)) in
+    let b : Best = bestPlace (f .head .acked) (f .head .oldest) (placesOf P (f .words)) in
     going-is (chosenOf P f) ∙ (λ k. record { go = goes-at P f b (placeAt P (f .words) (b .place)) k; place = b .place })
 
 -- ---- the whole packet
@@ -171,15 +171,15 @@ run-alike {F} {G} Q m go step go′ step′ a k (suc n) f q =
     at false e = refl
 
 pub filled-shows : (z : Sizes) (P : Profile) (h : Sender) (ws ns : List ℕ) → 8 * P .places ≤ length ws → P .streams ≤ length ns → h .«next_tsn» .0 < 4294967296
-    → chosenOf P (filledIn z P h ws ns) ≡ filled z P (seen P h ws ns)
+    → chosenOf P (filledIn z P h ws ns) ≡ packetFilled z P (sendingShown P h ws ns)
 unfolding filledIn begunIn
 filled-shows z P h ws ns a b t =
-    by (filled-is z P (seen P h ws ns))
-    (run-alike (Fit P) (chosenOf P) (λ f. goingIn P f .go) (λ f. fillingIn P f (goingIn P f .place)) (λ f. going f .go) (λ f. filling P f (going f .place))
+    by-law (filled-is z P (sendingShown P h ws ns))
+    (run-alike (FillFits P) (chosenOf P) (λ f. goingIn P f .go) (λ f. fillingIn P f (goingIn P f .place)) (λ f. going f .go) (λ f. filling P f (going f .place))
     (λ f. ap (λ (x : Going). x .go) (going-alike P f))
     (λ f w. (step-shows P f w (goingIn P f .place) ∙ ap (λ (x : Going). filling P (chosenOf P f) (x .place)) (sym (going-alike P f)), step-fit P f w (goingIn P f .place)))
     (z .bundled) (begunIn z P h ws ns) (record { words = a; ns = b; tsn = t })
-    ∙ ap (λ (x : Chosen). runWhile (λ f. going f .go) (λ f. filling P f (going f .place)) x (z .bundled)) (sym (begun-is z (seen P h ws ns))))
+    ∙ ap (λ (x : Chosen). runWhile (λ f. going f .go) (λ f. filling P f (going f .place)) x (z .bundled)) (sym (begun-is z (sendingShown P h ws ns))))
 
 -- ---- the tables stay as long as they were
 
@@ -191,7 +191,7 @@ step-long : (P : Profile) (ws ns : List ℕ) (f : Fill) → goingIn P f .go ≡ 
 unfolding fillingIn
 step-long P ws ns f e w =
     let i = goingIn P f .place in
-    (put-long P (f .words) i (sentPlace P (f .head) (f .ns) (placeAt P (f .words) i)) ∙ w .0, counted-long P (f .ns) (placeAt P (f .words) i) ∙ w .1)
+    (place-put-long P (f .words) i (sentPlace P (f .head) (f .ns) (placeAt P (f .words) i)) ∙ w .0, counted-long P (f .ns) (placeAt P (f .words) i) ∙ w .1)
 
 pub filled-long : (z : Sizes) (P : Profile) (h : Sender) (ws ns : List ℕ) → (length (filledIn z P h ws ns .words) ≡ length ws) × (length (filledIn z P h ws ns .ns) ≡ length ns)
 unfolding filledIn begunIn

@@ -17,11 +17,11 @@ ghost use Rattle.path.specs.Sizes.{railSizes};
 ghost use Rattle.numbers.specs.Profile.{rail};
 ghost use Rattle.places.specs.Places.{weightOf};
 ghost use Rattle.sending.specs.Sending.{withFlight};
-ghost use Rattle.sending.specs.Choose.{better, bestOf, goes, nextSsn, tsnOf};
-ghost use Rattle.sending.specs.ChooseParts.{loadedBy};
-ghost use Rattle.tables.specs.Place.{placesOf};
+ghost use Rattle.sending.specs.Choose.{betterPlace, bestPlace, goes, nextSsn, tsnOf};
+ghost use Rattle.sending.specs.ChoosePartsLaws.{loadedBy};
+ghost use Rattle.tables.specs.PlaceWords.{placesOf};
 ghost use Rattle.tables.specs.Ssns.{ssnsOf};
-ghost use Rattle.sender.specs.Seen.{seen};
+ghost use Rattle.sender.specs.Seen.{sendingShown};
 ghost use Rattle.choice.specs.Fill.{countedIn, sentPlace, sentHead, loadAfter, filledIn};
 
 // The head after a packet, and the packet.
@@ -33,7 +33,7 @@ pub struct Packed {
 // Place i against the best so far.
 fn better(b: Best, i: usize, p: Place, acked: Tsn, oldest: u32) -> Best
     requires { ⌜ (b .place < 128) × (i < 128) ⌝ }
-    ensures { λ r. ⌜ (r ≡ better acked oldest b i p) × (r .place < 128) ⌝ }
+    ensures { λ r. ⌜ (r ≡ betterPlace acked oldest b i p) × (r .place < 128) ⌝ }
 {
     let k = choosing::rank(p, acked, oldest);
     if k < b.rank {
@@ -44,7 +44,7 @@ fn better(b: Best, i: usize, p: Place, acked: Tsn, oldest: u32) -> Best
 
 // The best of all places.
 fn best_of(t: &[u32; 1024], acked: Tsn, oldest: u32) -> Best
-    ensures { λ r. ⌜ (r ≡ bestOf acked oldest (placesOf rail (now (t .entry)))) × (r .place < 128) ⌝ }
+    ensures { λ r. ⌜ (r ≡ bestPlace acked oldest (placesOf rail (now (t .entry)))) × (r .place < 128) ⌝ }
 {
     let mut b = Best {
         rank: 8589934592,
@@ -61,7 +61,7 @@ fn best_of(t: &[u32; 1024], acked: Tsn, oldest: u32) -> Best
 
 // Whether the next one goes.
 fn goes(s: Sender, l: Load, b: Best, p: Place) -> bool
-    ensures { λ r. ⌜ r ≡ goes (loadedBy (seen rail s [] []) l) b p ⌝ }
+    ensures { λ r. ⌜ r ≡ goes (loadedBy (sendingShown rail s [] []) l) b p ⌝ }
 {
     let path = s.path;
     let k = path.control;
@@ -161,7 +161,7 @@ fn sent_head(mut s: Sender, p: Place) -> Sender
 
 // The TSN that a place goes out with.
 fn tsn_of(s: Sender, p: Place) -> Tsn
-    ensures { λ r. ⌜ r ≡ tsnOf (seen rail s [] []) p ⌝ }
+    ensures { λ r. ⌜ r ≡ tsnOf (sendingShown rail s [] []) p ⌝ }
 {
     if p.status == Place::MARKED {
         let c = p.chunk;

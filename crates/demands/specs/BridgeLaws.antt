@@ -18,7 +18,7 @@ use Rattle.holding.specs.declared.taking.Answer.the-variants.{Taken, Nothing, S
 use Rattle.holding.specs.Taking.{written}
 use Rattle.line.specs.Runs.{take}
 use Rattle.sending.specs.Sending.{isBare}
-use Rattle.sending.specs.Expiry.{expired}
+use Rattle.sending.specs.Expiry.{sendingExpired}
 use Rattle.states.specs.declared.state.State.{State}
 use Rattle.states.specs.declared.call.Call.{Call}
 use Rattle.states.specs.declared.call.Call.the-variants as call
@@ -33,19 +33,19 @@ use Rattle.calls.specs.declared.closing.Reason.{Reason}
 use Rattle.calls.specs.declared.messages.HandedIn.{HandedIn}
 use Rattle.calls.specs.declared.messages.Delivered.{Delivered}
 use Rattle.calls.specs.declared.transmitting.Transmitted.{Transmitted}
-use Rattle.calls.specs.Answer.{isShortOut, isShortArea, barred, Plan, refusing, carrying, unless, answerOf}
-use Rattle.calls.specs.Packet.{headOf}
+use Rattle.calls.specs.Answer.{isShortOut, isShortArea, barred, Plan, refusing, carryingChunk, unless, answerOf}
+use Rattle.calls.specs.Packet.{headToPeer}
 use Rattle.calls.specs.Opening.{initBytes, wanting, associateRefusal, associating}
-use Rattle.calls.specs.Messages.{handedIn, noMessage, undelivered, deliveredAs, taking, takeBar, delivered, deliveredOut}
-use Rattle.calls.specs.Acknowledging.{acknowledged, acknowledgedOut}
+use Rattle.calls.specs.Messages.{handInCall, noMessage, undelivered, deliveredAs, taking, takeBar, delivered, deliveredOut}
+use Rattle.calls.specs.Acknowledging.{acknowledgedCall, acknowledgedOut}
 use Rattle.calls.specs.Transmit.{transmitBar, transmitted}
-use Rattle.calls.specs.Timers.{backedOff, triedTo, expiring, expiringThird, sampling}
+use Rattle.calls.specs.Timers.{associationBackedOff, triedTo, expiring, expiringThird, sampling}
 use Rattle.calls.specs.Closing.{shutting, aborting}
 use Rattle.calls.specs.Telling.{tellingStream, staleRefusal, tellingStale, beating}
 use Rattle.events.specs.declared.event.Event.{Event}
 use Rattle.events.specs.declared.event.Event.the-variants.{Associate, HandIn, Take, Acknowledge, Shutdown, Abort, Heartbeat, Sample}
 use Rattle.events.specs.Told.{ofAcknowledged, ofDelivered}
-use Rattle.events.specs.Happening.{Buffers, Left, leaving, planned, tellingAny, halves, happened}
+use Rattle.events.specs.Happening.{Buffers, EventLeft, leaving, planned, tellingAny, halves, happened}
 use Rattle.events.specs.HappenedLaws.{any-keeps, Each, each-event}
 use Rattle.demands.specs.News.{News, took, untaken, sacked, newsOfTake, newsOf}
 use Rattle.demands.specs.Heard.{Heard, asks, take-barred, begins, heardOf, Side, sideOf, takenAs, goesOn, saidOn, circleGoes, circleSaid}
@@ -59,7 +59,7 @@ module _ (a : Association) (b : Buffers) where
   now = sideOf a (b .received)
 
   -- what a call leaves is what it asks
-  abbrev pub Follows : Event → Left → Type 0
+  abbrev pub Follows : Event → EventLeft → Type 0
   Follows e x = (sideOf (x .ran .association) (x .received) ≡ circleGoes now (heardOf a e b)) × (newsOf e b x ≡ circleSaid now (heardOf a e b))
 
   -- ---- calls that ask nothing
@@ -78,7 +78,7 @@ module _ (a : Association) (b : Buffers) where
   answer-still p out h = h
 
   tried-still : (s : State) → Still (triedTo a s)
-  unfolding triedTo backedOff
+  unfolding triedTo associationBackedOff
   tried-still = each-state (λ s. Still (triedTo a s)) refl (λ n. refl) (λ n. refl) refl refl (λ n. refl) refl (λ n. refl)
 
   expiry-still : (c : Call) → Still (expiring a c (b .out))
@@ -89,7 +89,7 @@ module _ (a : Association) (b : Buffers) where
   unfolding expiringThird
   third-still =
       unless-still (barred a false call.ThirdTimer) _
-      (pick-keeps Still (eqb (expired (sizesOf (a .sending .mode)) (a .sending) .number) 0) _ _ (pick-keeps Still (expired (sizesOf (a .sending .mode)) (a .sending) .over) _ _ refl refl) refl)
+      (pick-keeps Still (eqb (sendingExpired (sizesOf (a .sending .mode)) (a .sending) .number) 0) _ _ (pick-keeps Still (sendingExpired (sizesOf (a .sending .mode)) (a .sending) .over) _ _ refl refl) refl)
 
   sample-still : (ms : ℕ) → Still (sampling a ms)
   unfolding sampling
@@ -119,8 +119,8 @@ module _ (a : Association) (b : Buffers) where
   unfolding transmitted
   transmit-still = pick-keeps (λ (x : Transmitted). Rests (x .association)) (eqb (transmitBar a (b .sent) (b .out)) 0) _ _ refl refl
 
-  hand-in-still : (stream : StreamId) (unordered : Bool) (ppid : ℕ) → Rests (handedIn a (b .sent) (length (b .input)) stream unordered ppid .association)
-  unfolding handedIn
+  hand-in-still : (stream : StreamId) (unordered : Bool) (ppid : ℕ) → Rests (handInCall a (b .sent) (length (b .input)) stream unordered ppid .association)
+  unfolding handInCall
   hand-in-still stream unordered ppid = pick-keeps (λ (x : HandedIn). Rests (x .association)) (eqb (barred a (isShortArea (b .sent)) call.HandIn) 0) _ _ refl refl
 
   -- ---- a take
@@ -159,8 +159,8 @@ module _ (a : Association) (b : Buffers) where
 
   -- ---- a SACK
 
-  sack-follows : Follows Acknowledge (leaving (ofAcknowledged (acknowledged a (b .out))) (acknowledgedOut a (b .out)) b)
-  unfolding heardOf acknowledged goesOn saidOn
+  sack-follows : Follows Acknowledge (leaving (ofAcknowledged (acknowledgedCall a (b .out))) (acknowledgedOut a (b .out)) b)
+  unfolding heardOf acknowledgedCall goesOn saidOn
   sack-follows =
       pick-both (λ (x : Acknowledged) (h : Heard). (sideOf (x .association) (b .received) ≡ circleGoes now (h ∷ [])) × (sacked (x .number) (x .sack) ∷ [] ≡ circleSaid now (h ∷ [])))
       (eqb (barred a (isShortOut (b .out)) call.Acknowledge) 0) _ _ _ _ (refl, refl) (refl, refl)
@@ -175,7 +175,7 @@ module _ (a : Association) (b : Buffers) where
       number = earlier (barred a (isShortOut (b .out)) call.Associate) (associateRefusal (a .ends .«local_port») tag port streams)
 
       init : Plan
-      init = carrying (wanting a tag tsn port streams) (headOf (wanting a tag tsn port streams .ends) 0) (initBytes (wanting a tag tsn port streams))
+      init = carryingChunk (wanting a tag tsn port streams) (headToPeer (wanting a tag tsn port streams .ends) 0) (initBytes (wanting a tag tsn port streams))
 
       go : (t : Bool) → eqb number 0 ≡ t
           → (sideOf (pick t init (refusing a number) .association) (b .received) ≡ circleGoes now (pick (eqb (pick t init (refusing a number) .number) 0) (begins (record { 0 = 1 }) 128 ∷ []) []))

@@ -13,19 +13,19 @@ use Rattle.octets.specs.Walk.{size, walkBy, walk, firstItem, overItems}
 use Rattle.numbers.specs.Numbering.{ring, before, on, far}
 use Rattle.numbers.specs.Profile.{rail}
 use Rattle.numbers.specs.Judgement.{judged}
-use Rattle.numbers.specs.Keeping as keeping
+use Rattle.numbers.specs.Keeping.{freshKeeping, offsetOf, isCome}
 use Rattle.crc32c_register.specs.Register.{bits, crcFrom, crcOf}
 use Rattle.crc32c.specs.Crc.{packetCrc}
 use Rattle.crc32c.specs.Field.{fieldOf, sealed}
 use Rattle.packets.specs.Header.{headerOf}
-use Rattle.packets.specs.Shape.{least, alone, filled, ill, shapeNumber}
+use Rattle.packets.specs.Shape.{least, alone, chunkFilled, ill, shapeNumber}
 use Rattle.packets.specs.Checks.{sizeNumber, sumNumber}
 use Rattle.chunks.specs.Kind.{kindOf}
-use Rattle.chunks.specs.Frame.{ended, partFrom}
+use Rattle.chunks.specs.Frame.{chunkEnd, partFrom}
 use Rattle.chunks.specs.DataChunk.{dataOf}
 use Rattle.holding.specs.declared.held.Chunk.{Chunk}
 use Rattle.holding.specs.Held.{holds}
-use Rattle.delivery.specs.Receiving.{fresh, isLow, lowOf}
+use Rattle.delivery.specs.Receiving.{freshReceiving, isLow, lowOf}
 use Rattle.delivery.specs.Contradiction.{contradicts, contradictsNext, clashes, isContradicted}
 use Rattle.delivery.specs.Arrival as arrival
 use Rattle.line.specs.Runs.{arrive, start}
@@ -36,13 +36,13 @@ use Rattle.association.specs.declared.ends.Ends.{Ends}
 use Rattle.association.specs.declared.ends.Association.{Association}
 use Rattle.association.specs.Fresh.{started}
 use Rattle.association.specs.Bounds.{areAgreed, areEnds, leastArea, leastOut, earlier}
-use Rattle.association.specs.KeptLaws.{kept-started}
+use Rattle.association.specs.AssociationKeptLaws.{kept-started}
 use Rattle.steps.specs.declared.lent.Lent.{Lent}
 use Rattle.steps.specs.declared.lent.Echoed.the-variants.{Bad}
-use Rattle.steps.specs.Carrying.{chunkOf}
+use Rattle.steps.specs.Carrying.{dataArriving}
 use Rattle.arriving.specs.Tags.{arePorts, ruleOf, ruleFor, headNumber}
-use Rattle.arriving.specs.Walked.{begun}
-use Rattle.arriving.specs.Arrival.{lentNumber, packetNumber, numberOf}
+use Rattle.arriving.specs.Walked.{walkBegun}
+use Rattle.arriving.specs.Arrival.{lentNumber, packetNumber, arrivalNumber}
 use Rattle.events.specs.declared.event.Event.the-variants.{Packet}
 use Rattle.demands.specs.News.{numbered}
 use Rattle.demands.specs.Heard.{Heard, asks, chunkHeard, listened, listenedOver, heardOf, goesOn, saidOn, circleGoes}
@@ -59,14 +59,14 @@ ends = record { «local_port» = 5001; «peer_port» = 5000; «my_tag» = 1; «p
 
 -- fresh, for the peer's initial TSN
 abbrev here : Association
-here = started Established ends (record { 0 = 1 }) 1500 (record { 0 = sender.last }) 0
+here = started Established ends (record { 0 = 1 }) 1500 (record { 0 = sender.exampleLast }) 0
 
 abbrev nothing : Lent
 nothing = record { tag = 0; tsn = record { 0 = 0 }; streams = 0; options = 0 }
 
 -- the DATA, as the receiving side gets it
 abbrev came : Chunk
-came = record { begin = true; end = true; unordered = false; tsn = record { 0 = sender.last }; stream = record { 0 = 0 }; ssn = record { 0 = 0 }; ppid = 7 }
+came = record { begin = true; end = true; unordered = false; tsn = record { 0 = sender.exampleLast }; stream = record { 0 = 0 }; ssn = record { 0 = 0 }; ppid = 7 }
 
 abbrev heard : List Heard
 heard = asks (arrive came (0 ∷ 9 ∷ [])) ∷ []
@@ -80,18 +80,18 @@ module _ (area out : List ℕ) (long : 65536 ≤ length area) (room : 1472 ≤ l
   lent-well : lentNumber here (length area) (length out) ≡ 0
   unfolding lentNumber
   lent-well =
-      rw (kept-started Established ends (record { 0 = 1 }) 1500 (record { 0 = sender.last }) 0 refl ended-well (omega arith) (omega arith) (omega arith) .sound, le-ltb (length area) leastArea long, le-ltb (length out) leastOut room)
+      rw (kept-started Established ends (record { 0 = 1 }) 1500 (record { 0 = sender.exampleLast }) 0 refl ended-well (omega arith) (omega arith) (omega arith) .sound, le-ltb (length area) leastArea long, le-ltb (length out) leastOut room)
 
   written-well : packetNumber here packet Bad ≡ 0
-  unfolding packetNumber sizeNumber sumNumber sealed fieldOf packetCrc crcOf crcFrom bits headNumber arePorts ruleFor ruleOf headerOf shapeNumber firstItem walk walkBy size ill least filled alone u16 u32 big
+  unfolding packetNumber sizeNumber sumNumber sealed fieldOf packetCrc crcOf crcFrom bits headNumber arePorts ruleFor ruleOf headerOf shapeNumber firstItem walk walkBy size ill least chunkFilled alone u16 u32 big
   written-well = refl
 
-  let-in : numberOf here area packet Bad out ≡ 0
-  unfolding numberOf
+  let-in : arrivalNumber here area packet Bad out ≡ 0
+  unfolding arrivalNumber
   let-in = ap (λ (n : ℕ). earlier n (packetNumber here packet Bad)) lent-well ∙ written-well
 
   one-chunk : listenedOver here area packet nothing [] Bad .heard ≡ heard
-  unfolding listenedOver overItems walk walkBy size u16 u32 big listened begun chunkHeard rowOf kindOf chunkOf dataOf partFrom ended
+  unfolding listenedOver overItems walk walkBy size u16 u32 big listened walkBegun chunkHeard rowOf kindOf dataArriving dataOf partFrom chunkEnd
   one-chunk = refl
 
   abbrev host : Host
@@ -104,11 +104,11 @@ module _ (area out : List ℕ) (long : 65536 ≤ length area) (room : 1472 ≤ l
   unfolding heardIn heardOf
   asked = (λ i. pick (eqb (let-in i) 0) (one-chunk i) [] ++ [])
 
-  point-is : begunLine sender.last 1 area .lent .receiving .keeping .point .0 + 1 ≡ sender.first
-  unfolding fresh keeping.fresh before
+  point-is : begunLine sender.exampleLast 1 area .lent .receiving .keeping .point .0 + 1 ≡ sender.exampleFirst
+  unfolding freshReceiving freshKeeping before
   point-is = refl
 
-  fresh-yet : circleGoes (sideIn host) [] ≡ record { lent = start (ring (2 ^ 32)) rail (record { 0 = sender.last }) area; streams = 1 }
+  fresh-yet : circleGoes (sideIn host) [] ≡ record { lent = start (ring (2 ^ 32)) rail (record { 0 = sender.exampleLast }) area; streams = 1 }
   unfolding goesOn
   fresh-yet = refl
 
@@ -119,18 +119,18 @@ module _ (area out : List ℕ) (long : 65536 ≤ length area) (room : 1472 ≤ l
     before = [];
     since = heard;
     asked = asked;
-    initial = sender.last;
+    initial = sender.exampleLast;
     small = omega arith;
     streams = 1;
     area = area;
     fresh = fresh-yet;
-    chunk = sender.chunk;
+    chunk = sender.exampleChunk;
     payload = sender.payload;
     honest = sender.honest;
-    fair = (record { number = sender.first; from = omega arith; same = refl; whole = refl; near = (omega (arith, point-is), omega (arith, point-is)) }, tt);
+    fair = (record { number = sender.exampleFirst; from = omega arith; same = refl; whole = refl; near = (omega (arith, point-is), omega (arith, point-is)) }, tt);
   }
 
   -- what the host of the line receiver is told, and so ours
   pub told-here : hostTold one-arrives ≡ numbered 0 ∷ []
-  unfolding one-arrives saidOn fresh keeping.fresh before on far judged keeping.offsetOf keeping.isCome holds isLow lowOf arrival.isRepeat arrival.isWedged arrival.judgementOf contradicts contradictsNext clashes isContradicted arrival.verdictOf arrival.arrived
+  unfolding one-arrives saidOn freshReceiving freshKeeping before on far judged offsetOf isCome holds isLow lowOf arrival.isRepeat arrival.isWedged arrival.judgementOf contradicts contradictsNext clashes isContradicted arrival.verdictOf arrival.arrived
   told-here = host-demand-3 one-arrives .told

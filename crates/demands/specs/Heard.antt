@@ -16,8 +16,8 @@ use Rattle.chunks.specs.InitChunk.{initOf}
 use Rattle.parameters.specs.Parameter.{valueOf, isThere, COOKIE, NAME}
 use Rattle.holding.specs.declared.taking.Answer.{Answer as Taking}
 use Rattle.holding.specs.declared.taking.Answer.the-variants.{Taken, Nothing, Short}
-use Rattle.delivery.specs.Arrival.{numberOf}
-use Rattle.line.specs.Runs.{Event as LineEvent, arrive, take, sack, Answer, judges, gives, tells, Lent, turn, start}
+use Rattle.delivery.specs.Arrival.{verdictNumber}
+use Rattle.line.specs.Runs.{ReceiverEvent, arrive, take, sack, EventAnswer, judges, gives, tells, ReceiverLent, eventTurn, start}
 use Rattle.states.specs.declared.state.State.{State}
 use Rattle.states.specs.declared.call.Call.the-variants as call
 use Rattle.states.specs.declared.rows.Row.{Row}
@@ -30,16 +30,16 @@ use Rattle.steps.specs.declared.lent.Echoed.{Echoed}
 use Rattle.steps.specs.declared.lent.Echoed.the-variants.{Bad, Stale, Good}
 use Rattle.steps.specs.declared.meeting.Action.{Action}
 use Rattle.steps.specs.Lent.{heeded}
-use Rattle.steps.specs.Opening.{isPoor, isOdd}
-use Rattle.steps.specs.Meeting.{actionOf, starts}
-use Rattle.steps.specs.Carrying.{chunkOf, payloadOf}
+use Rattle.steps.specs.Opening.{isPoor, isCookieOdd}
+use Rattle.steps.specs.Meeting.{actionOf, startsAnew}
+use Rattle.steps.specs.Carrying.{dataArriving, payloadOf}
 use Rattle.steps.specs.Steps.{rowMet}
-use Rattle.arriving.specs.Walked.{Turn, begun, besideAt, turned}
-use Rattle.arriving.specs.Arrival as arrival
+use Rattle.arriving.specs.Walked.{Turn, walkBegun, besideAt, turned}
+use Rattle.arriving.specs.Arrival.{arrivalNumber}
 use Rattle.calls.specs.Answer.{isShortOut, barred}
 use Rattle.calls.specs.Opening.{associating}
 use Rattle.calls.specs.Messages.{takeBar}
-use Rattle.calls.specs.Acknowledging as acknowledging
+use Rattle.calls.specs.Acknowledging.{sackValues, noSack}
 use Rattle.events.specs.declared.event.Event.{Event}
 use Rattle.events.specs.declared.event.Event.the-variants.{Packet, Associate, HandIn, Transmit, Take, Acknowledge, T1, T2, T3, Shutdown, Abort, ErrorStream, ErrorStale, Heartbeat, Sample, Unknown}
 use Rattle.events.specs.Happening.{Buffers}
@@ -47,7 +47,7 @@ use Rattle.demands.specs.News.{News, numbered, took, untaken, sacked, is
 
 pub data Heard : Type 0 where
   -- the receiving side is asked: by a DATA that the state reads, by a take, for a SACK
-  asks : LineEvent → Heard
+  asks : ReceiverEvent → Heard
   -- a DATA arrives that the state does not read: 7
   not-read : Heard
   -- a take into this output, or a SACK, is refused before that side is asked: 1, 18, 7
@@ -62,11 +62,11 @@ pub data Heard : Type 0 where
 abbrev pub ackStart : List ℕ → List Heard
 ackStart s =
     pick (isPoor (initOf s)) []
-    (pick (isOdd (valueOf COOKIE 4 s .len)) [] (pick (isThere NAME s) [] (begins (initOf s .tsn) (smaller 128 (initOf s .outs)) ∷ [])))
+    (pick (isCookieOdd (valueOf COOKIE 4 s .len)) [] (pick (isThere NAME s) [] (begins (initOf s .tsn) (smaller 128 (initOf s .outs)) ∷ [])))
 
 -- "a good echo starts from a fresh record only where it restarts (A) or enters ESTABLISHED; else what was received stays" (02, T-08)
 abbrev pub actStart : State → Made → Action → List Heard
-actStart state m x = pick (starts x state) (begins (m .«peer_tsn») (m .«streams_in») ∷ []) []
+actStart state m x = pick (startsAnew x state) (begins (m .«peer_tsn») (m .«streams_in») ∷ []) []
 
 abbrev pub wordStart : Association → Echoed → List Heard
 wordStart a (Good m) = actStart (a .state) m (actionOf (a .state) (a .ends) m)
@@ -74,11 +74,11 @@ wordStart a (Stale m) = []
 wordStart a Bad = []
 
 abbrev pub echoStart : Association → Echoed → List ℕ → List Heard
-echoStart a e s = pick (isOdd (partFrom 4 s .len)) [] (wordStart a e)
+echoStart a e s = pick (isCookieOdd (partFrom 4 s .len)) [] (wordStart a e)
 
 -- a DATA, as the receiving side gets it
 abbrev pub arrives : List ℕ → Heard
-arrives s = asks (arrive (chunkOf s) (payloadOf s))
+arrives s = asks (arrive (dataArriving s) (payloadOf s))
 
 -- by the row of the state table that it meets
 abbrev pub rowHeard : Association → Beside → List ℕ → Row → List Heard
@@ -128,13 +128,13 @@ listened b cookie packet h s = record {
 unfoldable pub listenedOver : Association → List ℕ → List ℕ → lending.Lent → List ℕ → Echoed → Hearing
 listenedOver a area packet lent cookie e =
     overItems (listened (record { first = true; source = headerOf packet .source; lent = lent; echoed = e }) cookie packet)
-    (record { walking = begun a area; heard = [] }) packet 12
+    (record { walking = walkBegun a area; heard = [] }) packet 12
 
 -- ---- of one call
 
 unfoldable pub heardOf : Association → Event → Buffers → List Heard
 heardOf a (Packet l e) b =
-    pick (eqb (arrival.numberOf a (b .received) (b .input) e (b .out)) 0)
+    pick (eqb (arrivalNumber a (b .received) (b .input) e (b .out)) 0)
     (listenedOver a (b .received) (b .input) l (b .cookie) (heeded (a .state) (a .ends) e) .heard)
     []
 heardOf a Take b = pick (eqb (takeBar a (b .received)) 0) (asks (take (b .out))) (take-barred (takeBar a (b .received)) (b .out)) ∷ []
@@ -160,21 +160,21 @@ heardOf a Unknown b = []
 
 -- that side, its area, and how many streams the peer may use
 pub record Side : Type 0 where
-  pub lent : Lent
+  pub lent : ReceiverLent
   pub streams : ℕ
 
 abbrev pub sideOf : Association → List ℕ → Side
 sideOf a area = record { lent = record { receiving = a .receiving; area = area }; streams = a .ends .«streams_in» }
 
 abbrev pub sideBy : Numberings → Side → Heard → Side
-sideBy N k (asks e) = record { lent = turn N rail (k .streams) (k .lent) e .lent; streams = k .streams }
+sideBy N k (asks e) = record { lent = eventTurn N rail (k .streams) (k .lent) e .lent; streams = k .streams }
 sideBy N k not-read = k
 sideBy N k (take-barred n out) = k
 sideBy N k (sack-barred n) = k
 sideBy N k (begins t n) = record { lent = start (N .tsn) rail t (k .lent .area); streams = n }
 
 -- the output that an event lends
-abbrev pub lentBy : LineEvent → List ℕ
+abbrev pub lentBy : ReceiverEvent → List ℕ
 lentBy (arrive c bytes) = []
 lentBy (take out) = out
 lentBy sack = []
@@ -185,16 +185,16 @@ takenAs lent (Taken m) now = took lent m now
 takenAs lent Nothing now = untaken 17 0 now
 takenAs lent (Short n) now = untaken 18 n now
 
-abbrev pub newsBy : List ℕ → Answer → News
-newsBy lent (judges v) = numbered (numberOf v)
+abbrev pub newsBy : List ℕ → EventAnswer → News
+newsBy lent (judges v) = numbered (verdictNumber v)
 newsBy lent (gives t now) = takenAs lent t now
-newsBy lent (tells s) = sacked 0 (acknowledging.chunkOf s)
+newsBy lent (tells s) = sacked 0 (sackValues s)
 
 abbrev pub saidOf : Numberings → Side → Heard → List News
-saidOf N k (asks e) = newsBy (lentBy e) (turn N rail (k .streams) (k .lent) e .answer) ∷ []
+saidOf N k (asks e) = newsBy (lentBy e) (eventTurn N rail (k .streams) (k .lent) e .answer) ∷ []
 saidOf N k not-read = numbered 7 ∷ []
 saidOf N k (take-barred n out) = untaken n 0 out ∷ []
-saidOf N k (sack-barred n) = sacked n acknowledging.noSack ∷ []
+saidOf N k (sack-barred n) = sacked n noSack ∷ []
 saidOf N k (begins t n) = []
 
 -- of all that is heard

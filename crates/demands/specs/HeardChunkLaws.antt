@@ -22,7 +22,7 @@ use Rattle.parameters.specs.Stale.{staleIn}
 use Rattle.delivery.specs.declared.arrival.Arrival.{Arrival}
 use Rattle.delivery.specs.declared.arrival.Verdict.{Verdict}
 use Rattle.delivery.specs.declared.arrival.Verdict.the-variants.{Kept, Empty, Long, Opposite, Duplicate, Wedged, Far, Stray, Clashing}
-use Rattle.delivery.specs.Arrival as receiver
+use Rattle.delivery.specs.Arrival.{verdictNumber}
 use Rattle.states.specs.declared.state.State.{State}
 use Rattle.states.specs.declared.state.State.the-variants.{ShutdownAckSent}
 use Rattle.states.specs.declared.rows.Met.{Met}
@@ -38,14 +38,14 @@ use Rattle.steps.specs.declared.lent.Echoed.{Echoed}
 use Rattle.steps.specs.declared.lent.Echoed.the-variants.{Bad, Stale, Good}
 use Rattle.steps.specs.declared.meeting.Action.{Action}
 use Rattle.steps.specs.declared.meeting.Action.the-variants.{Restart, Retag, Late, Again, Outside}
-use Rattle.steps.specs.Verdict.{Step, numberOf}
-use Rattle.steps.specs.Opening.{isPoor, isOdd, isPoorLent, answerInit, echoing, echoedBack, takeInitAck, established}
-use Rattle.steps.specs.Meeting.{offered, repeatAck, actionOf, starts, withPeerTag, stays, acts, readEcho}
+use Rattle.steps.specs.Verdict.{Step, fateNumber}
+use Rattle.steps.specs.Opening.{isPoor, isCookieOdd, isPoorLent, answerInit, echoing, echoedBack, takeInitAck, established}
+use Rattle.steps.specs.Meeting.{offered, repeatAck, actionOf, startsAnew, withPeerTag, stays, acts, readEcho}
 use Rattle.steps.specs.Carrying.{isKept, arrivalIn, arrivalOf, dataRead, readData, lateDataRead, readLateData, areaIn, areaData, heardSack, isLast, readSack, readSackPending, readSackReceived, echoHeartbeat, clearTries}
 use Rattle.steps.specs.Closing.{heardShutdown, readError, readShutdown, answerShutdown}
 use Rattle.steps.specs.Unknown.{passUnknown, tellUnknown}
-use Rattle.steps.specs.Steps.{rowStep, rowArea, metBy, rowMet, stepOf, areaOf}
-use Rattle.arriving.specs.Verdict.{fateCode}
+use Rattle.steps.specs.Steps.{rowStep, rowArea, metBy, rowMet, stepOf, stepArea}
+use Rattle.arriving.specs.ChunkVerdict.{fateCode}
 use Rattle.demands.specs.News.{numbered, isData}
 use Rattle.demands.specs.Heard.{Heard, not-read, ackStart, actStart, echoStart, arrives, rowHeard, chunkHeard, Side, sideOf, goesOn, saidOn, circleGoes, circleSaid}
 
@@ -99,7 +99,7 @@ module _ (a : Association) (area s : List ℕ) where
   unfolding takeInitAck echoedBack echoing goesOn
   ack-goes room =
       pick-both (λ (p : Step) hs. Goes p area hs) (isPoor (initOf s)) _ _ _ _ refl
-      (pick-both (λ (p : Step) hs. Goes p area hs) (isOdd (valueOf COOKIE 4 s .len)) _ _ _ _ refl
+      (pick-both (λ (p : Step) hs. Goes p area hs) (isCookieOdd (valueOf COOKIE 4 s .len)) _ _ _ _ refl
       (pick-both (λ (p : Step) hs. Goes p area hs) (isThere NAME s) _ _ _ _ refl refl))
 
   -- an echo that starts nothing changes at most the peer's tag
@@ -113,14 +113,14 @@ module _ (a : Association) (area s : List ℕ) where
 
   acts-goes : (room source : ℕ) (m : Made) (x : Action) → Goes (acts room a source m x) area (actStart (a .state) m x)
   unfolding acts established goesOn
-  acts-goes room source m x = pick-both (λ (p : Step) hs. Goes p area hs) (starts x (a .state)) _ _ _ _ refl (stays-rests room m x)
+  acts-goes room source m x = pick-both (λ (p : Step) hs. Goes p area hs) (startsAnew x (a .state)) _ _ _ _ refl (stays-rests room m x)
 
   echo-goes : (room : ℕ) (e : Echoed) (source : ℕ) → Goes (readEcho room a e source s) area (echoStart a e s)
   unfolding readEcho goesOn
   echo-goes room (Good m) source =
-      pick-both (λ (p : Step) hs. Goes p area hs) (isOdd (partFrom 4 s .len)) _ _ _ _ refl (acts-goes room source m (actionOf (a .state) (a .ends) m))
-  echo-goes room (Stale m) source = pick-both (λ (p : Step) hs. Goes p area hs) (isOdd (partFrom 4 s .len)) _ _ _ _ refl refl
-  echo-goes room Bad source = pick-both (λ (p : Step) hs. Goes p area hs) (isOdd (partFrom 4 s .len)) _ _ _ _ refl refl
+      pick-both (λ (p : Step) hs. Goes p area hs) (isCookieOdd (partFrom 4 s .len)) _ _ _ _ refl (acts-goes room source m (actionOf (a .state) (a .ends) m))
+  echo-goes room (Stale m) source = pick-both (λ (p : Step) hs. Goes p area hs) (isCookieOdd (partFrom 4 s .len)) _ _ _ _ refl refl
+  echo-goes room Bad source = pick-both (λ (p : Step) hs. Goes p area hs) (isCookieOdd (partFrom 4 s .len)) _ _ _ _ refl refl
 
   -- ---- what is carried beside it, and what closes
 
@@ -203,8 +203,8 @@ module _ (a : Association) (area s : List ℕ) where
     row-goes (PassUnknown h) = pass-rests h
     row-goes (TellUnknown h) = tell-rests h
 
-    pub chunk-goes : Goes (stepOf room a b cookie s) (areaOf a b area s) (chunkHeard a b s)
-    unfolding stepOf areaOf chunkHeard
+    pub chunk-goes : Goes (stepOf room a b cookie s) (stepArea a b area s) (chunkHeard a b s)
+    unfolding stepOf stepArea chunkHeard
     chunk-goes = row-goes (rowMet a b s)
 
 -- ---- the number that is told of it
@@ -299,7 +299,7 @@ other-row (kind.Unknown h) m s e = each-state (Unlike (cells (kind.Unknown h) m)
 
 -- what is told of a DATA that the receiving side answers so: its number, and that it was not left unread
 data-number : (a : Association) (s : List ℕ) (o : Arrival) (v : Verdict) → o .verdict ≡ v
-    → (numberOf (dataRead a s o .fate) ≡ receiver.numberOf v) × (eqb (fateCode (dataRead a s o .fate)) 6 ≡ false)
+    → (fateNumber (dataRead a s o .fate) ≡ verdictNumber v) × (eqb (fateCode (dataRead a s o .fate)) 6 ≡ false)
 unfolding dataRead
 data-number a s o Kept e = rw e (refl, refl)
 data-number a s o Empty e = rw e (refl, refl)
@@ -312,7 +312,7 @@ data-number a s o Stray e = rw e (refl, refl)
 data-number a s o Clashing e = rw e (refl, refl)
 
 late-number : (a : Association) (s : List ℕ) (o : Arrival) (v : Verdict) → o .verdict ≡ v
-    → (numberOf (lateDataRead a s o .fate) ≡ receiver.numberOf v) × (eqb (fateCode (lateDataRead a s o .fate)) 6 ≡ false)
+    → (fateNumber (lateDataRead a s o .fate) ≡ verdictNumber v) × (eqb (fateCode (lateDataRead a s o .fate)) 6 ≡ false)
 unfolding dataRead
 late-number a s o Kept e = rw e (refl, refl)
 late-number a s o Empty e = rw e (refl, refl)
@@ -331,7 +331,7 @@ module _ (room : ℕ) (a : Association) (b : Beside) (cookie area s : List ℕ) 
   -- of a DATA
   abbrev Tells : Row → Type 0
   Tells r =
-      (numbered (numberOf (rowStep room a b cookie s r .fate)) ∷ [] ≡ circleSaid now (rowHeard a b s r)) × (eqb (fateCode (rowStep room a b cookie s r .fate)) 6 ≡ false)
+      (numbered (fateNumber (rowStep room a b cookie s r .fate)) ∷ [] ≡ circleSaid now (rowHeard a b s r)) × (eqb (fateCode (rowStep room a b cookie s r .fate)) 6 ≡ false)
 
   refused-tells : isData s ≡ true → Tells Refused
   unfolding saidOn
@@ -351,7 +351,7 @@ module _ (room : ℕ) (a : Association) (b : Beside) (cookie area s : List ℕ) 
       each-state (λ state. Tells (cells kind.Data m state)) no (λ n. no) (λ n. no) now-tells now-tells (λ n. late-tells) no (λ n. no)
 
   pub chunk-tells : isData s ≡ true
-      → (numbered (numberOf (stepOf room a b cookie s .fate)) ∷ [] ≡ circleSaid now (chunkHeard a b s)) × (eqb (fateCode (stepOf room a b cookie s .fate)) 6 ≡ false)
+      → (numbered (fateNumber (stepOf room a b cookie s .fate)) ∷ [] ≡ circleSaid now (chunkHeard a b s)) × (eqb (fateCode (stepOf room a b cookie s .fate)) 6 ≡ false)
   unfolding stepOf chunkHeard rowOf
   chunk-tells e = rw (data-kind (u8 s 0) e) (data-tells e (metBy a b) (a .state))
 
@@ -363,14 +363,14 @@ module _ (room : ℕ) (a : Association) (b : Beside) (cookie area s : List ℕ) 
   unfolding saidOn
   ack-silent =
       pick-keeps Silent (isPoor (initOf s)) _ _ refl
-      (pick-keeps Silent (isOdd (valueOf COOKIE 4 s .len)) _ _ refl (pick-keeps Silent (isThere NAME s) _ _ refl refl))
+      (pick-keeps Silent (isCookieOdd (valueOf COOKIE 4 s .len)) _ _ refl (pick-keeps Silent (isThere NAME s) _ _ refl refl))
 
   echo-silent : (e : Echoed) → Silent (echoStart a e s)
   unfolding saidOn
   echo-silent (Good m) =
-      pick-keeps Silent (isOdd (partFrom 4 s .len)) _ _ refl (pick-keeps Silent (starts (actionOf (a .state) (a .ends) m) (a .state)) _ _ refl refl)
-  echo-silent (Stale m) = pick-keeps Silent (isOdd (partFrom 4 s .len)) _ _ refl refl
-  echo-silent Bad = pick-keeps Silent (isOdd (partFrom 4 s .len)) _ _ refl refl
+      pick-keeps Silent (isCookieOdd (partFrom 4 s .len)) _ _ refl (pick-keeps Silent (startsAnew (actionOf (a .state) (a .ends) m) (a .state)) _ _ refl refl)
+  echo-silent (Stale m) = pick-keeps Silent (isCookieOdd (partFrom 4 s .len)) _ _ refl refl
+  echo-silent Bad = pick-keeps Silent (isCookieOdd (partFrom 4 s .len)) _ _ refl refl
 
   row-silent : isData s ≡ false → (r : Row) → isRead r ≡ false → Silent (rowHeard a b s r)
   unfolding saidOn

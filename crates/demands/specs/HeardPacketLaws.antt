@@ -23,16 +23,15 @@ use Rattle.steps.specs.declared.chunk.Beside.{Beside}
 use Rattle.steps.specs.declared.lent.Lent.{Lent}
 use Rattle.steps.specs.declared.lent.Echoed.{Echoed}
 use Rattle.steps.specs.declared.verdict.Done.{Done}
-use Rattle.steps.specs.Verdict.{numberOf, doneWith}
+use Rattle.steps.specs.Verdict.{fateNumber, doneWith}
 use Rattle.steps.specs.Lent.{heeded}
 use Rattle.arriving.specs.declared.verdict.Verdict.{Verdict}
 use Rattle.arriving.specs.declared.walk.Walked.{Walked}
 use Rattle.arriving.specs.declared.arrival.Arrived.{Arrived}
-use Rattle.arriving.specs.Verdict.{fateCode, unreadAt, verdictOf}
-use Rattle.arriving.specs.Walked.{Turn, begun, noted, takenIn, besideAt, roomOf, stepAt, replyAt, turned, walkedOver}
+use Rattle.arriving.specs.ChunkVerdict.{fateCode, unreadAt, chunkVerdict}
+use Rattle.arriving.specs.Walked.{Turn, walkBegun, verdictNoted, chunkTakenIn, besideAt, replyRoom, chunkStep, replyAt, turned, walkedOver}
 use Rattle.arriving.specs.WalkedLaws.{walkedAs}
-use Rattle.arriving.specs.Arrival as arrival
-use Rattle.arriving.specs.Arrival.{lentNumber, packetNumber, refusedWith, passed, answeredLength, acceptedAs, arrivedOf, areaOf}
+use Rattle.arriving.specs.Arrival.{lentNumber, packetNumber, packetRefused, packetWalked, answeredLength, packetAccepted, arrivedOf, packetArea, arrivalNumber}
 use Rattle.demands.specs.News.{News, numbered, isData, newsOfData}
 use Rattle.demands.specs.Heard.{Heard, chunkHeard, Hearing, listened, listenedOver, Side, sideOf, goesOn, saidOn, circleGoes, circleSaid}
 use Rattle.demands.specs.HeardLaws.{goes-none, said-none, goes-append, said-append, told-append}
@@ -52,8 +51,8 @@ over-at I Q f s k q (suc n) r at h p =
 
 -- one verdict more, while there is room
 noted-is : (w : Walked) (v : Verdict) → w .count < 365
-    → noted w v ≡ walkedAs (w .association) (w .count + 1) (set (w .verdicts) (w .count) v) (w .used) (w .unread) (w .due) (w .complete)
-unfolding noted
+    → verdictNoted w v ≡ walkedAs (w .association) (w .count + 1) (set (w .verdicts) (w .count) v) (w .used) (w .unread) (w .due) (w .complete)
+unfolding verdictNoted
 noted-is w v h = rw (lt-ltb (w .count) 365 h)
 
 -- ---- what is told of one verdict
@@ -63,15 +62,15 @@ unfolding newsOfData
 unread-told packet at = refl
 
 module _ (packet : List ℕ) (at : ℕ) (d : Done) where
-  data-told : isData (drop at packet) ≡ true → eqb (fateCode (d .fate)) 6 ≡ false → newsOfData packet (verdictOf at d ∷ []) ≡ numbered (numberOf (d .fate)) ∷ []
+  data-told : isData (drop at packet) ≡ true → eqb (fateCode (d .fate)) 6 ≡ false → newsOfData packet (chunkVerdict at d ∷ []) ≡ numbered (fateNumber (d .fate)) ∷ []
   unfolding newsOfData
   data-told e f = rw (f, e)
 
-  other-told : isData (drop at packet) ≡ false → newsOfData packet (verdictOf at d ∷ []) ≡ []
+  other-told : isData (drop at packet) ≡ false → newsOfData packet (chunkVerdict at d ∷ []) ≡ []
   unfolding newsOfData
   other-told e = rw e (go (eqb (fateCode (d .fate)) 6))
     where
-      go : (t : Bool) → pick (pick t false false) (numbered (numberOf (d .fate)) ∷ []) [] ≡ []
+      go : (t : Bool) → pick (pick t false false) (numbered (fateNumber (d .fate)) ∷ []) [] ≡ []
       go true = refl
       go false = refl
 
@@ -114,7 +113,7 @@ module _ (packet : List ℕ) (short : length packet ≤ 1472) (b : Beside) (cook
     Next u hs = Passing (at + size s) (record { walking = u; heard = h .heard ++ hs })
 
     -- one verdict more, of a chunk that asked hs
-    on : (u : Turn) (hs : List Heard) (x : Walked) (v : Verdict) → u .walked ≡ noted x v → x .count ≡ w .count → x .verdicts ≡ w .verdicts
+    on : (u : Turn) (hs : List Heard) (x : Walked) (v : Verdict) → u .walked ≡ verdictNoted x v → x .count ≡ w .count → x .verdicts ≡ w .verdicts
         → sideOf (x .association) (u .area) ≡ circleGoes from hs → newsOfData packet (v ∷ []) ≡ circleSaid from hs → Next u hs
     on u hs x v e c l g q = record {
       room = ap (λ (y : Walked). length (y .verdicts)) more ∙ (length-set (x .verdicts) (x .count) v ∙ (ap (λ (vs : List Verdict). length vs) l ∙ p .room));
@@ -142,34 +141,34 @@ module _ (packet : List ℕ) (short : length packet ≤ 1472) (b : Beside) (cook
             ∙ (λ i. take (c i) (l i) ++ (v ∷ []))))
 
     -- left unread, it asks nothing
-    unread-on : (u : Turn) → u .walked ≡ noted w (unreadAt place) → u .area ≡ t .area → Next u []
+    unread-on : (u : Turn) → u .walked ≡ verdictNoted w (unreadAt place) → u .area ≡ t .area → Next u []
     unread-on u e q =
         on u [] w (unreadAt place) e refl refl
         (ap (λ (x : List ℕ). sideOf (w .association) x) q ∙ sym (goes-none circles from))
         (unread-told packet place ∙ sym (said-none circles from))
 
     abbrev done : Done
-    done = doneWith (length (replyAt place b cookie s t)) (stepAt place b cookie s t)
+    done = doneWith (length (replyAt place b cookie s t)) (chunkStep place b cookie s t)
 
     abbrev hears : List Heard
     hears = chunkHeard (w .association) (besideAt place b) s
 
     -- a DATA tells its number, any other chunk nothing
-    tells : newsOfData packet (verdictOf place done ∷ []) ≡ circleSaid from hears
+    tells : newsOfData packet (chunkVerdict place done ∷ []) ≡ circleSaid from hears
     tells = go (isData s) refl
       where
-        go : (x : Bool) → isData s ≡ x → newsOfData packet (verdictOf place done ∷ []) ≡ circleSaid from hears
+        go : (x : Bool) → isData s ≡ x → newsOfData packet (chunkVerdict place done ∷ []) ≡ circleSaid from hears
         go true e =
-            let c = chunk-tells (roomOf t) (w .association) (besideAt place b) cookie (t .area) s e in
+            let c = chunk-tells (replyRoom t) (w .association) (besideAt place b) cookie (t .area) s e in
             data-told packet place done (ap isData seen-here ∙ e) (c .1) ∙ c .0
         go false e =
-            other-told packet place done (ap isData seen-here ∙ e) ∙ sym (chunk-silent (roomOf t) (w .association) (besideAt place b) cookie (t .area) s e)
+            other-told packet place done (ap isData seen-here ∙ e) ∙ sym (chunk-silent (replyRoom t) (w .association) (besideAt place b) cookie (t .area) s e)
 
     listened-on : Passing (at + size s) (listened b cookie packet h s)
-    unfolding listened turned takenIn
+    unfolding listened turned chunkTakenIn
     listened-on =
         pick-both Next (w .unread) _ _ _ _ (unread-on _ refl refl)
-        (on _ hears _ (verdictOf place done) refl refl refl (chunk-goes (w .association) (t .area) s (roomOf t) (besideAt place b) cookie) tells)
+        (on _ hears _ (chunkVerdict place done) refl refl refl (chunk-goes (w .association) (t .area) s (replyRoom t) (besideAt place b) cookie) tells)
 
 -- ---- all chunks
 
@@ -181,17 +180,17 @@ walk-same b cookie packet (i ∷ ks) h = walk-same b cookie packet ks (listened 
 
 module _ (a : Association) (area packet : List ℕ) (lent : Lent) (cookie : List ℕ) where
   module _ (e : Echoed) where
-    over-same : listenedOver a area packet lent cookie e .walking ≡ passed a area packet lent cookie e
-    unfolding listenedOver passed walkedOver overItems
-    over-same = walk-same (record { first = true; source = headerOf packet .source; lent = lent; echoed = e }) cookie packet (walk packet 12) (record { walking = begun a area; heard = [] })
+    over-same : listenedOver a area packet lent cookie e .walking ≡ packetWalked a area packet lent cookie e
+    unfolding listenedOver packetWalked walkedOver overItems
+    over-same = walk-same (record { first = true; source = headerOf packet .source; lent = lent; echoed = e }) cookie packet (walk packet 12) (record { walking = walkBegun a area; heard = [] })
 
     -- what holds of the chunks of a packet that is let in
     abbrev Heeds : Turn → List Heard → Type 0
     Heeds u hs =
         (sideOf (u .walked .association) (u .area) ≡ circleGoes (sideOf a area) hs) × (newsOfData packet (take (u .walked .count) (u .walked .verdicts)) ≡ circleSaid (sideOf a area) hs)
 
-    begun-passing : (b : Beside) (short : length packet ≤ 1472) → Passing packet short b cookie (sideOf a area) 12 (record { walking = begun a area; heard = [] })
-    unfolding begun newsOfData goesOn saidOn
+    begun-passing : (b : Beside) (short : length packet ≤ 1472) → Passing packet short b cookie (sideOf a area) 12 (record { walking = walkBegun a area; heard = [] })
+    unfolding walkBegun newsOfData goesOn saidOn
     begun-passing b short = record { room = length-replicate 365 (unreadAt 0); few = omega arith; side = refl; told = refl }
 
     all-heard : length packet ≤ 1472 → Heeds (listenedOver a area packet lent cookie e .walking) (listenedOver a area packet lent cookie e .heard)
@@ -200,9 +199,9 @@ module _ (a : Association) (area packet : List ℕ) (lent : Lent) (cookie : List
         let b : Beside = record { first = true; source = headerOf packet .source; lent = lent; echoed = e } in
         over-at (Passing packet short b cookie (sideOf a area)) (λ (h : Hearing). Heeds (h .walking) (h .heard)) (listened b cookie packet) packet
         (λ h at l p. listened-on packet short b cookie (sideOf a area) at l h p) (λ h at p. (p .side, p .told)) (length packet)
-        (record { walking = begun a area; heard = [] }) 12 (omega arith) (begun-passing b short)
+        (record { walking = walkBegun a area; heard = [] }) 12 (omega arith) (begun-passing b short)
 
-    passed-heard : length packet ≤ 1472 → Heeds (passed a area packet lent cookie e) (listenedOver a area packet lent cookie e .heard)
+    passed-heard : length packet ≤ 1472 → Heeds (packetWalked a area packet lent cookie e) (listenedOver a area packet lent cookie e .heard)
     passed-heard short = let h = all-heard short in (
       ap (λ (u : Turn). sideOf (u .walked .association) (u .area)) (sym over-same) ∙ h .0,
       ap (λ (u : Turn). newsOfData packet (take (u .walked .count) (u .walked .verdicts))) (sym over-same) ∙ h .1,
@@ -215,27 +214,27 @@ module _ (a : Association) (area packet : List ℕ) (lent : Lent) (cookie : List
   not-two false n h = refl
 
   module _ (e : Echoed) (out : List ℕ) where
-    let-in-short : arrival.numberOf a area packet e out ≡ 0 → length packet ≤ 1472
-    unfolding arrival.numberOf packetNumber
+    let-in-short : arrivalNumber a area packet e out ≡ 0 → length packet ≤ 1472
+    unfolding arrivalNumber packetNumber
     let-in-short z = size-most packet (not-two (eqb (sizeNumber packet) 2) _ (earlier-none (lentNumber a (length area) (length out)) (packetNumber a packet (heeded (a .state) (a .ends) e)) z .1))
 
     abbrev Leaves : Arrived → List ℕ → List Heard → Type 0
     Leaves r after hs =
         (sideOf (r .association) after ≡ circleGoes (sideOf a area) hs) × (newsOfData packet (take (r .count) (r .verdicts)) ≡ circleSaid (sideOf a area) hs)
 
-    refused-leaves : (n : ℕ) → Leaves (refusedWith a n) area []
-    unfolding refusedWith newsOfData goesOn saidOn
+    refused-leaves : (n : ℕ) → Leaves (packetRefused a n) area []
+    unfolding packetRefused newsOfData goesOn saidOn
     refused-leaves n = (refl, refl)
 
-    pub packet-heard : Leaves (arrivedOf a area packet lent cookie e out) (areaOf a area packet lent cookie e out)
-        (pick (eqb (arrival.numberOf a area packet e out) 0) (listenedOver a area packet lent cookie (heeded (a .state) (a .ends) e) .heard) [])
-    unfolding arrivedOf areaOf
-    packet-heard = go (eqb (arrival.numberOf a area packet e out) 0) refl
+    pub packet-heard : Leaves (arrivedOf a area packet lent cookie e out) (packetArea a area packet lent cookie e out)
+        (pick (eqb (arrivalNumber a area packet e out) 0) (listenedOver a area packet lent cookie (heeded (a .state) (a .ends) e) .heard) [])
+    unfolding arrivedOf packetArea
+    packet-heard = go (eqb (arrivalNumber a area packet e out) 0) refl
       where
         turn : Turn
-        turn = passed a area packet lent cookie (heeded (a .state) (a .ends) e)
+        turn = packetWalked a area packet lent cookie (heeded (a .state) (a .ends) e)
 
-        go : (x : Bool) → eqb (arrival.numberOf a area packet e out) 0 ≡ x
-            → Leaves (pick x (acceptedAs (turn .walked) (answeredLength (turn .walked) packet (turn .reply) out)) (refusedWith a (arrival.numberOf a area packet e out))) (pick x (turn .area) area) (pick x (listenedOver a area packet lent cookie (heeded (a .state) (a .ends) e) .heard) [])
-        go true q = passed-heard (heeded (a .state) (a .ends) e) (let-in-short (eqb-true (arrival.numberOf a area packet e out) 0 q))
-        go false q = refused-leaves (arrival.numberOf a area packet e out)
+        go : (x : Bool) → eqb (arrivalNumber a area packet e out) 0 ≡ x
+            → Leaves (pick x (packetAccepted (turn .walked) (answeredLength (turn .walked) packet (turn .reply) out)) (packetRefused a (arrivalNumber a area packet e out))) (pick x (turn .area) area) (pick x (listenedOver a area packet lent cookie (heeded (a .state) (a .ends) e) .heard) [])
+        go true q = passed-heard (heeded (a .state) (a .ends) e) (let-in-short (eqb-true (arrivalNumber a area packet e out) 0 q))
+        go false q = refused-leaves (arrivalNumber a area packet e out)

@@ -11,7 +11,7 @@ use Rattle.line.specs.Runs.{arrive}
 use Rattle.line.specs.Demand.{Messages}
 use Rattle.demands.specs.News.{numbered, givenIn}
 use Rattle.demands.specs.Heard.{asks}
-use Rattle.demands.specs.Stretch.{Call, afterAll, toldIn, heardIn, windowOf, Stretch, reduceNews, reduceSide, lineSide, lineTold, hostLast, hostSide, hostTold}
+use Rattle.demands.specs.Stretch.{Call, afterAll, toldIn, heardIn, windowTold, Stretch, reduceNews, reduceSide, lineSide, lineTold, hostLast, hostSide, hostTold}
 
 pub record HostDemand3 (c : Stretch) : Type 0 where
   -- the number of each DATA, 7 among them, what each take gives with its bytes, and each SACK's values
@@ -24,4 +24,4 @@ pub record HostDemand3 (c : Stretch) : Type 0 where
   -- below the point fills the places
   pub progress : (j : ℕ) → j ≡ suc (lineSide c .lent .receiving .keeping .point .0) → 1 ≤ length (c .payload j) → length (c .payload j) ≤ 512
       → lowOf line (lineSide c .lent .receiving) < 128 → (x : Call) → heardIn (hostLast c) (x ∷ []) ≡ asks (arrive (reduceChunk (2 ^ 32) (2 ^ 16) (c .chunk j)) (c .payload j)) ∷ []
-      → (toldIn (hostLast c) (x ∷ []) ≡ numbered 0 ∷ []) × (windowOf (afterAll (hostLast c) (x ∷ [])) + 512 ≡ windowOf (hostLast c))
+      → (toldIn (hostLast c) (x ∷ []) ≡ numbered 0 ∷ []) × (windowTold (afterAll (hostLast c) (x ∷ [])) + 512 ≡ windowTold (hostLast c))

@@ -8,16 +8,15 @@ use Rattle.numbers.specs.Numbering.{ring, line, circles, lines}
 use Rattle.numbers.specs.Profile.{rail}
 use Rattle.holding.specs.declared.held.Chunk.{Chunk}
 use Rattle.delivery.specs.Receiving.{lowOf}
-use Rattle.delivery.specs.Acknowledging.{acknowledged}
+use Rattle.delivery.specs.ReceivingSack.{acknowledgedReceiving}
 use Rattle.line.specs.Reduce.{reduceChunk}
-use Rattle.line.specs.Runs.{arrive, Event as LineEvent, Lent, start, finally, reduceEvent}
-use Rattle.line.specs.Agreement.{rail-agrees}
-use Rattle.line.specs.Demand as demand
-use Rattle.line.specs.Demand.{Seen, seen, ours, Premises, lineSeen, lineAfter, hostSeen, hostAfter, given, Messages, Holds}
+use Rattle.line.specs.Runs.{arrive, ReceiverEvent, ReceiverLent, start, finally, reduceEvent}
+use Rattle.line.specs.AgreementLaws.{rail-agrees}
+use Rattle.line.specs.Demand.{HostSaw, seen, ours, Premises, lineSeen, lineAfter, hostSeen, hostAfter, given, Messages, Holds, stateAfter}
 use Rattle.line.specs.DemandLaws as receiver
 use Rattle.demands.specs.News.{News, numbered, givenIn}
 use Rattle.demands.specs.Heard.{Heard, asks, Side, goesOn, saidOn, circleGoes, circleSaid}
-use Rattle.demands.specs.Stretch.{Call, afterAll, toldIn, windowOf, Stretch, heardIn, sideIn, reduceNews, reduceSide, lineStart, lineHeard, lineSide, lineTold, hostLast, hostSide, hostTold}
+use Rattle.demands.specs.Stretch.{Call, afterAll, toldIn, windowTold, Stretch, heardIn, sideIn, reduceNews, reduceSide, lineStart, lineHeard, lineSide, lineTold, hostLast, hostSide, hostTold}
 use Rattle.demands.specs.HostDemand.{HostDemand3}
 use Rattle.demands.specs.HeardLaws.{goes-append, said-append}
 use Rattle.demands.specs.BridgeLaws.{calls-go, calls-tell}
@@ -82,7 +81,7 @@ module _ (c : Stretch) where
 
   -- ---- and the receiver's are the line's
 
-  abbrev ourSeen : List Seen
+  abbrev ourSeen : List HostSaw
   ourSeen = hostSeen u (2 ^ 16) ours
 
   seen-is : seen ours (u .streams) (begun .lent) (eventsIn here) ≡ ourSeen
@@ -102,11 +101,11 @@ module _ (c : Stretch) where
   leaves =
       side-is
       ∙ (goes-finally circles here here-stays begun
-      ∙ (ap (λ (es : List LineEvent). side (finally circles rail (u .streams) (begun .lent) es)) here-reached
+      ∙ (ap (λ (es : List ReceiverEvent). side (finally circles rail (u .streams) (begun .lent) es)) here-reached
       ∙ (ap side (rail-agrees (u .initial) (u .small) (u .streams) (u .area) (u .chunk) (u .payload) (u .honest) (u .events) (u .fair) .1)
       ∙ ap (reduceSide (2 ^ 32) (2 ^ 16)) (sym line-left))))
     where
-      side : Lent → Side
+      side : ReceiverLent → Side
       side l = record { lent = l; streams = u .streams }
 
       line-left : lineSide c ≡ side (finally lines rail (u .streams) (lineStart c .lent) (u .events))
@@ -120,7 +119,7 @@ module _ (c : Stretch) where
   host-after : hostSide c .lent ≡ hostAfter u (2 ^ 16) ours
   host-after =
       ap (λ (k : Side). k .lent) (side-is ∙ goes-after circles here here-stays begun)
-      ∙ ap (demand.after ours (u .streams) (begun .lent)) here-reached
+      ∙ ap (stateAfter ours (u .streams) (begun .lent)) here-reached
 
   line-after : lineSide c .lent ≡ lineAfter u
   line-after = ap (λ (k : Side). k .lent) (goes-after lines there there-stays (lineStart c))
@@ -128,22 +127,22 @@ module _ (c : Stretch) where
   held : (j : ℕ) → j ≡ suc (lineSide c .lent .receiving .keeping .point .0) → 1 ≤ length (u .payload j) → length (u .payload j) ≤ 512
       → lowOf line (lineSide c .lent .receiving) < 128 → Holds rail ours (u .streams) (hostSide c .lent) (reduceChunk (2 ^ 32) (2 ^ 16) (u .chunk j)) (u .payload j)
   held j next some fits room =
-      subst (λ (l : Lent). Holds rail ours (u .streams) l (reduceChunk (2 ^ 32) (2 ^ 16) (u .chunk j)) (u .payload j)) (sym host-after)
-      (receiver.demand-3 .progress u j (next ∙ ap (λ (l : Lent). suc (l .receiving .keeping .point .0)) line-after) some fits
-      (subst (λ (l : Lent). lowOf line (l .receiving) < 128) line-after room))
+      subst (λ (l : ReceiverLent). Holds rail ours (u .streams) l (reduceChunk (2 ^ 32) (2 ^ 16) (u .chunk j)) (u .payload j)) (sym host-after)
+      (receiver.demand-3 .progress u j (next ∙ ap (λ (l : ReceiverLent). suc (l .receiving .keeping .point .0)) line-after) some fits
+      (subst (λ (l : ReceiverLent). lowOf line (l .receiving) < 128) line-after room))
 
   streams-are : hostSide c .streams ≡ u .streams
   streams-are = ap (λ (k : Side). k .streams) (side-is ∙ goes-after circles here here-stays begun)
 
   -- a call that brings just this chunk
   module _ (k : Chunk) (bytes : List ℕ) (h : Holds rail ours (u .streams) (hostSide c .lent) k bytes) (x : Call) (brings : heardIn (hostLast c) (x ∷ []) ≡ asks (arrive k bytes) ∷ []) where
-    now-held : (toldIn (hostLast c) (x ∷ []) ≡ numbered 0 ∷ []) × (windowOf (afterAll (hostLast c) (x ∷ [])) + 512 ≡ windowOf (hostLast c))
+    now-held : (toldIn (hostLast c) (x ∷ []) ≡ numbered 0 ∷ []) × (windowTold (afterAll (hostLast c) (x ∷ [])) + 512 ≡ windowTold (hostLast c))
     unfolding saidOn goesOn
     now-held = (
       calls-tell (x ∷ []) (hostLast c)
           ∙ (ap (circleSaid (hostSide c)) brings
           ∙ (ap (λ (n : ℕ). numbered (ours .arrive n (hostSide c .lent) k bytes .answer) ∷ []) streams-are ∙ ap (λ (n : ℕ). numbered n ∷ []) (h .0))),
-      ap (λ (y : Side). acknowledged rail (y .lent .receiving) .sack .window + 512) (calls-go (x ∷ []) (hostLast c) ∙ ap (circleGoes (hostSide c)) brings)
+      ap (λ (y : Side). acknowledgedReceiving rail (y .lent .receiving) .sack .window + 512) (calls-go (x ∷ []) (hostLast c) ∙ ap (circleGoes (hostSide c)) brings)
           ∙ (ap (λ (n : ℕ). ours .sack (ours .arrive n (hostSide c .lent) k bytes .left) .answer .window + 512) streams-are ∙ h .1),
     )
 

@@ -6,15 +6,16 @@ use lib.Dec.{eqb}
 use lib.ListN.{take, drop}
 use Rattle.scans.specs.Scan.{pick}
 use Rattle.octets.specs.Bytes.{u8}
+use Rattle.chunks.specs.Types.{dataType}
 use Rattle.chunks.specs.declared.sack.Sack.{Sack}
 use Rattle.holding.specs.declared.taking.Message.{Message}
 use Rattle.steps.specs.declared.verdict.Fate.the-variants.{Unread}
 use Rattle.arriving.specs.declared.verdict.Verdict.{Verdict}
-use Rattle.arriving.specs.Verdict.{fateCode}
-use Rattle.line.specs.Demand.{Given}
+use Rattle.arriving.specs.ChunkVerdict.{fateCode}
+use Rattle.line.specs.Demand.{GivenMessage}
 use Rattle.events.specs.declared.event.Event.{Event}
 use Rattle.events.specs.declared.event.Event.the-variants.{Packet, Associate, HandIn, Transmit, Take, Acknowledge, T1, T2, T3, Shutdown, Abort, ErrorStream, ErrorStale, Heartbeat, Sample, Unknown}
-use Rattle.events.specs.Happening.{Buffers, Left}
+use Rattle.events.specs.Happening.{Buffers, EventLeft}
 
 pub data News : Type 0 where
   -- of a DATA that arrives: its number
@@ -30,7 +31,7 @@ pub data News : Type 0 where
 
 -- the chunk at the head of s is a DATA
 abbrev pub isData : List ℕ → Bool
-isData s = eqb (u8 s 0) 0
+isData s = eqb (u8 s 0) dataType
 
 -- the verdict is of a DATA, which was not left unread
 abbrev pub isOfData : List ℕ → Verdict → Bool
@@ -46,7 +47,7 @@ abbrev pub newsOfTake : List ℕ → ℕ → Message → List ℕ → News
 newsOfTake lent number m now = pick (eqb number 0) (took lent m now) (untaken number (m .length) now)
 
 -- of any call; no other tells of the receiving side
-abbrev pub newsOf : Event → Buffers → Left → List News
+abbrev pub newsOf : Event → Buffers → EventLeft → List News
 newsOf (Packet l e) b x = newsOfData (b .input) (take (x .ran .told .seen .count) (x .ran .told .seen .verdicts))
 newsOf Take b x = newsOfTake (b .out) (x .ran .told .number) (x .ran .told .message) (x .out) ∷ []
 newsOf Acknowledge b x = sacked (x .ran .told .number) (x .ran .told .sack) ∷ []
@@ -66,7 +67,7 @@ newsOf Unknown b x = []
 
 -- ---- the messages that takes gave
 
-unfoldable pub givenIn : List News → List Given
+unfoldable pub givenIn : List News → List GivenMessage
 givenIn [] = []
 givenIn (numbered n ∷ ts) = givenIn ts
 givenIn (took lent m now ∷ ts) = record { lent = lent; message = m; output = now } ∷ givenIn ts

@@ -3,18 +3,18 @@ use Prim.Native.Nat.{ℕ, _+_, _^_, _<_, _≤_}
 use mathlib.Core.Path.{_≡_}
 use mathlib.Core.List.{List, [], _∷_, _++_, map}
 use lib.ListN.{length, drop}
-use Rattle.numbers.specs.Numbering.{ring, line, lines, Within}
+use Rattle.numbers.specs.Numbering.{ring, line, lines, NearerThan}
 use Rattle.numbers.specs.Profile.{rail}
-use Rattle.numbers.specs.KeepingLine.{reduceTsn}
+use Rattle.numbers.specs.KeepingLineLaws.{reduceTsn}
 use Rattle.chunks.specs.declared.sack.Sack.{Sack}
 use Rattle.holding.specs.declared.held.Chunk.{Chunk}
-use Rattle.delivery.specs.Acknowledging.{acknowledged}
+use Rattle.delivery.specs.ReceivingSack.{acknowledgedReceiving}
 use Rattle.line.specs.Reduce.{reduceChunk, reduceMessage}
-use Rattle.line.specs.Runs.{arrive, take, sack, Lent, start, reduceLent}
-use Rattle.line.specs.Sender.{Sender}
+use Rattle.line.specs.Runs.{arrive, take, sack, ReceiverLent, start, reduceLent}
+use Rattle.line.specs.Sender.{HonestSender}
 use Rattle.association.specs.declared.ends.Association.{Association}
 use Rattle.events.specs.declared.event.Event.{Event}
-use Rattle.events.specs.Happening.{Buffers, Left, happened}
+use Rattle.events.specs.Happening.{Buffers, EventLeft, happened}
 use Rattle.demands.specs.News.{News, numbered, took, untaken, sacked, newsOf}
 use Rattle.demands.specs.Heard.{Heard, asks, not-read, take-barred, sack-barred, begins, heardOf, Side, sideOf, sideBy, goesOn, saidOn, circleGoes, circleSaid}
 
@@ -36,7 +36,7 @@ pub record Call : Type 0 where
 abbrev pub buffersOf : List ℕ → Call → Buffers
 buffersOf area c = record { received = area; sent = c .sent; input = c .input; cookie = c .cookie; out = c .out }
 
-abbrev pub leftByCall : Host → Call → Left
+abbrev pub leftByCall : Host → Call → EventLeft
 leftByCall h c = happened (h .association) (c .event) (buffersOf (h .area) c)
 
 abbrev pub afterCall : Host → Call → Host
@@ -59,8 +59,8 @@ abbrev pub sideIn : Host → Side
 sideIn h = sideOf (h .association) (h .area)
 
 -- the window that a SACK would now tell: 512 for each free place
-abbrev pub windowOf : Host → ℕ
-windowOf h = acknowledged rail (h .association .receiving) .sack .window
+abbrev pub windowTold : Host → ℕ
+windowTold h = acknowledgedReceiving rail (h .association .receiving) .sack .window
 
 -- ---- what the line has, as the circles of n and m have it
 
@@ -80,12 +80,12 @@ reduceSide n m k = record { lent = reduceLent n m (k .lent); streams = k .stream
 
 -- a DATA that arrives is the sender's, unchanged: its chunk of some number, from the first on, with its payload; and it lies less than 2,147,483,648 from
 -- the point of the line receiver
-pub record IsSent (first : ℕ) (chunk : ℕ → Chunk) (payload : ℕ → List ℕ) (l : Lent) (c : Chunk) (bytes : List ℕ) : Type 0 where
+pub record IsSent (first : ℕ) (chunk : ℕ → Chunk) (payload : ℕ → List ℕ) (l : ReceiverLent) (c : Chunk) (bytes : List ℕ) : Type 0 where
   pub number : ℕ
   pub from : first ≤ number
   pub same : c ≡ reduceChunk (2 ^ 32) (2 ^ 16) (chunk number)
   pub whole : bytes ≡ payload number
-  pub near : Within (2 ^ 31) (l .receiving .keeping .point .0) number
+  pub near : NearerThan (2 ^ 31) (l .receiving .keeping .point .0) number
 
 -- so is every one that the state reads, and there is no fresh start; k is the line receiver as it comes to them
 abbrev pub Fairly : ℕ → (ℕ → Chunk) → (ℕ → List ℕ) → Side → List Heard → Type 0
@@ -133,7 +133,7 @@ pub record Stretch : Type 0 where
   -- the user's premises: an honest sender, and of the packets that arrive, that each DATA which is read is the sender's and near
   pub chunk : ℕ → Chunk
   pub payload : ℕ → List ℕ
-  pub honest : Sender rail (initial + 2 ^ 32) streams chunk
+  pub honest : HonestSender rail (initial + 2 ^ 32) streams chunk
   pub fair : Fairly (initial + 2 ^ 32) chunk payload (begunLine initial streams area) since
 
 module _ (c : Stretch) where

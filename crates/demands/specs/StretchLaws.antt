@@ -7,16 +7,15 @@ use lib.ListN.{length}
 use Rattle.scans.specs.Each.{All}
 use Rattle.numbers.specs.Numbering.{Numberings, lines}
 use Rattle.numbers.specs.Profile.{rail}
-use Rattle.numbers.specs.KeepingLine.{reduceTsn}
+use Rattle.numbers.specs.KeepingLineLaws.{reduceTsn}
 use Rattle.holding.specs.declared.held.Chunk.{Chunk}
 use Rattle.holding.specs.declared.taking.Answer.{Answer as Taking}
 use Rattle.holding.specs.declared.taking.Answer.the-variants.{Taken, Nothing, Short}
-use Rattle.delivery.specs.Receiving.{taken}
-use Rattle.line.specs.Runs.{Event as LineEvent, arrive, take, sack, turn, finally, reduceEvent, Fair}
+use Rattle.delivery.specs.Receiving.{takenInto}
+use Rattle.line.specs.Runs.{ReceiverEvent, arrive, take, sack, eventTurn, finally, reduceEvent, Fair}
 use Rattle.line.specs.Reduce.{reduceTaken}
-use Rattle.line.specs.Demand as demand
-use Rattle.line.specs.Demand.{Seen, number, gave, seen, over, reduceSeen, Given, givenBy, given}
-use Rattle.calls.specs.Acknowledging.{chunkOf, noSack}
+use Rattle.line.specs.Demand.{HostSaw, number, gave, seen, receiverOver, reduceSeen, GivenMessage, givenBy, given, told, stateAfter}
+use Rattle.calls.specs.Acknowledging.{sackValues, noSack}
 use Rattle.demands.specs.News.{News, numbered, untaken, sacked, givenIn}
 use Rattle.demands.specs.Heard.{Heard, asks, not-read, take-barred, sack-barred, begins, Side, sideBy, takenAs, newsBy, goesOn, saidOn}
 use Rattle.demands.specs.Stretch.{reduceNews, Fairly, asLine}
@@ -30,7 +29,7 @@ Stays (sack-barred n) = Unit
 Stays (begins t n) = ⊥
 
 -- what reaches the receiving side
-unfoldable pub eventsIn : List Heard → List LineEvent
+unfoldable pub eventsIn : List Heard → List ReceiverEvent
 eventsIn [] = []
 eventsIn (asks e ∷ hs) = e ∷ eventsIn hs
 eventsIn (not-read ∷ hs) = eventsIn hs
@@ -39,13 +38,13 @@ eventsIn (sack-barred n ∷ hs) = eventsIn hs
 eventsIn (begins t n ∷ hs) = eventsIn hs
 
 -- what is told of what the receiver's host sees
-abbrev shown : Seen → News
+abbrev shown : HostSaw → News
 shown (number n) = numbered n
 shown (gave out t now) = takenAs out t now
-shown (demand.told s) = sacked 0 (chunkOf s)
+shown (told s) = sacked 0 (sackValues s)
 
 -- with what is told of the rest
-unfoldable pub woven : List Heard → List Seen → List News
+unfoldable pub woven : List Heard → List HostSaw → List News
 woven [] zs = []
 woven (asks e ∷ hs) [] = []
 woven (asks e ∷ hs) (z ∷ zs) = shown z ∷ woven hs zs
@@ -54,19 +53,19 @@ woven (take-barred n out ∷ hs) zs = untaken n 0 out ∷ woven hs zs
 woven (sack-barred n ∷ hs) zs = sacked n noSack ∷ woven hs zs
 woven (begins t n ∷ hs) zs = woven hs zs
 
-taken-given : (lent : List ℕ) (x : Taking) (now : List ℕ) (ts : List News) (gs : List Given) → givenIn ts ≡ gs → givenIn (takenAs lent x now ∷ ts) ≡ givenBy lent x now gs
+taken-given : (lent : List ℕ) (x : Taking) (now : List ℕ) (ts : List News) (gs : List GivenMessage) → givenIn ts ≡ gs → givenIn (takenAs lent x now ∷ ts) ≡ givenBy lent x now gs
 unfolding givenIn
-taken-given lent (Taken m) now ts gs e = ap (λ (xs : List Given). record { lent = lent; message = m; output = now } ∷ xs) e
+taken-given lent (Taken m) now ts gs e = ap (λ (xs : List GivenMessage). record { lent = lent; message = m; output = now } ∷ xs) e
 taken-given lent Nothing now ts gs e = e
 taken-given lent (Short n) now ts gs e = e
 
 module _ (N : Numberings) where
-  pub said-woven : (hs : List Heard) → All Stays hs → (k : Side) → saidOn N k hs ≡ woven hs (seen (over N rail) (k .streams) (k .lent) (eventsIn hs))
+  pub said-woven : (hs : List Heard) → All Stays hs → (k : Side) → saidOn N k hs ≡ woven hs (seen (receiverOver N rail) (k .streams) (k .lent) (eventsIn hs))
   unfolding saidOn eventsIn seen woven
   said-woven [] w k = refl
-  said-woven (asks (arrive c bytes) ∷ hs) w k = ap (λ (ts : List News). newsBy [] (turn N rail (k .streams) (k .lent) (arrive c bytes) .answer) ∷ ts) (said-woven hs (w .1) (sideBy N k (asks (arrive c bytes))))
-  said-woven (asks (take out) ∷ hs) w k = ap (λ (ts : List News). newsBy out (turn N rail (k .streams) (k .lent) (take out) .answer) ∷ ts) (said-woven hs (w .1) (sideBy N k (asks (take out))))
-  said-woven (asks sack ∷ hs) w k = ap (λ (ts : List News). newsBy [] (turn N rail (k .streams) (k .lent) sack .answer) ∷ ts) (said-woven hs (w .1) (sideBy N k (asks sack)))
+  said-woven (asks (arrive c bytes) ∷ hs) w k = ap (λ (ts : List News). newsBy [] (eventTurn N rail (k .streams) (k .lent) (arrive c bytes) .answer) ∷ ts) (said-woven hs (w .1) (sideBy N k (asks (arrive c bytes))))
+  said-woven (asks (take out) ∷ hs) w k = ap (λ (ts : List News). newsBy out (eventTurn N rail (k .streams) (k .lent) (take out) .answer) ∷ ts) (said-woven hs (w .1) (sideBy N k (asks (take out))))
+  said-woven (asks sack ∷ hs) w k = ap (λ (ts : List News). newsBy [] (eventTurn N rail (k .streams) (k .lent) sack .answer) ∷ ts) (said-woven hs (w .1) (sideBy N k (asks sack)))
   said-woven (not-read ∷ hs) w k = ap (λ (ts : List News). numbered 7 ∷ ts) (said-woven hs (w .1) k)
   said-woven (take-barred n out ∷ hs) w k = ap (λ (ts : List News). untaken n 0 out ∷ ts) (said-woven hs (w .1) k)
   said-woven (sack-barred n ∷ hs) w k = ap (λ (ts : List News). sacked n noSack ∷ ts) (said-woven hs (w .1) k)
@@ -81,8 +80,8 @@ module _ (N : Numberings) where
   goes-finally (sack-barred n ∷ hs) w k = goes-finally hs (w .1) k
   goes-finally (begins t n ∷ hs) w k = absurd (w .0)
 
-  pub goes-after : (hs : List Heard) → All Stays hs → (k : Side) → goesOn N k hs ≡ record { lent = demand.after (over N rail) (k .streams) (k .lent) (eventsIn hs); streams = k .streams }
-  unfolding goesOn eventsIn demand.after
+  pub goes-after : (hs : List Heard) → All Stays hs → (k : Side) → goesOn N k hs ≡ record { lent = stateAfter (receiverOver N rail) (k .streams) (k .lent) (eventsIn hs); streams = k .streams }
+  unfolding goesOn eventsIn stateAfter
   goes-after [] w k = refl
   goes-after (asks (arrive c bytes) ∷ hs) w k = goes-after hs (w .1) (sideBy N k (asks (arrive c bytes)))
   goes-after (asks (take out) ∷ hs) w k = goes-after hs (w .1) (sideBy N k (asks (take out)))
@@ -92,12 +91,12 @@ module _ (N : Numberings) where
   goes-after (sack-barred n ∷ hs) w k = goes-after hs (w .1) k
   goes-after (begins t n ∷ hs) w k = absurd (w .0)
 
-  pub said-given : (hs : List Heard) → All Stays hs → (k : Side) → givenIn (saidOn N k hs) ≡ given (seen (over N rail) (k .streams) (k .lent) (eventsIn hs))
+  pub said-given : (hs : List Heard) → All Stays hs → (k : Side) → givenIn (saidOn N k hs) ≡ given (seen (receiverOver N rail) (k .streams) (k .lent) (eventsIn hs))
   unfolding saidOn eventsIn seen givenIn
   said-given [] w k = refl
   said-given (asks (arrive c bytes) ∷ hs) w k = said-given hs (w .1) (sideBy N k (asks (arrive c bytes)))
   said-given (asks (take out) ∷ hs) w k =
-      taken-given out (taken N rail (k .lent .receiving) (length out) .answer) _ (saidOn N (sideBy N k (asks (take out))) hs) _ (said-given hs (w .1) (sideBy N k (asks (take out))))
+      taken-given out (takenInto N rail (k .lent .receiving) (length out) .answer) _ (saidOn N (sideBy N k (asks (take out))) hs) _ (said-given hs (w .1) (sideBy N k (asks (take out))))
   said-given (asks sack ∷ hs) w k = said-given hs (w .1) (sideBy N k (asks sack))
   said-given (not-read ∷ hs) w k = said-given hs (w .1) k
   said-given (take-barred n out ∷ hs) w k = said-given hs (w .1) k
@@ -125,12 +124,12 @@ shown-taken lent (Taken m) now = refl
 shown-taken lent Nothing now = refl
 shown-taken lent (Short n) now = refl
 
-shown-reduced : (z : Seen) → shown (reduceSeen TSNs SSNs z) ≡ reduceNews TSNs SSNs (shown z)
+shown-reduced : (z : HostSaw) → shown (reduceSeen TSNs SSNs z) ≡ reduceNews TSNs SSNs (shown z)
 shown-reduced (number n) = refl
 shown-reduced (gave out t now) = shown-taken out t now
-shown-reduced (demand.told s) = refl
+shown-reduced (told s) = refl
 
-pub woven-reduced : (hs : List Heard) (zs : List Seen) → woven (map (reduceHeard TSNs SSNs) hs) (map (reduceSeen TSNs SSNs) zs) ≡ map (reduceNews TSNs SSNs) (woven hs zs)
+pub woven-reduced : (hs : List Heard) (zs : List HostSaw) → woven (map (reduceHeard TSNs SSNs) hs) (map (reduceSeen TSNs SSNs) zs) ≡ map (reduceNews TSNs SSNs) (woven hs zs)
 unfolding woven
 woven-reduced [] zs = refl
 woven-reduced (asks e ∷ hs) [] = refl
@@ -143,7 +142,7 @@ woven-reduced (begins t n ∷ hs) zs = woven-reduced hs zs
 pub events-reduced : (hs : List Heard) → eventsIn (map (reduceHeard TSNs SSNs) hs) ≡ map (reduceEvent TSNs SSNs) (eventsIn hs)
 unfolding eventsIn
 events-reduced [] = refl
-events-reduced (asks e ∷ hs) = ap (λ (es : List LineEvent). reduceEvent TSNs SSNs e ∷ es) (events-reduced hs)
+events-reduced (asks e ∷ hs) = ap (λ (es : List ReceiverEvent). reduceEvent TSNs SSNs e ∷ es) (events-reduced hs)
 events-reduced (not-read ∷ hs) = events-reduced hs
 events-reduced (take-barred n out ∷ hs) = events-reduced hs
 events-reduced (sack-barred n ∷ hs) = events-reduced hs

@@ -7,12 +7,12 @@ use Rattle.association.specs.declared.ends.Association.{Association}
 use Rattle.arriving.specs.BookLaws.{arrive-booked}
 use Rattle.calls.specs.BookLaws.{Booked, answer-booked, associate-booked, expiry-booked, third-booked, sample-booked, shutdown-booked, abort-booked, stream-booked, stale-booked, heartbeat-booked, hand-in-booked, transmit-booked, take-booked, sack-booked}
 use Rattle.events.specs.declared.event.Event.{Event}
-use Rattle.events.specs.Happening.{Buffers, Left, halves, happened}
+use Rattle.events.specs.Happening.{Buffers, EventLeft, halves, happened}
 use Rattle.events.specs.HappenedLaws.{any-keeps, each-event}
 
 pub mode-kept : (a : Association) (v : Event) (b : Buffers) → happened a v b .ran .association .sending .mode ≡ a .sending .mode
 mode-kept a v b =
-    each-event a b (λ (u : Event) (x : Left). x .ran .association .sending .mode ≡ a .sending .mode)
+    each-event a b (λ (u : Event) (x : EventLeft). x .ran .association .sending .mode ≡ a .sending .mode)
     (record {
       packet = λ l e. arrive-booked a (b .received) (b .input) l (b .cookie) e (b .out);
       associate = λ tag tsn port streams. answer-booked a _ (b .out) (associate-booked a tag tsn port streams (b .out));

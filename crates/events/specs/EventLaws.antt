@@ -5,20 +5,20 @@ use mathlib.Core.Bool.{true, false}
 use mathlib.Core.List.{List}
 use borrow.Author.Tests.{lt-ltb, le-ltb}
 use Rattle.events.specs.declared.event.Event.the-variants.{ErrorStream}
-use Rattle.events.specs.Event.{at, streamsAt, portAt, associateOf, handInOf, staleOf, eventOf}
+use Rattle.events.specs.Event.{valueAt, streamsAt, portAt, associateOf, handInOf, staleOf, eventOf}
 
 module _ (vs : List ℕ) (i : ℕ) where
-  pub port-fits : at vs i < 65536 → portAt vs i ≡ at vs i
+  pub port-fits : valueAt vs i < 65536 → portAt vs i ≡ valueAt vs i
   port-fits h = rw (lt-ltb _ _ h)
 
-  pub port-wide : 65536 ≤ at vs i → portAt vs i ≡ 0
+  pub port-wide : 65536 ≤ valueAt vs i → portAt vs i ≡ 0
   port-wide h = rw (le-ltb _ _ h)
 
-  pub streams-fit : at vs i < 65535 → streamsAt vs i ≡ at vs i
+  pub streams-fit : valueAt vs i < 65535 → streamsAt vs i ≡ valueAt vs i
   streams-fit h = rw (lt-ltb _ _ h)
 
   -- over 128 whichever it was
-  pub streams-wide : 65535 ≤ at vs i → streamsAt vs i ≡ 65535
+  pub streams-wide : 65535 ≤ valueAt vs i → streamsAt vs i ≡ 65535
   streams-wide h = rw (le-ltb _ _ h)
 
 -- the events of these values, by their numbers
@@ -31,7 +31,7 @@ module _ (vs : List ℕ) where
   unfolding eventOf
   hand-in-coded = (refl, refl)
 
-  pub stray-coded : eventOf 16 vs ≡ ErrorStream (at vs 0)
+  pub stray-coded : eventOf 16 vs ≡ ErrorStream (valueAt vs 0)
   unfolding eventOf
   stray-coded = refl
 

@@ -12,13 +12,12 @@ use Rattle.association.specs.declared.ends.Association.{Association}
 use Rattle.association.specs.Bounds.{isSound, earlier}
 use Rattle.steps.specs.declared.lent.Lent.{Lent}
 use Rattle.steps.specs.declared.lent.Echoed.{Echoed}
-use Rattle.arriving.specs.Arrival.{arrivedOf, areaOf}
-use Rattle.arriving.specs.Arrival as arrival
-use Rattle.calls.specs.Answer.{isShortOut, barred, Plan, refusing, answerOf, outOf}
+use Rattle.arriving.specs.Arrival.{arrivedOf, packetArea, packetOut}
+use Rattle.calls.specs.Answer.{isShortOut, barred, Plan, refusing, answerOf, planOut}
 use Rattle.calls.specs.Opening.{associating}
-use Rattle.calls.specs.Messages.{handedIn, handedArea, delivered, deliveredOut}
+use Rattle.calls.specs.Messages.{handInCall, handInCallArea, delivered, deliveredOut}
 use Rattle.calls.specs.Transmit.{transmitted, transmittedOut}
-use Rattle.calls.specs.Acknowledging.{acknowledged, acknowledgedOut}
+use Rattle.calls.specs.Acknowledging.{acknowledgedCall, acknowledgedOut}
 use Rattle.calls.specs.Timers.{expiring, expiringThird, sampling}
 use Rattle.calls.specs.Closing.{shutting, aborting}
 use Rattle.calls.specs.Telling.{tellingStream, tellingStale, beating}
@@ -35,42 +34,42 @@ pub record Buffers : Type 0 where
   pub cookie : List ℕ
   pub out : List ℕ
 
-abbrev pub lent : List ℕ → List ℕ → List ℕ → List ℕ → List ℕ → Buffers
-lent received sent input cookie out = record { received = received; sent = sent; input = input; cookie = cookie; out = out }
+abbrev pub lentBuffers : List ℕ → List ℕ → List ℕ → List ℕ → List ℕ → Buffers
+lentBuffers received sent input cookie out = record { received = received; sent = sent; input = input; cookie = cookie; out = out }
 
 -- what an event leaves: what is told, the record, and what stands in the areas and in the output
-pub record Left : Type 0 where
+pub record EventLeft : Type 0 where
   pub ran : Ran
   pub received : List ℕ
   pub sent : List ℕ
   pub out : List ℕ
 
 -- the areas stay
-abbrev pub leaving : Ran → List ℕ → Buffers → Left
+abbrev pub leaving : Ran → List ℕ → Buffers → EventLeft
 leaving r out b = record { ran = r; received = b .received; sent = b .sent; out = out }
 
-abbrev pub planned : Plan → Buffers → Left
-planned p b = leaving (ofAnswer (answerOf p (b .out))) (outOf p (b .out)) b
+abbrev pub planned : Plan → Buffers → EventLeft
+planned p b = leaving (ofAnswer (answerOf p (b .out))) (planOut p (b .out)) b
 
 -- the same of a call with no output
-abbrev pub kept : Plan → Buffers → Left
-kept p b = leaving (ofAnswer (answerOf p [])) (b .out) b
+abbrev pub plannedQuietly : Plan → Buffers → EventLeft
+plannedQuietly p b = leaving (ofAnswer (answerOf p [])) (b .out) b
 
 -- a packet arrives: the area for held chunks and the output change, the area for sending stays
-abbrev pub arriving : Association → Lent → Echoed → Buffers → Left
-arriving a l e b = record {
+abbrev pub packetArriving : Association → Lent → Echoed → Buffers → EventLeft
+packetArriving a l e b = record {
   ran = ofArrived (arrivedOf a (b .received) (b .input) l (b .cookie) e (b .out));
-  received = areaOf a (b .received) (b .input) l (b .cookie) e (b .out);
+  received = packetArea a (b .received) (b .input) l (b .cookie) e (b .out);
   sent = b .sent;
-  out = arrival.outOf a (b .received) (b .input) l (b .cookie) e (b .out);
+  out = packetOut a (b .received) (b .input) l (b .cookie) e (b .out);
 }
 
 -- a message is handed in: only the area for sending changes
-abbrev pub handing : Association → StreamId → Bool → ℕ → Buffers → Left
-handing a stream unordered ppid b = record {
-  ran = ofHandedIn (handedIn a (b .sent) (length (b .input)) stream unordered ppid);
+abbrev pub messageHanding : Association → StreamId → Bool → ℕ → Buffers → EventLeft
+messageHanding a stream unordered ppid b = record {
+  ran = ofHandedIn (handInCall a (b .sent) (length (b .input)) stream unordered ppid);
   received = b .received;
-  sent = handedArea a (b .sent) (b .input) stream;
+  sent = handInCallArea a (b .sent) (b .input) stream;
   out = b .out;
 }
 
@@ -90,20 +89,20 @@ unfoldable pub halves : ℕ → ℕ → List ℕ
 halves x y = be32 x ++ be32 y
 
 -- "One thin entry updates a record": each event is the call of its name
-unfoldable pub happened : Association → Event → Buffers → Left
-happened a (Packet l e) b = arriving a l e b
+unfoldable pub happened : Association → Event → Buffers → EventLeft
+happened a (Packet l e) b = packetArriving a l e b
 happened a (Associate tag tsn port streams) b = planned (associating a tag tsn port streams (b .out)) b
-happened a (HandIn stream unordered ppid) b = handing a stream unordered ppid b
+happened a (HandIn stream unordered ppid) b = messageHanding a stream unordered ppid b
 happened a Transmit b = leaving (ofTransmitted (transmitted a (b .sent) (b .out))) (transmittedOut a (b .sent) (b .out)) b
 happened a Take b = leaving (ofDelivered (delivered a (b .received) (length (b .out)))) (deliveredOut a (b .received) (b .out)) b
-happened a Acknowledge b = leaving (ofAcknowledged (acknowledged a (b .out))) (acknowledgedOut a (b .out)) b
+happened a Acknowledge b = leaving (ofAcknowledged (acknowledgedCall a (b .out))) (acknowledgedOut a (b .out)) b
 happened a T1 b = planned (expiring a FirstTimer (b .out)) b
 happened a T2 b = planned (expiring a SecondTimer (b .out)) b
-happened a T3 b = kept (expiringThird a) b
+happened a T3 b = plannedQuietly (expiringThird a) b
 happened a Shutdown b = planned (shutting a (b .out)) b
 happened a (Abort why) b = planned (aborting a why (b .out)) b
 happened a (ErrorStream stream) b = planned (tellingAny a stream (b .out)) b
 happened a (ErrorStale port tag late) b = planned (tellingStale a port tag late (b .out)) b
 happened a (Heartbeat x y) b = planned (beating a (halves x y) (b .out)) b
-happened a (Sample ms) b = kept (sampling a ms) b
+happened a (Sample ms) b = plannedQuietly (sampling a ms) b
 happened a Unknown b = leaving (plainly (unknownNumber a) 0 false a) (b .out) b

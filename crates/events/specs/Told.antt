@@ -3,6 +3,7 @@ use Prim.Native.Nat.{ℕ}
 use mathlib.Core.Bool.{Bool, false}
 use lib.ListN.{replicate}
 use Rattle.numbers.specs.Circle.{tsn0}
+use Rattle.numbers.specs.Profile.{mostChunks, rail}
 use Rattle.chunks.specs.declared.sack.Sack.{Sack}
 use Rattle.holding.specs.declared.taking.Message.{Message}
 use Rattle.association.specs.declared.ends.Association.{Association}
@@ -14,7 +15,7 @@ use Rattle.calls.specs.declared.acknowledging.Acknowledged.{Acknowledged}
 use Rattle.calls.specs.Messages.{noMessage}
 use Rattle.calls.specs.Acknowledging.{noSack}
 use Rattle.arriving.specs.declared.arrival.Arrived.{Arrived}
-use Rattle.arriving.specs.Verdict.{unreadAt}
+use Rattle.arriving.specs.ChunkVerdict.{unreadAt}
 use Rattle.events.specs.declared.told.Went.{Went}
 use Rattle.events.specs.declared.told.Seen.{Seen}
 use Rattle.events.specs.declared.told.Ran.{Ran}
@@ -24,7 +25,7 @@ abbrev pub noneWent : Went
 noneWent = record { resent = false; first = tsn0; last = tsn0 }
 
 abbrev pub noneSeen : Seen
-noneSeen = record { count = 0; verdicts = replicate 365 (unreadAt 0) }
+noneSeen = record { count = 0; verdicts = replicate (mostChunks rail) (unreadAt 0) }
 
 -- all that an event can tell, and the record after it; below, what each call fills of it
 abbrev pub telling : ℕ → ℕ → Bool → Went → Sack → Message → Seen → Association → Ran

@@ -10,7 +10,7 @@ ghost use mathlib.Core.Bool.{false, true};
 ghost use lib.Dec.{ltb};
 ghost use Rattle.scans.specs.Scan.{pick};
 ghost use Rattle.scans.specs.Upto.{smaller};
-ghost use Rattle.events.specs.Event.{at, tsnAt, streamAt, streamsAt, portAt, optionsAt, lentOf, madeOf, associateOf, handInOf, staleOf, eventOf};
+ghost use Rattle.events.specs.Event.{valueAt, tsnAt, streamAt, streamsAt, portAt, optionsAt, lentOf, madeOf, associateOf, handInOf, staleOf, eventOf};
 
 pub enum Event {
     // A packet arrives, with what is lent for an INIT and the word on an echoed cookie.
@@ -40,7 +40,7 @@ pub enum Event {
 
 // A value past the end is 0.
 fn value(values: &[u32], i: usize) -> u32
-    ensures { λ r. ⌜ r ≡ at (now (values .entry)) i ⌝ }
+    ensures { λ r. ⌜ r ≡ valueAt (now (values .entry)) i ⌝ }
 {
     if i < values.len() { values[i] } else { 0 }
 }

@@ -1,7 +1,7 @@
 -- The head that a host lends and the outcome of each call over it, as crate `lending` asks for them.
 use mathlib.Core.Path.{refl}
 use mir.Syntax.{w32}
-use Rattle.lending.specs.Walk.{Valued, Outcome}
+use Rattle.lending.specs.LentWalk.{Valued, Outcome}
 use Rattle.lending.specs.Lent.{uint, struct, outcome}
 use Rattle.kept.proofs.head.Kept
 use Rattle.kept.proofs.head.Kept.Laws as Kept′

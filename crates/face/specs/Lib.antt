@@ -1,14 +1,15 @@
 -- What C is told, and what a call leaves in what it was lent. Promises, which each function cites, comes first; the files above it say its words.
-pub mod Left
-pub mod LeftLaws
-pub mod Answer
-pub mod AnswerLaws
-pub mod Opening
-pub mod OpeningLaws
-pub mod Messages
-pub mod Transmit
-pub mod Arrival
-pub mod Peek
-pub mod Acknowledging
-pub mod AcknowledgingLaws
+-- To read: FaceLeft, FaceAnswer, FaceOpening, FaceMessages, FaceTransmit, FaceArrival, FacePeek, FaceAcknowledging, Promises. The rest are laws.
+pub mod FaceLeft
+pub mod FaceLeftLaws
+pub mod FaceAnswer
+pub mod FaceAnswerLaws
+pub mod FaceOpening
+pub mod FaceOpeningLaws
+pub mod FaceMessages
+pub mod FaceTransmit
+pub mod FaceArrival
+pub mod FacePeek
+pub mod FaceAcknowledging
+pub mod FaceAcknowledgingLaws
 pub mod Promises

@@ -7,18 +7,18 @@ use numbers::Tsn;
 ghost use Prim.Native.Nat.{ℕ};
 ghost use mathlib.Core.Path.{_≡_};
 ghost use mathlib.Core.List.{List, map};
-ghost use Rattle.face.specs.Left.{toldOf};
-ghost use Rattle.face.specs.Acknowledging.{numberOf, saidIn, saidTold, saidLists};
+ghost use Rattle.face.specs.FaceLeft.{callToldOf};
+ghost use Rattle.face.specs.FaceAcknowledging.{tsnNumber, saidIn, saidTold, saidLists};
 ghost use Rattle.face.specs.Promises.{Acknowledges};
 
 fn number_of(t: Tsn) -> u32
-    ensures { λ r. ⌜ r ≡ numberOf t ⌝ }
+    ensures { λ r. ⌜ r ≡ tsnNumber t ⌝ }
 {
     t.0
 }
 
 fn numbers_of(tsns: [Tsn; Rail::LISTED]) -> [u32; Rail::LISTED]
-    ensures { λ r. ⌜ r ≡ map numberOf tsns ⌝ }
+    ensures { λ r. ⌜ r ≡ map tsnNumber tsns ⌝ }
 {
     let mut numbers = [0u32; Rail::LISTED];
     let mut i: usize = 0;
@@ -45,7 +45,7 @@ fn list(k: Sack, starts: &mut [u16; 64], ends: &mut [u16; 64], dups: &mut [u32; 
 
 // Told: length, point, window, how many blocks, how many duplicates.
 fn said(r: asks::Acknowledged, told: &mut [usize; 5]) -> Served
-    ensures { λ q. ⌜ toldOf (q .number) (q .kept) (now (told .exit)) ≡ saidTold r ⌝ }
+    ensures { λ q. ⌜ callToldOf (q .number) (q .kept) (now (told .exit)) ≡ saidTold r ⌝ }
 {
     let head = r.head;
     let k = r.sack;
@@ -71,7 +71,7 @@ pub fn sack(
     dups: &mut [u32; 16],
     told: &mut [usize; 5],
 ) -> Served
-    ensures { λ r. ⌜ Acknowledges k (now (held .entry)) (now (places .entry)) (now (out .entry)) (toldOf (r .number) (r .kept) (now (told .exit))) (saidIn (now (starts .exit)) (now (ends .exit)) (now (dups .exit)) (now (out .exit))) ⌝ }
+    ensures { λ r. ⌜ Acknowledges k (now (held .entry)) (now (places .entry)) (now (out .entry)) (callToldOf (r .number) (r .kept) (now (told .exit))) (saidIn (now (starts .exit)) (now (ends .exit)) (now (dups .exit)) (now (out .exit))) ⌝ }
 {
     if kept::is_named(k) {
         let head = kept::unpack(k);
@@ -98,7 +98,7 @@ pub extern "C" fn ow_lent_sack(
     dups: &mut [u32; 16],
     told: &mut [usize; 5],
 ) -> u32
-    ensures { λ r. ⌜ Acknowledges (now (k .entry)) (now (held .entry)) (now (places .entry)) (now (out .entry)) (toldOf r (now (k .exit)) (now (told .exit))) (saidIn (now (starts .exit)) (now (ends .exit)) (now (dups .exit)) (now (out .exit))) ⌝ }
+    ensures { λ r. ⌜ Acknowledges (now (k .entry)) (now (held .entry)) (now (places .entry)) (now (out .entry)) (callToldOf r (now (k .exit)) (now (told .exit))) (saidIn (now (starts .exit)) (now (ends .exit)) (now (dups .exit)) (now (out .exit))) ⌝ }
 {
     let o = sack(*k, held, places, out, starts, ends, dups, told);
     *k = o.kept;

@@ -2,8 +2,8 @@
 use kept::Kept;
 use kept::flags;
 ghost use mathlib.Core.Path.{_≡_};
-ghost use Rattle.face.specs.Left.{toldOf};
-ghost use Rattle.face.specs.Answer.{answerTold};
+ghost use Rattle.face.specs.FaceLeft.{callToldOf};
+ghost use Rattle.face.specs.FaceAnswer.{answerTold};
 
 // The number, 0 if none, and the head.
 pub struct Served {
@@ -13,7 +13,7 @@ pub struct Served {
 
 // Told: the length of the packet, and whether an expiry closed the association.
 pub(crate) fn tell(r: asks::Answered, told: &mut [usize; 2]) -> Served
-    ensures { λ q. ⌜ toldOf (q .number) (q .kept) (now (told .exit)) ≡ answerTold r ⌝ }
+    ensures { λ q. ⌜ callToldOf (q .number) (q .kept) (now (told .exit)) ≡ answerTold r ⌝ }
 {
     let head = r.head;
     let over = flags::byte_of(r.over);

@@ -5,7 +5,7 @@ use kept::Kept;
 use kept::cause;
 ghost use Rattle.calls.specs.Closing.{shutting, aborting};
 ghost use Rattle.kept.specs.Cause.{reasonOf};
-ghost use Rattle.face.specs.Left.{toldOf};
+ghost use Rattle.face.specs.FaceLeft.{callToldOf};
 ghost use Rattle.face.specs.Promises.{Sends};
 
 // No more messages.
@@ -16,7 +16,7 @@ pub fn shutdown(
     out: &mut [u8],
     told: &mut [usize; 2],
 ) -> Served
-    ensures { λ r. ⌜ Sends shutting k (now (held .entry)) (now (places .entry)) (now (out .entry)) (toldOf (r .number) (r .kept) (now (told .exit))) (now (out .exit)) ⌝ }
+    ensures { λ r. ⌜ Sends shutting k (now (held .entry)) (now (places .entry)) (now (out .entry)) (callToldOf (r .number) (r .kept) (now (told .exit))) (now (out .exit)) ⌝ }
 {
     if kept::is_named(k) {
         let head = kept::unpack(k);
@@ -35,7 +35,7 @@ pub extern "C" fn ow_lent_shutdown(
     out: &mut [u8],
     told: &mut [usize; 2],
 ) -> u32
-    ensures { λ r. ⌜ Sends shutting (now (k .entry)) (now (held .entry)) (now (places .entry)) (now (out .entry)) (toldOf r (now (k .exit)) (now (told .exit))) (now (out .exit)) ⌝ }
+    ensures { λ r. ⌜ Sends shutting (now (k .entry)) (now (held .entry)) (now (places .entry)) (now (out .entry)) (callToldOf r (now (k .exit)) (now (told .exit))) (now (out .exit)) ⌝ }
 {
     let o = shutdown(*k, held, places, out, told);
     *k = o.kept;
@@ -52,7 +52,7 @@ pub fn abort(
     out: &mut [u8],
     told: &mut [usize; 2],
 ) -> Served
-    ensures { λ r. ⌜ Sends (λ a. aborting a (reasonOf cause tsn)) k (now (held .entry)) (now (places .entry)) (now (out .entry)) (toldOf (r .number) (r .kept) (now (told .exit))) (now (out .exit)) ⌝ }
+    ensures { λ r. ⌜ Sends (λ a. aborting a (reasonOf cause tsn)) k (now (held .entry)) (now (places .entry)) (now (out .entry)) (callToldOf (r .number) (r .kept) (now (told .exit))) (now (out .exit)) ⌝ }
 {
     if kept::is_named(k) {
         let head = kept::unpack(k);
@@ -74,7 +74,7 @@ pub extern "C" fn ow_lent_abort(
     out: &mut [u8],
     told: &mut [usize; 2],
 ) -> u32
-    ensures { λ r. ⌜ Sends (λ a. aborting a (reasonOf cause tsn)) (now (k .entry)) (now (held .entry)) (now (places .entry)) (now (out .entry)) (toldOf r (now (k .exit)) (now (told .exit))) (now (out .exit)) ⌝ }
+    ensures { λ r. ⌜ Sends (λ a. aborting a (reasonOf cause tsn)) (now (k .entry)) (now (held .entry)) (now (places .entry)) (now (out .entry)) (callToldOf r (now (k .exit)) (now (told .exit))) (now (out .exit)) ⌝ }
 {
     let o = abort(*k, held, places, cause, tsn, out, told);
     *k = o.kept;

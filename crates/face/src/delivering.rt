@@ -3,13 +3,13 @@ use crate::answer::Served;
 use kept::Kept;
 use kept::flags;
 ghost use mathlib.Core.Path.{_≡_};
-ghost use Rattle.face.specs.Left.{toldOf};
-ghost use Rattle.face.specs.Messages.{deliveredTold, deliveredLent};
+ghost use Rattle.face.specs.FaceLeft.{callToldOf};
+ghost use Rattle.face.specs.FaceMessages.{deliveredTold, deliveredLent};
 ghost use Rattle.face.specs.Promises.{Takes};
 
 // Told: length, stream, whether it was out of order, SSN, payload protocol identifier.
 fn given(k: Kept, r: asks::Delivered, told: &mut [usize; 5]) -> Served
-    ensures { λ q. ⌜ toldOf (q .number) (q .kept) (now (told .exit)) ≡ deliveredTold k r ⌝ }
+    ensures { λ q. ⌜ callToldOf (q .number) (q .kept) (now (told .exit)) ≡ deliveredTold k r ⌝ }
 {
     let m = r.message;
     let stream = m.stream;
@@ -36,7 +36,7 @@ pub fn take(
     out: &mut [u8],
     told: &mut [usize; 5],
 ) -> Served
-    ensures { λ r. ⌜ Takes k (now (places .entry)) (now (area .entry)) (deliveredLent (now (held .entry)) (now («next_in» .entry)) (now (out .entry))) (toldOf (r .number) (r .kept) (now (told .exit))) (deliveredLent (now (held .exit)) (now («next_in» .exit)) (now (out .exit))) ⌝ }
+    ensures { λ r. ⌜ Takes k (now (places .entry)) (now (area .entry)) (deliveredLent (now (held .entry)) (now («next_in» .entry)) (now (out .entry))) (callToldOf (r .number) (r .kept) (now (told .exit))) (deliveredLent (now (held .exit)) (now («next_in» .exit)) (now (out .exit))) ⌝ }
 {
     if kept::is_named(k) {
         let head = kept::unpack(k);
@@ -57,7 +57,7 @@ pub extern "C" fn ow_lent_take(
     out: &mut [u8],
     told: &mut [usize; 5],
 ) -> u32
-    ensures { λ r. ⌜ Takes (now (k .entry)) (now (places .entry)) (now (area .entry)) (deliveredLent (now (held .entry)) (now («next_in» .entry)) (now (out .entry))) (toldOf r (now (k .exit)) (now (told .exit))) (deliveredLent (now (held .exit)) (now («next_in» .exit)) (now (out .exit))) ⌝ }
+    ensures { λ r. ⌜ Takes (now (k .entry)) (now (places .entry)) (now (area .entry)) (deliveredLent (now (held .entry)) (now («next_in» .entry)) (now (out .entry))) (callToldOf r (now (k .exit)) (now (told .exit))) (deliveredLent (now (held .exit)) (now («next_in» .exit)) (now (out .exit))) ⌝ }
 {
     let o = take(*k, held, next_in, places, area, out, told);
     *k = o.kept;

@@ -5,12 +5,12 @@ use kept::flags;
 use messages::Handing;
 use numbers::StreamId;
 ghost use mathlib.Core.Path.{_≡_};
-ghost use Rattle.face.specs.Left.{toldOf};
-ghost use Rattle.face.specs.Messages.{handedTold, handedLent};
+ghost use Rattle.face.specs.FaceLeft.{callToldOf};
+ghost use Rattle.face.specs.FaceMessages.{handedTold, handedLent};
 ghost use Rattle.face.specs.Promises.{HandsIn};
 
 fn handed(k: Kept, r: Handing, told: &mut [usize; 1]) -> Served
-    ensures { λ q. ⌜ toldOf (q .number) (q .kept) (now (told .exit)) ≡ handedTold k r ⌝ }
+    ensures { λ q. ⌜ callToldOf (q .number) (q .kept) (now (told .exit)) ≡ handedTold k r ⌝ }
 {
     *told = [r.chunks];
     Served {
@@ -31,7 +31,7 @@ pub fn hand_in(
     ppid: u32,
     told: &mut [usize; 1],
 ) -> Served
-    ensures { λ r. ⌜ HandsIn k (now (held .entry)) (now (message .entry)) stream unordered ppid (handedLent (now (places .entry)) (now (area .entry))) (toldOf (r .number) (r .kept) (now (told .exit))) (handedLent (now (places .exit)) (now (area .exit))) ⌝ }
+    ensures { λ r. ⌜ HandsIn k (now (held .entry)) (now (message .entry)) stream unordered ppid (handedLent (now (places .entry)) (now (area .entry))) (callToldOf (r .number) (r .kept) (now (told .exit))) (handedLent (now (places .exit)) (now (area .exit))) ⌝ }
 {
     if kept::is_named(k) {
         let head = kept::unpack(k);
@@ -64,7 +64,7 @@ pub extern "C" fn ow_lent_hand_in(
     ppid: u32,
     told: &mut [usize; 1],
 ) -> u32
-    ensures { λ r. ⌜ HandsIn (now (k .entry)) (now (held .entry)) (now (message .entry)) stream unordered ppid (handedLent (now (places .entry)) (now (area .entry))) (toldOf r (now (k .exit)) (now (told .exit))) (handedLent (now (places .exit)) (now (area .exit))) ⌝ }
+    ensures { λ r. ⌜ HandsIn (now (k .entry)) (now (held .entry)) (now (message .entry)) stream unordered ppid (handedLent (now (places .entry)) (now (area .entry))) (callToldOf r (now (k .exit)) (now (told .exit))) (handedLent (now (places .exit)) (now (area .exit))) ⌝ }
 {
     let o = hand_in(
         *k,

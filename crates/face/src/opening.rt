@@ -5,8 +5,8 @@ use flat::Head;
 use kept::Kept;
 use numbers::Tsn;
 ghost use mathlib.Core.List.{[]};
-ghost use Rattle.face.specs.Left.{toldOf};
-ghost use Rattle.face.specs.Opening.{tablesOf, associatedLent};
+ghost use Rattle.face.specs.FaceLeft.{callToldOf};
+ghost use Rattle.face.specs.FaceOpening.{tablesLent, associatedLent};
 ghost use Rattle.face.specs.Promises.{Closes, Associates};
 
 // A closed record at one of the host's ports, in one of the two books, whatever stood there.
@@ -20,7 +20,7 @@ pub fn close(
     port: u16,
     mode: u8,
 ) -> Served
-    ensures { λ r. ⌜ Closes port mode (toldOf (r .number) (r .kept) []) (tablesOf (now (held .exit)) (now («next_in» .exit)) (now (places .exit)) (now («next_out» .exit)) (now («kept_cookie» .exit))) ⌝ }
+    ensures { λ r. ⌜ Closes port mode (callToldOf (r .number) (r .kept) []) (tablesLent (now (held .exit)) (now («next_in» .exit)) (now (places .exit)) (now («next_out» .exit)) (now («kept_cookie» .exit))) ⌝ }
 {
     let head = Head::closed(port, mode);
     tables::held::clear(held);
@@ -45,7 +45,7 @@ pub extern "C" fn ow_lent_close(
     port: u16,
     mode: u8,
 ) -> u32
-    ensures { λ r. ⌜ Closes port mode (toldOf r (now (k .exit)) []) (tablesOf (now (held .exit)) (now («next_in» .exit)) (now (places .exit)) (now («next_out» .exit)) (now («kept_cookie» .exit))) ⌝ }
+    ensures { λ r. ⌜ Closes port mode (callToldOf r (now (k .exit)) []) (tablesLent (now (held .exit)) (now («next_in» .exit)) (now (places .exit)) (now («next_out» .exit)) (now («kept_cookie» .exit))) ⌝ }
 {
     let o = close(*k, held, next_in, places, next_out, kept_cookie, port, mode);
     *k = o.kept;
@@ -67,7 +67,7 @@ pub fn associate(
     out: &mut [u8],
     told: &mut [usize; 2],
 ) -> Served
-    ensures { λ r. ⌜ Associates k tag tsn port streams (associatedLent (tablesOf (now (held .entry)) (now («next_in» .entry)) (now (places .entry)) (now («next_out» .entry)) (now («kept_cookie» .entry))) (now (out .entry))) (toldOf (r .number) (r .kept) (now (told .exit))) (associatedLent (tablesOf (now (held .exit)) (now («next_in» .exit)) (now (places .exit)) (now («next_out» .exit)) (now («kept_cookie» .exit))) (now (out .exit))) ⌝ }
+    ensures { λ r. ⌜ Associates k tag tsn port streams (associatedLent (tablesLent (now (held .entry)) (now («next_in» .entry)) (now (places .entry)) (now («next_out» .entry)) (now («kept_cookie» .entry))) (now (out .entry))) (callToldOf (r .number) (r .kept) (now (told .exit))) (associatedLent (tablesLent (now (held .exit)) (now («next_in» .exit)) (now (places .exit)) (now («next_out» .exit)) (now («kept_cookie» .exit))) (now (out .exit))) ⌝ }
 {
     if kept::is_named(k) {
         let head = kept::unpack(k);
@@ -105,7 +105,7 @@ pub extern "C" fn ow_lent_associate(
     out: &mut [u8],
     told: &mut [usize; 2],
 ) -> u32
-    ensures { λ r. ⌜ Associates (now (k .entry)) tag tsn port streams (associatedLent (tablesOf (now (held .entry)) (now («next_in» .entry)) (now (places .entry)) (now («next_out» .entry)) (now («kept_cookie» .entry))) (now (out .entry))) (toldOf r (now (k .exit)) (now (told .exit))) (associatedLent (tablesOf (now (held .exit)) (now («next_in» .exit)) (now (places .exit)) (now («next_out» .exit)) (now («kept_cookie» .exit))) (now (out .exit))) ⌝ }
+    ensures { λ r. ⌜ Associates (now (k .entry)) tag tsn port streams (associatedLent (tablesLent (now (held .entry)) (now («next_in» .entry)) (now (places .entry)) (now («next_out» .entry)) (now («kept_cookie» .entry))) (now (out .entry))) (callToldOf r (now (k .exit)) (now (told .exit))) (associatedLent (tablesLent (now (held .exit)) (now («next_in» .exit)) (now (places .exit)) (now («next_out» .exit)) (now («kept_cookie» .exit))) (now (out .exit))) ⌝ }
 {
     let o = associate(
         *k,

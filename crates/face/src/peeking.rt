@@ -4,7 +4,7 @@ use chunks::init::Init;
 ghost use mathlib.Core.Path.{_≡_};
 ghost use mathlib.Core.List.{[], _∷_};
 ghost use Rattle.calls.specs.Peek.{peeked};
-ghost use Rattle.face.specs.Peek.{seenNumber, seenWords};
+ghost use Rattle.face.specs.FacePeek.{seenNumber, seenWords};
 
 fn tell_init(v: Init, source: u16, options: u8, told: &mut [usize; 10])
     ensures { λ _. ⌜ now (told .exit) ≡ 1 ∷ source ∷ v .tag ∷ v .window ∷ v .outs ∷ v .ins ∷ v .tsn .0 ∷ 0 ∷ 0 ∷ options ∷ [] ⌝ }

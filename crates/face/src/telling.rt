@@ -4,7 +4,7 @@ use crate::answer::Served;
 use kept::Kept;
 use numbers::StreamId;
 ghost use Rattle.calls.specs.Telling.{tellingStream, tellingStale, beating};
-ghost use Rattle.face.specs.Left.{toldOf};
+ghost use Rattle.face.specs.FaceLeft.{callToldOf};
 ghost use Rattle.face.specs.Promises.{Sends};
 
 // A stream is not agreed.
@@ -16,7 +16,7 @@ pub fn error_stream(
     out: &mut [u8],
     told: &mut [usize; 2],
 ) -> Served
-    ensures { λ r. ⌜ Sends (λ a. tellingStream a (record { 0 = stream })) k (now (held .entry)) (now (places .entry)) (now (out .entry)) (toldOf (r .number) (r .kept) (now (told .exit))) (now (out .exit)) ⌝ }
+    ensures { λ r. ⌜ Sends (λ a. tellingStream a (record { 0 = stream })) k (now (held .entry)) (now (places .entry)) (now (out .entry)) (callToldOf (r .number) (r .kept) (now (told .exit))) (now (out .exit)) ⌝ }
 {
     if kept::is_named(k) {
         let head = kept::unpack(k);
@@ -36,7 +36,7 @@ pub extern "C" fn ow_lent_error_stream(
     out: &mut [u8],
     told: &mut [usize; 2],
 ) -> u32
-    ensures { λ r. ⌜ Sends (λ a. tellingStream a (record { 0 = stream })) (now (k .entry)) (now (held .entry)) (now (places .entry)) (now (out .entry)) (toldOf r (now (k .exit)) (now (told .exit))) (now (out .exit)) ⌝ }
+    ensures { λ r. ⌜ Sends (λ a. tellingStream a (record { 0 = stream })) (now (k .entry)) (now (held .entry)) (now (places .entry)) (now (out .entry)) (callToldOf r (now (k .exit)) (now (told .exit))) (now (out .exit)) ⌝ }
 {
     let o = error_stream(*k, held, places, stream, out, told);
     *k = o.kept;
@@ -54,7 +54,7 @@ pub fn error_stale(
     out: &mut [u8],
     told: &mut [usize; 2],
 ) -> Served
-    ensures { λ r. ⌜ Sends (λ a. tellingStale a port tag late) k (now (held .entry)) (now (places .entry)) (now (out .entry)) (toldOf (r .number) (r .kept) (now (told .exit))) (now (out .exit)) ⌝ }
+    ensures { λ r. ⌜ Sends (λ a. tellingStale a port tag late) k (now (held .entry)) (now (places .entry)) (now (out .entry)) (callToldOf (r .number) (r .kept) (now (told .exit))) (now (out .exit)) ⌝ }
 {
     if kept::is_named(k) {
         let head = kept::unpack(k);
@@ -76,7 +76,7 @@ pub extern "C" fn ow_lent_error_stale(
     out: &mut [u8],
     told: &mut [usize; 2],
 ) -> u32
-    ensures { λ r. ⌜ Sends (λ a. tellingStale a port tag late) (now (k .entry)) (now (held .entry)) (now (places .entry)) (now (out .entry)) (toldOf r (now (k .exit)) (now (told .exit))) (now (out .exit)) ⌝ }
+    ensures { λ r. ⌜ Sends (λ a. tellingStale a port tag late) (now (k .entry)) (now (held .entry)) (now (places .entry)) (now (out .entry)) (callToldOf r (now (k .exit)) (now (told .exit))) (now (out .exit)) ⌝ }
 {
     let o = error_stale(*k, held, places, port, tag, late, out, told);
     *k = o.kept;
@@ -92,7 +92,7 @@ pub fn heartbeat(
     out: &mut [u8],
     told: &mut [usize; 2],
 ) -> Served
-    ensures { λ r. ⌜ Sends (λ a. beating a (now (value .entry))) k (now (held .entry)) (now (places .entry)) (now (out .entry)) (toldOf (r .number) (r .kept) (now (told .exit))) (now (out .exit)) ⌝ }
+    ensures { λ r. ⌜ Sends (λ a. beating a (now (value .entry))) k (now (held .entry)) (now (places .entry)) (now (out .entry)) (callToldOf (r .number) (r .kept) (now (told .exit))) (now (out .exit)) ⌝ }
 {
     if kept::is_named(k) {
         let head = kept::unpack(k);
@@ -113,7 +113,7 @@ pub extern "C" fn ow_lent_heartbeat(
     out: &mut [u8],
     told: &mut [usize; 2],
 ) -> u32
-    ensures { λ r. ⌜ Sends (λ a. beating a (now (value .entry))) (now (k .entry)) (now (held .entry)) (now (places .entry)) (now (out .entry)) (toldOf r (now (k .exit)) (now (told .exit))) (now (out .exit)) ⌝ }
+    ensures { λ r. ⌜ Sends (λ a. beating a (now (value .entry))) (now (k .entry)) (now (held .entry)) (now (places .entry)) (now (out .entry)) (callToldOf r (now (k .exit)) (now (told .exit))) (now (out .exit)) ⌝ }
 {
     let o = heartbeat(*k, held, places, value, out, told);
     *k = o.kept;

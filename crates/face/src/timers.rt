@@ -3,7 +3,7 @@ use crate::answer;
 use crate::answer::Served;
 use kept::Kept;
 ghost use Rattle.states.specs.declared.call.Call.the-variants.{FirstTimer, SecondTimer};
-ghost use Rattle.face.specs.Left.{toldOf};
+ghost use Rattle.face.specs.FaceLeft.{callToldOf};
 ghost use Rattle.face.specs.Promises.{Expires, Lapses, Samples};
 
 // T1 expires: INIT or COOKIE ECHO again, or closed.
@@ -15,7 +15,7 @@ pub fn t1(
     out: &mut [u8],
     told: &mut [usize; 2],
 ) -> Served
-    ensures { λ r. ⌜ Expires FirstTimer k (now (held .entry)) (now (places .entry)) (now («kept_cookie» .entry)) (now (out .entry)) (toldOf (r .number) (r .kept) (now (told .exit))) (now (out .exit)) ⌝ }
+    ensures { λ r. ⌜ Expires FirstTimer k (now (held .entry)) (now (places .entry)) (now («kept_cookie» .entry)) (now (out .entry)) (callToldOf (r .number) (r .kept) (now (told .exit))) (now (out .exit)) ⌝ }
 {
     if kept::is_named(k) {
         let head = kept::unpack(k);
@@ -35,7 +35,7 @@ pub extern "C" fn ow_lent_t1(
     out: &mut [u8],
     told: &mut [usize; 2],
 ) -> u32
-    ensures { λ r. ⌜ Expires FirstTimer (now (k .entry)) (now (held .entry)) (now (places .entry)) (now («kept_cookie» .entry)) (now (out .entry)) (toldOf r (now (k .exit)) (now (told .exit))) (now (out .exit)) ⌝ }
+    ensures { λ r. ⌜ Expires FirstTimer (now (k .entry)) (now (held .entry)) (now (places .entry)) (now («kept_cookie» .entry)) (now (out .entry)) (callToldOf r (now (k .exit)) (now (told .exit))) (now (out .exit)) ⌝ }
 {
     let o = t1(*k, held, places, kept_cookie, out, told);
     *k = o.kept;
@@ -51,7 +51,7 @@ pub fn t2(
     out: &mut [u8],
     told: &mut [usize; 2],
 ) -> Served
-    ensures { λ r. ⌜ Expires SecondTimer k (now (held .entry)) (now (places .entry)) (now («kept_cookie» .entry)) (now (out .entry)) (toldOf (r .number) (r .kept) (now (told .exit))) (now (out .exit)) ⌝ }
+    ensures { λ r. ⌜ Expires SecondTimer k (now (held .entry)) (now (places .entry)) (now («kept_cookie» .entry)) (now (out .entry)) (callToldOf (r .number) (r .kept) (now (told .exit))) (now (out .exit)) ⌝ }
 {
     if kept::is_named(k) {
         let head = kept::unpack(k);
@@ -71,7 +71,7 @@ pub extern "C" fn ow_lent_t2(
     out: &mut [u8],
     told: &mut [usize; 2],
 ) -> u32
-    ensures { λ r. ⌜ Expires SecondTimer (now (k .entry)) (now (held .entry)) (now (places .entry)) (now («kept_cookie» .entry)) (now (out .entry)) (toldOf r (now (k .exit)) (now (told .exit))) (now (out .exit)) ⌝ }
+    ensures { λ r. ⌜ Expires SecondTimer (now (k .entry)) (now (held .entry)) (now (places .entry)) (now («kept_cookie» .entry)) (now (out .entry)) (callToldOf r (now (k .exit)) (now (told .exit))) (now (out .exit)) ⌝ }
 {
     let o = t2(*k, held, places, kept_cookie, out, told);
     *k = o.kept;
@@ -80,7 +80,7 @@ pub extern "C" fn ow_lent_t2(
 
 // T3 expires: what is outstanding is marked, or closed.
 pub fn t3(k: Kept, held: &[u32; 512], places: &mut [u32; 1024], told: &mut [usize; 2]) -> Served
-    ensures { λ r. ⌜ Lapses k (now (held .entry)) (now (places .entry)) (toldOf (r .number) (r .kept) (now (told .exit))) (now (places .exit)) ⌝ }
+    ensures { λ r. ⌜ Lapses k (now (held .entry)) (now (places .entry)) (callToldOf (r .number) (r .kept) (now (told .exit))) (now (places .exit)) ⌝ }
 {
     if kept::is_named(k) {
         let head = kept::unpack(k);
@@ -98,7 +98,7 @@ pub extern "C" fn ow_lent_t3(
     places: &mut [u32; 1024],
     told: &mut [usize; 2],
 ) -> u32
-    ensures { λ r. ⌜ Lapses (now (k .entry)) (now (held .entry)) (now (places .entry)) (toldOf r (now (k .exit)) (now (told .exit))) (now (places .exit)) ⌝ }
+    ensures { λ r. ⌜ Lapses (now (k .entry)) (now (held .entry)) (now (places .entry)) (callToldOf r (now (k .exit)) (now (told .exit))) (now (places .exit)) ⌝ }
 {
     let o = t3(*k, held, places, told);
     *k = o.kept;
@@ -113,7 +113,7 @@ pub fn rtt(
     sample: u32,
     told: &mut [usize; 2],
 ) -> Served
-    ensures { λ r. ⌜ Samples k (now (held .entry)) (now (places .entry)) sample (toldOf (r .number) (r .kept) (now (told .exit))) ⌝ }
+    ensures { λ r. ⌜ Samples k (now (held .entry)) (now (places .entry)) sample (callToldOf (r .number) (r .kept) (now (told .exit))) ⌝ }
 {
     if kept::is_named(k) {
         let head = kept::unpack(k);
@@ -132,7 +132,7 @@ pub extern "C" fn ow_lent_rtt(
     sample: u32,
     told: &mut [usize; 2],
 ) -> u32
-    ensures { λ r. ⌜ Samples (now (k .entry)) (now (held .entry)) (now (places .entry)) sample (toldOf r (now (k .exit)) (now (told .exit))) ⌝ }
+    ensures { λ r. ⌜ Samples (now (k .entry)) (now (held .entry)) (now (places .entry)) sample (callToldOf r (now (k .exit)) (now (told .exit))) ⌝ }
 {
     let o = rtt(*k, held, places, sample, told);
     *k = o.kept;

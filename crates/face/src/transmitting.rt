@@ -3,13 +3,13 @@ use crate::answer::Served;
 use kept::Kept;
 use kept::flags;
 ghost use mathlib.Core.Path.{_≡_};
-ghost use Rattle.face.specs.Left.{toldOf};
-ghost use Rattle.face.specs.Transmit.{dispatchedTold, dispatchedLent};
+ghost use Rattle.face.specs.FaceLeft.{callToldOf};
+ghost use Rattle.face.specs.FaceTransmit.{dispatchedTold, dispatchedLent};
 ghost use Rattle.face.specs.Promises.{Transmits};
 
 // Told: length, whether a chunk goes again, first and last TSN.
 fn sent(r: asks::Transmitted, told: &mut [usize; 4]) -> Served
-    ensures { λ q. ⌜ toldOf (q .number) (q .kept) (now (told .exit)) ≡ dispatchedTold r ⌝ }
+    ensures { λ q. ⌜ callToldOf (q .number) (q .kept) (now (told .exit)) ≡ dispatchedTold r ⌝ }
 {
     let head = r.head;
     let first = r.first;
@@ -35,7 +35,7 @@ pub fn transmit(
     out: &mut [u8],
     told: &mut [usize; 4],
 ) -> Served
-    ensures { λ r. ⌜ Transmits k (now (held .entry)) (now (area .entry)) (dispatchedLent (now (places .entry)) (now («next_out» .entry)) (now (out .entry))) (toldOf (r .number) (r .kept) (now (told .exit))) (dispatchedLent (now (places .exit)) (now («next_out» .exit)) (now (out .exit))) ⌝ }
+    ensures { λ r. ⌜ Transmits k (now (held .entry)) (now (area .entry)) (dispatchedLent (now (places .entry)) (now («next_out» .entry)) (now (out .entry))) (callToldOf (r .number) (r .kept) (now (told .exit))) (dispatchedLent (now (places .exit)) (now («next_out» .exit)) (now (out .exit))) ⌝ }
 {
     if kept::is_named(k) {
         let head = kept::unpack(k);
@@ -56,7 +56,7 @@ pub extern "C" fn ow_lent_transmit(
     out: &mut [u8],
     told: &mut [usize; 4],
 ) -> u32
-    ensures { λ r. ⌜ Transmits (now (k .entry)) (now (held .entry)) (now (area .entry)) (dispatchedLent (now (places .entry)) (now («next_out» .entry)) (now (out .entry))) (toldOf r (now (k .exit)) (now (told .exit))) (dispatchedLent (now (places .exit)) (now («next_out» .exit)) (now (out .exit))) ⌝ }
+    ensures { λ r. ⌜ Transmits (now (k .entry)) (now (held .entry)) (now (area .entry)) (dispatchedLent (now (places .entry)) (now («next_out» .entry)) (now (out .entry))) (callToldOf r (now (k .exit)) (now (told .exit))) (dispatchedLent (now (places .exit)) (now («next_out» .exit)) (now (out .exit))) ⌝ }
 {
     let o = transmit(*k, held, places, next_out, area, out, told);
     *k = o.kept;

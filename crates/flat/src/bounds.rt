@@ -6,7 +6,7 @@ ghost use mathlib.Core.Path.{_≡_};
 ghost use mathlib.Core.List.{List};
 ghost use Prim.Native.Nat.{ℕ};
 ghost use Rattle.association.specs.Bounds.{isHead, isSound};
-ghost use Rattle.flat.specs.Shown.{cookieOf, shown};
+ghost use Rattle.flat.specs.Shown.{cookieShown, shown};
 
 // Whether head and tables are within their bounds, whatever the next SSNs and the bytes of the cookie.
 pub fn is_sound(head: Head, held: &[u32; 512], places: &[u32; 1024]) -> bool

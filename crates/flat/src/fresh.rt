@@ -10,7 +10,7 @@ use states::State;
 ghost use mathlib.Core.Path.{_≡_};
 ghost use lib.ListN.{replicate};
 ghost use Rattle.association.specs.Fresh.{started, closedAt};
-ghost use Rattle.flat.specs.Shown.{headOf, zeroed};
+ghost use Rattle.flat.specs.Shown.{associationHead, headOverZeros};
 
 impl Head {
     // Nothing has come from a peer whose first number is `theirs`, and nothing was sent from `ours` on.
@@ -22,7 +22,7 @@ impl Head {
         theirs: Tsn,
         mode: u8,
     ) -> Head
-        ensures { λ r. ⌜ r ≡ headOf (started state ends ours advertised theirs mode) ⌝ }
+        ensures { λ r. ⌜ r ≡ associationHead (started state ends ours advertised theirs mode) ⌝ }
     {
         let keeping = Keeping::fresh(theirs);
         let sender = Sender::fresh(ours, advertised, mode);
@@ -37,7 +37,7 @@ impl Head {
 
     // A closed record at one of the host's ports, in one of the two books.
     pub fn closed(port: u16, mode: u8) -> Head
-        ensures { λ r. ⌜ r ≡ headOf (closedAt port mode) ⌝ }
+        ensures { λ r. ⌜ r ≡ associationHead (closedAt port mode) ⌝ }
     {
         let ends = Ends {
             local_port: port,
@@ -61,7 +61,7 @@ pub fn clear_cookie(t: &mut [u8; 256])
 
 impl Association {
     pub fn closed(port: u16, mode: u8) -> Association
-        ensures { λ r. ⌜ r ≡ zeroed (headOf (closedAt port mode)) ⌝ }
+        ensures { λ r. ⌜ r ≡ headOverZeros (associationHead (closedAt port mode)) ⌝ }
     {
         let head = Head::closed(port, mode);
         Association {

@@ -6,7 +6,7 @@ use sender::Sender;
 use states::State;
 ghost use mathlib.Core.Path.{_≡_};
 ghost use Rattle.association.specs.Fresh.{withState};
-ghost use Rattle.flat.specs.Shown.{headOf, bare};
+ghost use Rattle.flat.specs.Shown.{associationHead, bare};
 
 // All of a record that is no table.
 pub struct Head {
@@ -30,7 +30,7 @@ pub struct Association {
 impl Head {
     // The head in another state: all that closing changes.
     pub fn moved(self, state: State) -> Head
-        ensures { λ r. ⌜ r ≡ headOf (withState (bare self) state) ⌝ }
+        ensures { λ r. ⌜ r ≡ associationHead (withState (bare self) state) ⌝ }
     {
         let ends = self.ends;
         let keeping = self.keeping;

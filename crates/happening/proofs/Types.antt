@@ -9,7 +9,7 @@ use denote.Struct.Declared.{row}
 use borrow.Author.Needs.{needs}
 use Rattle.flat.specs.declared.head.Association.{Association}
 use Rattle.flat.proofs.head.Association as record-of
-use Rattle.rows.specs.RowsLaws.{Sized}
+use Rattle.rows.specs.TableRowsLaws.{Sized}
 
 module _ (a : Association) (v : List Val) (g : Is (row record-of.the-type) a v) where
   held-long : length (a .held) ≡ 512

@@ -1,7 +1,8 @@
 -- Any event, over the record by value: what it tells and leaves, and that this shows what the definition says.
-pub mod Told
-pub mod Happening
-pub mod HappeningLaws
-pub mod Shown
-pub mod ShownLaws
-pub mod WideLaws
+-- To read: TableTold, TableHappening, EventShown. The rest are laws.
+pub mod TableTold
+pub mod TableHappening
+pub mod TableHappeningLaws
+pub mod EventShown
+pub mod EventShownLaws
+pub mod TableWideLaws

@@ -4,7 +4,7 @@ use crate::told::Told;
 use flat::Association;
 ghost use mathlib.Core.Path.{_≡_};
 ghost use Rattle.events.specs.Event.{eventOf};
-ghost use Rattle.happening.specs.Happening.{lent, leftOf, ranOf, happened};
+ghost use Rattle.happening.specs.TableHappening.{lentTableBuffers, leftOf, ranOf, tableHappened};
 
 // One event of a record that the host lends.
 pub fn happen(
@@ -18,7 +18,7 @@ pub fn happen(
     cookie: &[u8],
     out: &mut [u8],
 ) -> Told
-    ensures { λ r. ⌜ leftOf (ranOf r (now (a .exit))) (now (received .exit)) (now (sent .exit)) (now (verdicts .exit)) (now (out .exit)) ≡ happened (now (a .entry)) (eventOf code (now (values .entry))) (lent (now (received .entry)) (now (sent .entry)) (now (verdicts .entry)) (now (input .entry)) (now (cookie .entry)) (now (out .entry))) ⌝ }
+    ensures { λ r. ⌜ leftOf (ranOf r (now (a .exit))) (now (received .exit)) (now (sent .exit)) (now (verdicts .exit)) (now (out .exit)) ≡ tableHappened (now (a .entry)) (eventOf code (now (values .entry))) (lentTableBuffers (now (received .entry)) (now (sent .entry)) (now (verdicts .entry)) (now (input .entry)) (now (cookie .entry)) (now (out .entry))) ⌝ }
 {
     let o = running::run_coded(
         *a,

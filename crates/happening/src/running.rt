@@ -22,20 +22,20 @@ ghost use Rattle.calls.specs.Answer.{isShortArea, barred};
 ghost use Rattle.calls.specs.Opening.{associating};
 ghost use Rattle.calls.specs.Messages.{takeBar};
 ghost use Rattle.calls.specs.Transmit.{transmitBar};
-ghost use Rattle.calls.specs.Acknowledging.{acknowledged, acknowledgedOut};
+ghost use Rattle.calls.specs.Acknowledging.{acknowledgedCall, acknowledgedOut};
 ghost use Rattle.calls.specs.Timers.{expiring, sampling};
 ghost use Rattle.calls.specs.Closing.{shutting, aborting};
 ghost use Rattle.calls.specs.Telling.{tellingStale, beating};
 ghost use Rattle.flat.specs.Shown.{shows};
-ghost use Rattle.asks.specs.Timers.{lapsed};
-ghost use Rattle.asks.specs.Messages.{handedOver, deliveredFrom};
-ghost use Rattle.asks.specs.Transmit.{dispatched};
+ghost use Rattle.asks.specs.TableTimers.{lapsed};
+ghost use Rattle.asks.specs.TableMessages.{handedOver, deliveredFrom};
+ghost use Rattle.asks.specs.TableTransmit.{dispatched};
 ghost use Rattle.landing.specs.Landing.{landed};
 ghost use Rattle.events.specs.Event.{eventOf};
 ghost use Rattle.events.specs.Happening.{unknownNumber, tellingAny, halves, happened as defined};
-ghost use Rattle.happening.specs.Told.{plainly};
-ghost use Rattle.happening.specs.Happening.{lent, leftOf, ranOf, leaving, withHead, planned, keeping, associates, lapses, hands, dispatches, delivers, acknowledges, lands, happened};
-ghost use Rattle.happening.specs.Shown.{lentOf, Shows};
+ghost use Rattle.happening.specs.TableTold.{toldPlainly};
+ghost use Rattle.happening.specs.TableHappening.{lentTableBuffers, leftOf, ranOf, tableLeaving, withHead, tablePlanned, keeping, tableAssociates, lapses, hands, dispatches, delivers, tableAcknowledges, lands, tableHappened};
+ghost use Rattle.happening.specs.EventShown.{buffersShown, EventShows};
 
 fn with_head(mut a: Association, head: Head) -> Association
     ensures { λ r. ⌜ r ≡ withHead a head ⌝ }
@@ -45,7 +45,7 @@ fn with_head(mut a: Association, head: Head) -> Association
 }
 
 fn first_timer(a: Association, out: &mut [u8]) -> Ran
-    ensures { λ r. ⌜ ((received sent verdicts input cookie : List ℕ) → leftOf r received sent verdicts (now (out .exit)) ≡ planned a (expiring (shows a) FirstTimer (now (out .entry))) (lent received sent verdicts input cookie (now (out .entry)))) ⌝ }
+    ensures { λ r. ⌜ ((received sent verdicts input cookie : List ℕ) → leftOf r received sent verdicts (now (out .exit)) ≡ tablePlanned a (expiring (shows a) FirstTimer (now (out .entry))) (lentTableBuffers received sent verdicts input cookie (now (out .entry)))) ⌝ }
 {
     let head = a.head;
     let held = a.held;
@@ -61,7 +61,7 @@ fn first_timer(a: Association, out: &mut [u8]) -> Ran
 }
 
 fn second_timer(a: Association, out: &mut [u8]) -> Ran
-    ensures { λ r. ⌜ ((received sent verdicts input cookie : List ℕ) → leftOf r received sent verdicts (now (out .exit)) ≡ planned a (expiring (shows a) SecondTimer (now (out .entry))) (lent received sent verdicts input cookie (now (out .entry)))) ⌝ }
+    ensures { λ r. ⌜ ((received sent verdicts input cookie : List ℕ) → leftOf r received sent verdicts (now (out .exit)) ≡ tablePlanned a (expiring (shows a) SecondTimer (now (out .entry))) (lentTableBuffers received sent verdicts input cookie (now (out .entry)))) ⌝ }
 {
     let head = a.head;
     let held = a.held;
@@ -77,7 +77,7 @@ fn second_timer(a: Association, out: &mut [u8]) -> Ran
 }
 
 fn shutdown(a: Association, out: &mut [u8]) -> Ran
-    ensures { λ r. ⌜ ((received sent verdicts input cookie : List ℕ) → leftOf r received sent verdicts (now (out .exit)) ≡ planned a (shutting (shows a) (now (out .entry))) (lent received sent verdicts input cookie (now (out .entry)))) ⌝ }
+    ensures { λ r. ⌜ ((received sent verdicts input cookie : List ℕ) → leftOf r received sent verdicts (now (out .exit)) ≡ tablePlanned a (shutting (shows a) (now (out .entry))) (lentTableBuffers received sent verdicts input cookie (now (out .entry)))) ⌝ }
 {
     let head = a.head;
     let held = a.held;
@@ -92,7 +92,7 @@ fn shutdown(a: Association, out: &mut [u8]) -> Ran
 }
 
 fn abort(a: Association, why: Reason, out: &mut [u8]) -> Ran
-    ensures { λ r. ⌜ ((received sent verdicts input cookie : List ℕ) → leftOf r received sent verdicts (now (out .exit)) ≡ planned a (aborting (shows a) why (now (out .entry))) (lent received sent verdicts input cookie (now (out .entry)))) ⌝ }
+    ensures { λ r. ⌜ ((received sent verdicts input cookie : List ℕ) → leftOf r received sent verdicts (now (out .exit)) ≡ tablePlanned a (aborting (shows a) why (now (out .entry))) (lentTableBuffers received sent verdicts input cookie (now (out .entry)))) ⌝ }
 {
     let head = a.head;
     let held = a.held;
@@ -107,7 +107,7 @@ fn abort(a: Association, why: Reason, out: &mut [u8]) -> Ran
 }
 
 fn error_stale(a: Association, port: u16, tag: u32, late: u32, out: &mut [u8]) -> Ran
-    ensures { λ r. ⌜ ((received sent verdicts input cookie : List ℕ) → leftOf r received sent verdicts (now (out .exit)) ≡ planned a (tellingStale (shows a) port tag late (now (out .entry))) (lent received sent verdicts input cookie (now (out .entry)))) ⌝ }
+    ensures { λ r. ⌜ ((received sent verdicts input cookie : List ℕ) → leftOf r received sent verdicts (now (out .exit)) ≡ tablePlanned a (tellingStale (shows a) port tag late (now (out .entry))) (lentTableBuffers received sent verdicts input cookie (now (out .entry)))) ⌝ }
 {
     let head = a.head;
     let held = a.held;
@@ -132,7 +132,7 @@ fn value_of(high: u32, low: u32) -> [u8; 8]
 }
 
 fn heartbeat(a: Association, high: u32, low: u32, out: &mut [u8]) -> Ran
-    ensures { λ r. ⌜ ((received sent verdicts input cookie : List ℕ) → leftOf r received sent verdicts (now (out .exit)) ≡ planned a (beating (shows a) (halves high low) (now (out .entry))) (lent received sent verdicts input cookie (now (out .entry)))) ⌝ }
+    ensures { λ r. ⌜ ((received sent verdicts input cookie : List ℕ) → leftOf r received sent verdicts (now (out .exit)) ≡ tablePlanned a (beating (shows a) (halves high low) (now (out .entry))) (lentTableBuffers received sent verdicts input cookie (now (out .entry)))) ⌝ }
 {
     let head = a.head;
     let held = a.held;
@@ -149,7 +149,7 @@ fn heartbeat(a: Association, high: u32, low: u32, out: &mut [u8]) -> Ran
 
 // 19 for a stream that no chunk can name.
 fn error_stream(a: Association, stream: u32, out: &mut [u8]) -> Ran
-    ensures { λ r. ⌜ ((received sent verdicts input cookie : List ℕ) → leftOf r received sent verdicts (now (out .exit)) ≡ planned a (tellingAny (shows a) stream (now (out .entry))) (lent received sent verdicts input cookie (now (out .entry)))) ⌝ }
+    ensures { λ r. ⌜ ((received sent verdicts input cookie : List ℕ) → leftOf r received sent verdicts (now (out .exit)) ≡ tablePlanned a (tellingAny (shows a) stream (now (out .entry))) (lentTableBuffers received sent verdicts input cookie (now (out .entry)))) ⌝ }
 {
     let head = a.head;
     let held = a.held;
@@ -173,7 +173,7 @@ fn error_stream(a: Association, stream: u32, out: &mut [u8]) -> Ran
 }
 
 fn sample(a: Association, ms: u32) -> Ran
-    ensures { λ r. ⌜ ((received sent verdicts input cookie out : List ℕ) → leftOf r received sent verdicts out ≡ keeping a (sampling (shows a) ms) (lent received sent verdicts input cookie out)) ⌝ }
+    ensures { λ r. ⌜ ((received sent verdicts input cookie out : List ℕ) → leftOf r received sent verdicts out ≡ keeping a (sampling (shows a) ms) (lentTableBuffers received sent verdicts input cookie out)) ⌝ }
 {
     let head = a.head;
     let held = a.held;
@@ -188,7 +188,7 @@ fn sample(a: Association, ms: u32) -> Ran
 }
 
 fn third_timer(mut a: Association) -> Ran
-    ensures { λ r. ⌜ ((received sent verdicts input cookie out : List ℕ) → leftOf r received sent verdicts out ≡ lapses a (lapsed (barred (shows a) false ThirdTimer) (a .head) (a .places)) (lent received sent verdicts input cookie out)) ⌝ }
+    ensures { λ r. ⌜ ((received sent verdicts input cookie out : List ℕ) → leftOf r received sent verdicts out ≡ lapses a (lapsed (barred (shows a) false ThirdTimer) (a .head) (a .places)) (lentTableBuffers received sent verdicts input cookie out)) ⌝ }
 {
     let head = a.head;
     let held = a.held;
@@ -212,7 +212,7 @@ fn hand_in(
     unordered: bool,
     ppid: u32,
 ) -> Ran
-    ensures { λ r. ⌜ ((received verdicts cookie out : List ℕ) → leftOf r received (now (sent .exit)) verdicts out ≡ hands a (handedOver (barred (shows a) (isShortArea (now (sent .entry))) HandIn) (a .head) (a .places) (now (sent .entry)) (now (input .entry)) stream unordered ppid) (lent received (now (sent .entry)) verdicts (now (input .entry)) cookie out)) ⌝ }
+    ensures { λ r. ⌜ ((received verdicts cookie out : List ℕ) → leftOf r received (now (sent .exit)) verdicts out ≡ hands a (handedOver (barred (shows a) (isShortArea (now (sent .entry))) HandIn) (a .head) (a .places) (now (sent .entry)) (now (input .entry)) stream unordered ppid) (lentTableBuffers received (now (sent .entry)) verdicts (now (input .entry)) cookie out)) ⌝ }
 {
     let head = a.head;
     let held = a.held;
@@ -236,7 +236,7 @@ fn hand_in(
 }
 
 fn transmit(mut a: Association, sent: &[u8], out: &mut [u8]) -> Ran
-    ensures { λ r. ⌜ ((received verdicts input cookie : List ℕ) → leftOf r received (now (sent .entry)) verdicts (now (out .exit)) ≡ dispatches a (dispatched (transmitBar (shows a) (now (sent .entry)) (now (out .entry))) (a .head) (a .places) (a .«next_out») (now (sent .entry)) (now (out .entry))) (lent received (now (sent .entry)) verdicts input cookie (now (out .entry)))) ⌝ }
+    ensures { λ r. ⌜ ((received verdicts input cookie : List ℕ) → leftOf r received (now (sent .entry)) verdicts (now (out .exit)) ≡ dispatches a (dispatched (transmitBar (shows a) (now (sent .entry)) (now (out .entry))) (a .head) (a .places) (a .«next_out») (now (sent .entry)) (now (out .entry))) (lentTableBuffers received (now (sent .entry)) verdicts input cookie (now (out .entry)))) ⌝ }
 {
     let head = a.head;
     let held = a.held;
@@ -255,7 +255,7 @@ fn transmit(mut a: Association, sent: &[u8], out: &mut [u8]) -> Ran
 }
 
 fn take(mut a: Association, received: &[u8], out: &mut [u8]) -> Ran
-    ensures { λ r. ⌜ ((sent verdicts input cookie : List ℕ) → leftOf r (now (received .entry)) sent verdicts (now (out .exit)) ≡ delivers a (deliveredFrom (takeBar (shows a) (now (received .entry))) (a .head) (a .held) (a .«next_in») (now (received .entry)) (now (out .entry))) (lent (now (received .entry)) sent verdicts input cookie (now (out .entry)))) ⌝ }
+    ensures { λ r. ⌜ ((sent verdicts input cookie : List ℕ) → leftOf r (now (received .entry)) sent verdicts (now (out .exit)) ≡ delivers a (deliveredFrom (takeBar (shows a) (now (received .entry))) (a .head) (a .held) (a .«next_in») (now (received .entry)) (now (out .entry))) (lentTableBuffers (now (received .entry)) sent verdicts input cookie (now (out .entry)))) ⌝ }
 {
     let head = a.head;
     let mut held = a.held;
@@ -272,7 +272,7 @@ fn take(mut a: Association, received: &[u8], out: &mut [u8]) -> Ran
 }
 
 fn acknowledge(a: Association, out: &mut [u8]) -> Ran
-    ensures { λ r. ⌜ ((received sent verdicts input cookie : List ℕ) → leftOf r received sent verdicts (now (out .exit)) ≡ acknowledges a (acknowledged (shows a) (now (out .entry))) (acknowledgedOut (shows a) (now (out .entry))) (lent received sent verdicts input cookie (now (out .entry)))) ⌝ }
+    ensures { λ r. ⌜ ((received sent verdicts input cookie : List ℕ) → leftOf r received sent verdicts (now (out .exit)) ≡ tableAcknowledges a (acknowledgedCall (shows a) (now (out .entry))) (acknowledgedOut (shows a) (now (out .entry))) (lentTableBuffers received sent verdicts input cookie (now (out .entry)))) ⌝ }
 {
     let head = a.head;
     let held = a.held;
@@ -288,7 +288,7 @@ fn acknowledge(a: Association, out: &mut [u8]) -> Ran
 }
 
 fn associate(a: Association, tag: u32, tsn: Tsn, port: u16, streams: u16, out: &mut [u8]) -> Ran
-    ensures { λ r. ⌜ ((received sent verdicts input cookie : List ℕ) → leftOf r received sent verdicts (now (out .exit)) ≡ associates a (associating (shows a) tag tsn port streams (now (out .entry))) (lent received sent verdicts input cookie (now (out .entry)))) ⌝ }
+    ensures { λ r. ⌜ ((received sent verdicts input cookie : List ℕ) → leftOf r received sent verdicts (now (out .exit)) ≡ tableAssociates a (associating (shows a) tag tsn port streams (now (out .entry))) (lentTableBuffers received sent verdicts input cookie (now (out .entry)))) ⌝ }
 {
     let head = a.head;
     let mut held = a.held;
@@ -332,7 +332,7 @@ fn packet(
     cookie: &[u8],
     out: &mut [u8],
 ) -> Ran
-    ensures { λ r. ⌜ ((sent : List ℕ) → leftOf r (now (received .exit)) sent (now (verdicts .exit)) (now (out .exit)) ≡ lands (landed (now (input .entry)) from (now (cookie .entry)) echoed (a .head) (a .held) (a .«next_in») (a .places) (a .«next_out») (a .cookie) (now (received .entry)) (now (verdicts .entry)) (now (out .entry))) (lent (now (received .entry)) sent (now (verdicts .entry)) (now (input .entry)) (now (cookie .entry)) (now (out .entry)))) ⌝ }
+    ensures { λ r. ⌜ ((sent : List ℕ) → leftOf r (now (received .exit)) sent (now (verdicts .exit)) (now (out .exit)) ≡ lands (landed (now (input .entry)) from (now (cookie .entry)) echoed (a .head) (a .held) (a .«next_in») (a .places) (a .«next_out») (a .cookie) (now (received .entry)) (now (verdicts .entry)) (now (out .entry))) (lentTableBuffers (now (received .entry)) sent (now (verdicts .entry)) (now (input .entry)) (now (cookie .entry)) (now (out .entry)))) ⌝ }
 {
     let head = a.head;
     let mut held = a.held;
@@ -369,7 +369,7 @@ fn packet(
 }
 
 fn unknown(a: Association) -> Ran
-    ensures { λ r. ⌜ ((received sent verdicts input cookie out : List ℕ) → leftOf r received sent verdicts out ≡ leaving (ranOf (plainly (unknownNumber (shows a)) 0 false) a) out (lent received sent verdicts input cookie out)) ⌝ }
+    ensures { λ r. ⌜ ((received sent verdicts input cookie out : List ℕ) → leftOf r received sent verdicts out ≡ tableLeaving (ranOf (toldPlainly (unknownNumber (shows a)) 0 false) a) out (lentTableBuffers received sent verdicts input cookie out)) ⌝ }
 {
     let head = a.head;
     let held = a.held;
@@ -400,8 +400,8 @@ pub fn run(
     cookie: &[u8],
     out: &mut [u8],
 ) -> Ran
-    ensures { λ r. ⌜ leftOf r (now (received .exit)) (now (sent .exit)) (now (verdicts .exit)) (now (out .exit)) ≡ happened a event (lent (now (received .entry)) (now (sent .entry)) (now (verdicts .entry)) (now (input .entry)) (now (cookie .entry)) (now (out .entry))) ⌝ }
-    ensures { λ r. ⌜ Shows (now (verdicts .entry)) (leftOf r (now (received .exit)) (now (sent .exit)) (now (verdicts .exit)) (now (out .exit))) (defined (shows a) event (lentOf (lent (now (received .entry)) (now (sent .entry)) (now (verdicts .entry)) (now (input .entry)) (now (cookie .entry)) (now (out .entry))))) ⌝ }
+    ensures { λ r. ⌜ leftOf r (now (received .exit)) (now (sent .exit)) (now (verdicts .exit)) (now (out .exit)) ≡ tableHappened a event (lentTableBuffers (now (received .entry)) (now (sent .entry)) (now (verdicts .entry)) (now (input .entry)) (now (cookie .entry)) (now (out .entry))) ⌝ }
+    ensures { λ r. ⌜ EventShows (now (verdicts .entry)) (leftOf r (now (received .exit)) (now (sent .exit)) (now (verdicts .exit)) (now (out .exit))) (defined (shows a) event (buffersShown (lentTableBuffers (now (received .entry)) (now (sent .entry)) (now (verdicts .entry)) (now (input .entry)) (now (cookie .entry)) (now (out .entry))))) ⌝ }
 {
     match event {
         Event::Packet(from, echoed) => packet(
@@ -444,7 +444,7 @@ pub fn run_coded(
     cookie: &[u8],
     out: &mut [u8],
 ) -> Ran
-    ensures { λ r. ⌜ leftOf r (now (received .exit)) (now (sent .exit)) (now (verdicts .exit)) (now (out .exit)) ≡ happened a (eventOf code (now (values .entry))) (lent (now (received .entry)) (now (sent .entry)) (now (verdicts .entry)) (now (input .entry)) (now (cookie .entry)) (now (out .entry))) ⌝ }
+    ensures { λ r. ⌜ leftOf r (now (received .exit)) (now (sent .exit)) (now (verdicts .exit)) (now (out .exit)) ≡ tableHappened a (eventOf code (now (values .entry))) (lentTableBuffers (now (received .entry)) (now (sent .entry)) (now (verdicts .entry)) (now (input .entry)) (now (cookie .entry)) (now (out .entry))) ⌝ }
 {
     let event = Event::of(code, values);
     run(a, event, received, sent, verdicts, input, cookie, out)

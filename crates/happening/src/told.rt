@@ -14,7 +14,7 @@ use numbers::StreamId;
 use numbers::Tsn;
 ghost use mathlib.Core.Path.{_≡_};
 ghost use Rattle.calls.specs.Messages.{noMessage};
-ghost use Rattle.happening.specs.Told.{noneWent, plainly, ofAnswered, ofHanded, ofTransmitted, ofSack, ofDelivered, ofLanded};
+ghost use Rattle.happening.specs.TableTold.{noDataWent, toldPlainly, ofAnswered, ofHanded, toldOfTransmitted, ofSack, toldOfDelivered, ofLanded};
 
 // The number, 0 if none; the bytes of the packet that was written, of a message handed in its chunks, of a take the bytes of its message, or those
 // needed; whether an expiry closed the association; then what one event alone tells, of a packet that arrived how many verdicts there are.
@@ -34,7 +34,7 @@ pub struct Ran {
 }
 
 fn none_went() -> Went
-    ensures { λ r. ⌜ r ≡ noneWent ⌝ }
+    ensures { λ r. ⌜ r ≡ noDataWent ⌝ }
 {
     Went {
         resent: false,
@@ -56,7 +56,7 @@ fn no_message() -> Message
 }
 
 pub(crate) fn plain(number: u8, length: usize, over: bool) -> Told
-    ensures { λ r. ⌜ r ≡ plainly number length over ⌝ }
+    ensures { λ r. ⌜ r ≡ toldPlainly number length over ⌝ }
 {
     let went = none_went();
     let sack = no_sack();
@@ -85,7 +85,7 @@ pub(crate) fn of_handed(r: Handing) -> Told
 }
 
 pub(crate) fn of_transmitted(r: Transmitted) -> Told
-    ensures { λ q. ⌜ q ≡ ofTransmitted r ⌝ }
+    ensures { λ q. ⌜ q ≡ toldOfTransmitted r ⌝ }
 {
     let first = r.first;
     let last = r.last;
@@ -108,7 +108,7 @@ pub(crate) fn of_sack(number: u8, length: usize, sack: Sack) -> Told
 }
 
 pub(crate) fn of_delivered(r: Delivered) -> Told
-    ensures { λ q. ⌜ q ≡ ofDelivered r ⌝ }
+    ensures { λ q. ⌜ q ≡ toldOfDelivered r ⌝ }
 {
     let message = r.message;
     let mut told = plain(r.number, message.length, false);

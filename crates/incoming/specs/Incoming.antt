@@ -4,32 +4,32 @@ use lib.ListN.{replicate}
 use Rattle.numbers.specs.declared.circle.Tsn.{Tsn}
 use Rattle.numbers.specs.Keeping as keeping
 use Rattle.numbers.specs.Numbering.{ring, circles}
-use Rattle.numbers.specs.Profile.{rail}
+use Rattle.numbers.specs.Profile.{rail, heldWordCount}
 use Rattle.holding.specs.declared.held.Held.{Held}
 use Rattle.holding.specs.Taking.{took}
-use Rattle.tables.specs.Held.{heldOf}
+use Rattle.tables.specs.HeldWords.{heldOf}
 use Rattle.tables.specs.Ssns.{ssnsOf}
-use Rattle.taking.specs.Taking.{wordsTaken, ssnsTaken}
+use Rattle.taking.specs.TakeWords.{wordsTaken, ssnsTaken}
 use Rattle.delivery.specs.declared.receiving.Receiving.{Receiving}
-use Rattle.reception.specs.Reception as reception
+use Rattle.reception.specs.Reception.{receivingShown, arrivalTold, wordsAfter, sacked}
 use Rattle.incoming.specs.declared.Incoming.{Incoming}
 use Rattle.incoming.specs.declared.Came.{Came}
 use Rattle.incoming.specs.declared.Took.{Took}
 use Rattle.incoming.specs.declared.Told.{Told}
 
 -- what it shows
-abbrev pub shown : Incoming → Receiving
-shown r = reception.seen rail (r .keeping) (r .held) (r .next)
+abbrev pub incomingShown : Incoming → Receiving
+incomingShown r = receivingShown rail (r .keeping) (r .held) (r .next)
 
-abbrev pub begun : Tsn → Incoming
-begun t = record { keeping = keeping.fresh (ring (2 ^ 32)) rail t; held = replicate 512 0; next = replicate 128 0 }
+abbrev pub incomingBegun : Tsn → Incoming
+incomingBegun t = record { keeping = keeping.freshKeeping (ring (2 ^ 32)) rail t; held = replicate (heldWordCount rail) 0; next = replicate (rail .streams) 0 }
 
 abbrev pub cameTo : Incoming → Held → ℕ → Came
 cameTo r h streams = record {
-  verdict = reception.told circles rail (shown r) h streams .verdict;
+  verdict = arrivalTold circles rail (incomingShown r) h streams .verdict;
   incoming = record {
-    keeping = reception.told circles rail (shown r) h streams .keeping;
-    held = reception.wordsAfter circles rail (shown r) (r .held) h streams;
+    keeping = arrivalTold circles rail (incomingShown r) h streams .keeping;
+    held = wordsAfter circles rail (incomingShown r) (r .held) h streams;
     next = r .next;
   };
 }
@@ -44,8 +44,8 @@ tookFrom r room = record {
   };
 }
 
-abbrev pub told : Incoming → Told
-told r = record {
-  sack = reception.sacked rail (r .keeping) (r .held) .sack;
-  incoming = record { keeping = reception.sacked rail (r .keeping) (r .held) .keeping; held = r .held; next = r .next };
+abbrev pub incomingTold : Incoming → Told
+incomingTold r = record {
+  sack = sacked rail (r .keeping) (r .held) .sack;
+  incoming = record { keeping = sacked rail (r .keeping) (r .held) .keeping; held = r .held; next = r .next };
 }

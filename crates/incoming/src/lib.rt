@@ -16,10 +16,10 @@ ghost use Rattle.holding.specs.Taking.{written};
 ghost use Rattle.delivery.specs.declared.arrival.Arrival.{Arrival};
 ghost use Rattle.delivery.specs.declared.receiving.Taken.{Taken};
 ghost use Rattle.delivery.specs.declared.acknowledging.Acknowledged.{Acknowledged};
-ghost use Rattle.delivery.specs.Arrival.{arrived, areaAfter};
-ghost use Rattle.delivery.specs.Receiving.{fresh, taken};
-ghost use Rattle.delivery.specs.Acknowledging.{acknowledged};
-ghost use Rattle.incoming.specs.Incoming.{shown, begun, cameTo, tookFrom, told};
+ghost use Rattle.delivery.specs.Arrival.{arrived, arrivalArea};
+ghost use Rattle.delivery.specs.Receiving.{freshReceiving, takenInto};
+ghost use Rattle.delivery.specs.ReceivingSack.{acknowledgedReceiving};
+ghost use Rattle.incoming.specs.Incoming.{incomingShown, incomingBegun, cameTo, tookFrom, incomingTold};
 
 // Number-keeping, the held chunks, and the next expected SSN of each stream.
 pub struct Incoming {
@@ -49,7 +49,7 @@ pub struct Told {
 impl Incoming {
     // Nothing has come yet of a peer whose first number is `initial`.
     pub fn fresh(initial: Tsn) -> Incoming
-        ensures { λ r. ⌜ (r ≡ begun initial) × (shown r ≡ fresh (ring (2 ^ 32)) rail initial) ⌝ }
+        ensures { λ r. ⌜ (r ≡ incomingBegun initial) × (incomingShown r ≡ freshReceiving (ring (2 ^ 32)) rail initial) ⌝ }
     {
         let keeping = Keeping::fresh(initial);
         Incoming {
@@ -63,8 +63,8 @@ impl Incoming {
 // A chunk arrives with its payload, in an association of so many agreed streams.
 pub fn arrive(mut r: Incoming, area: &mut [u8], c: Chunk, payload: &[u8], streams: u16) -> Came
     ensures { λ o. ⌜ (o ≡ cameTo r (asHeld c (length (now (payload .entry)))) streams)
-        × (_≡_ {A = Arrival} (record { verdict = o .verdict; receiving = shown (o .incoming) }) (arrived circles rail (shown r) (asHeld c (length (now (payload .entry)))) streams))
-        × (now (area .exit) ≡ areaAfter circles rail (shown r) (asHeld c (length (now (payload .entry)))) streams (now (area .entry)) (now (payload .entry))) ⌝ }
+        × (_≡_ {A = Arrival} (record { verdict = o .verdict; receiving = incomingShown (o .incoming) }) (arrived circles rail (incomingShown r) (asHeld c (length (now (payload .entry)))) streams))
+        × (now (area .exit) ≡ arrivalArea circles rail (incomingShown r) (asHeld c (length (now (payload .entry)))) streams (now (area .entry)) (now (payload .entry))) ⌝ }
 {
     let keeping = r.keeping;
     let next = r.next;
@@ -81,8 +81,8 @@ pub fn arrive(mut r: Incoming, area: &mut [u8], c: Chunk, payload: &[u8], stream
 // A message is taken: its bytes go to `out`. Two tables of one record cannot be lent at once: the smaller goes by a local.
 pub fn take(mut r: Incoming, area: &[u8], out: &mut [u8]) -> Took
     ensures { λ o. ⌜ (o ≡ tookFrom r (length (now (out .entry))))
-        × (_≡_ {A = Taken} (record { answer = o .answer; receiving = shown (o .incoming) }) (taken circles rail (shown r) (length (now (out .entry)))))
-        × (now (out .exit) ≡ written circles rail (shown r .held) (shown r .next) (r .keeping .point .0) (now (area .entry)) (now (out .entry))) ⌝ }
+        × (_≡_ {A = Taken} (record { answer = o .answer; receiving = incomingShown (o .incoming) }) (takenInto circles rail (incomingShown r) (length (now (out .entry)))))
+        × (now (out .exit) ≡ written circles rail (incomingShown r .held) (incomingShown r .next) (r .keeping .point .0) (now (area .entry)) (now (out .entry))) ⌝ }
 {
     let keeping = r.keeping;
     let point = keeping.point;
@@ -97,7 +97,7 @@ pub fn take(mut r: Incoming, area: &[u8], out: &mut [u8]) -> Took
 
 // What a SACK tells; the duplicates are then told.
 pub fn sack(mut r: Incoming) -> Told
-    ensures { λ o. ⌜ (o ≡ told r) × (_≡_ {A = Acknowledged} (record { sack = o .sack; receiving = shown (o .incoming) }) (acknowledged rail (shown r))) ⌝ }
+    ensures { λ o. ⌜ (o ≡ incomingTold r) × (_≡_ {A = Acknowledged} (record { sack = o .sack; receiving = incomingShown (o .incoming) }) (acknowledgedReceiving rail (incomingShown r))) ⌝ }
 {
     let keeping = r.keeping;
     let a = reception::acknowledging::sack(keeping, &r.held);

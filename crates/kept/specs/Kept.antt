@@ -11,15 +11,15 @@ use Rattle.kept.specs.Flags.{isJunk}
 use Rattle.kept.specs.Parts.{unpackedKeeping, packedKeeping, unpackedSender, packedSender}
 
 -- "The eight of RFC 9260", in the order of a life
-abbrev pub numberOf : State → ℕ
-numberOf Closed = 0
-numberOf (CookieWait n) = 1
-numberOf (CookieEchoed n) = 2
-numberOf Established = 3
-numberOf ShutdownPending = 4
-numberOf (ShutdownSent n) = 5
-numberOf ShutdownReceived = 6
-numberOf (ShutdownAckSent n) = 7
+abbrev pub stateNumber : State → ℕ
+stateNumber Closed = 0
+stateNumber (CookieWait n) = 1
+stateNumber (CookieEchoed n) = 2
+stateNumber Established = 3
+stateNumber ShutdownPending = 4
+stateNumber (ShutdownSent n) = 5
+stateNumber ShutdownReceived = 6
+stateNumber (ShutdownAckSent n) = 7
 
 -- "each waiting state carries its count of tries"; the others have 0
 abbrev pub triesOf : State → ℕ
@@ -40,7 +40,7 @@ stateOf k n =
 
 -- the two numbers are those of a state
 unfoldable pub isState : ℕ → ℕ → Bool
-isState k n = pick (eqb (numberOf (stateOf k n)) k) (eqb (triesOf (stateOf k n)) n) false
+isState k n = pick (eqb (stateNumber (stateOf k n)) k) (eqb (triesOf (stateOf k n)) n) false
 
 -- a flag is neither 0 nor 1
 unfoldable pub hasJunk : Kept → Bool
@@ -66,7 +66,7 @@ unpacked k = record {
 
 unfoldable pub packed : Head → Kept
 packed h = record {
-  state = numberOf (h .state);
+  state = stateNumber (h .state);
   tries = triesOf (h .state);
   «cookie_len» = h .«cookie_len»;
   ends = h .ends;

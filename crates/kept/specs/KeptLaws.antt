@@ -17,9 +17,9 @@ use Rattle.kept.specs.declared.head.Kept.{Kept}
 use Rattle.kept.specs.Flags.{isYes, isJunk}
 use Rattle.kept.specs.FlagsLaws.{flag-back, byte-clean, byte-back, flags-back, bytes-clean, bytes-back}
 use Rattle.kept.specs.Parts.{unpackedKeeping, packedKeeping, unpackedPath, packedPath, unpackedSender, packedSender}
-use Rattle.kept.specs.Kept.{numberOf, triesOf, stateOf, isState, hasJunk, isNamed, unpacked, packed}
+use Rattle.kept.specs.Kept.{stateNumber, triesOf, stateOf, isState, hasJunk, isNamed, unpacked, packed}
 
-state-back : (s : State) → stateOf (numberOf s) (triesOf s) ≡ s
+state-back : (s : State) → stateOf (stateNumber s) (triesOf s) ≡ s
 state-back Closed = refl
 state-back (CookieWait n) = refl
 state-back (CookieEchoed n) = refl
@@ -50,9 +50,9 @@ pub unpack-pack : (h : Head) → unpacked (packed h) ≡ h
 unfolding unpacked packed
 unpack-pack h = λ i. record { state = state-back (h .state) i; ends = h .ends; keeping = keeping-back (h .keeping) i; sender = sender-back (h .sender) i; «cookie_len» = h .«cookie_len» }
 
-state-named : (s : State) → isState (numberOf s) (triesOf s) ≡ true
+state-named : (s : State) → isState (stateNumber s) (triesOf s) ≡ true
 unfolding isState
-state-named s = rw (state-back s, eq-eqb (numberOf s) _ refl) (eq-eqb (triesOf s) _ refl)
+state-named s = rw (state-back s, eq-eqb (stateNumber s) _ refl) (eq-eqb (triesOf s) _ refl)
 
 pack-clean : (h : Head) → hasJunk (packed h) ≡ false
 unfolding hasJunk packed
@@ -64,8 +64,8 @@ unfolding isNamed packed
 pack-named h = rw (state-named (h .state), pack-clean h)
 
 -- what every number and flag of a named head tells
-pub record Named (k : Kept) : Type 0 where
-  pub number : numberOf (stateOf (k .state) (k .tries)) ≡ k .state
+pub record StateNamed (k : Kept) : Type 0 where
+  pub number : stateNumber (stateOf (k .state) (k .tries)) ≡ k .state
   pub tries : triesOf (stateOf (k .state) (k .tries)) ≡ k .tries
   pub running : boolByte (isYes (k .sender .path .running)) ≡ k .sender .path .running
   pub sampled : boolByte (isYes (k .sender .path .clock .sampled)) ≡ k .sender .path .clock .sampled
@@ -75,15 +75,15 @@ not-true : (b : Bool) → not b ≡ true → b ≡ false
 not-true true e = clash e
 not-true false e = refl
 
-named-by : (k : Kept) → isNamed k ≡ true → Named k
+named-by : (k : Kept) → isNamed k ≡ true → StateNamed k
 unfolding isNamed isState hasJunk
 named-by k h =
     let a = after-so (isState (k .state) (k .tries)) (not (hasJunk k)) h in
-    let b = after-so (eqb (numberOf (stateOf (k .state) (k .tries))) (k .state)) (eqb (triesOf (stateOf (k .state) (k .tries))) (k .tries)) (a .0) in
+    let b = after-so (eqb (stateNumber (stateOf (k .state) (k .tries))) (k .state)) (eqb (triesOf (stateOf (k .state) (k .tries))) (k .tries)) (a .0) in
     let c = neither (isJunk (k .sender .path .running)) _ (not-true (hasJunk k) (a .1)) in
     let d = neither (isJunk (k .sender .path .clock .sampled)) (any isJunk (k .keeping .come)) (c .1) in
     record {
-      number = eqb-true (numberOf (stateOf (k .state) (k .tries))) (k .state) (b .0);
+      number = eqb-true (stateNumber (stateOf (k .state) (k .tries))) (k .state) (b .0);
       tries = eqb-true (triesOf (stateOf (k .state) (k .tries))) (k .tries) (b .1);
       running = byte-back (k .sender .path .running) (c .0);
       sampled = byte-back (k .sender .path .clock .sampled) (d .0);

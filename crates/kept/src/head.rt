@@ -7,7 +7,7 @@ use association::Ends;
 use flat::Head;
 use states::State;
 ghost use mathlib.Core.Path.{_≡_};
-ghost use Rattle.kept.specs.Kept.{numberOf, triesOf, stateOf, isState, hasJunk, isNamed, unpacked, packed};
+ghost use Rattle.kept.specs.Kept.{stateNumber, triesOf, stateOf, isState, hasJunk, isNamed, unpacked, packed};
 
 // The state is two numbers: which it is, and its count of tries, 0 where it has none.
 #[repr(C)]
@@ -21,7 +21,7 @@ pub struct Kept {
 }
 
 fn number_of(s: State) -> u8
-    ensures { λ r. ⌜ r ≡ numberOf s ⌝ }
+    ensures { λ r. ⌜ r ≡ stateNumber s ⌝ }
 {
     match s {
         State::Closed => 0,

@@ -13,20 +13,20 @@ use Rattle.scans.specs.Each.{All}
 use Rattle.octets.specs.Bytes.{laid}
 use Rattle.octets.specs.BytesLaws.{laid-is, length-laid, drop-past}
 use Rattle.arriving.specs.declared.verdict.Verdict.{Verdict}
-use Rattle.landing.specs.Verdicts.{verdictWords, wordsOf, verdictOf, verdictsOf, countAfter, wordsNoted}
+use Rattle.landing.specs.Verdicts.{verdictWords, allVerdictWords, verdictIn, verdictsOf, countAfter, wordsNoted}
 
-words-append : (us vs : List Verdict) → wordsOf (us ++ vs) ≡ wordsOf us ++ wordsOf vs
+words-append : (us vs : List Verdict) → allVerdictWords (us ++ vs) ≡ allVerdictWords us ++ allVerdictWords vs
 words-append [] vs = refl
 words-append (u ∷ us) vs = ap (λ (l : List ℕ). verdictWords u ++ l) (words-append us vs)
 
 -- a verdict within its words
-pub record Small (v : Verdict) : Type 0 where
+pub record VerdictSmall (v : Verdict) : Type 0 where
   pub at : v .at < 65536
   pub number : v .number < 256
   pub event : v .event < 256
 
 -- is what they tell
-word-back : (v : Verdict) → Small v → verdictOf (verdictWords v) ≡ v
+word-back : (v : Verdict) → VerdictSmall v → verdictIn (verdictWords v) ≡ v
 word-back v s =
     let a : v .at % 65536 ≡ v .at = omega (arith, s .at) in
     let f : (v .fate * 256 + v .number) / 256 ≡ v .fate = omega (arith, s .number) in
@@ -35,7 +35,7 @@ word-back v s =
     let e : (v .cause * 256 + v .event) % 256 ≡ v .event = omega (arith, s .event) in
     λ i. record { at = a i; value = v .value; fate = f i; number = n i; cause = c i; event = e i }
 
-pub words-back : (vs : List Verdict) (rest : List ℕ) → All Small vs → verdictsOf (length vs) (wordsOf vs ++ rest) ≡ vs
+pub words-back : (vs : List Verdict) (rest : List ℕ) → All VerdictSmall vs → verdictsOf (length vs) (allVerdictWords vs ++ rest) ≡ vs
 words-back [] rest s = refl
 words-back (v ∷ vs) rest s = λ i. word-back v (s .0) i ∷ words-back vs rest (s .1) i
 
@@ -48,7 +48,7 @@ pub record Telling (lent ws : List ℕ) (n : ℕ) (vs : List Verdict) : Type 0 w
   pub long : length ws ≡ 1460
   pub room : length vs ≡ 365
   pub few : n ≤ 365
-  pub told : take (4 * n) ws ≡ wordsOf (take n vs)
+  pub told : take (4 * n) ws ≡ allVerdictWords (take n vs)
   pub rest : drop (4 * n) ws ≡ drop (4 * n) lent
 
 pub telling-none : (ws : List ℕ) (vs : List Verdict) → length ws ≡ 1460 → length vs ≡ 365 → Telling ws ws 0 vs
@@ -59,14 +59,14 @@ module _ {lent ws : List ℕ} {n : ℕ} {vs : List Verdict} (t : Telling lent ws
     within : 4 * n + 4 ≤ length ws
     within = omega (arith, t .long)
 
-    told-more : take (4 * (n + 1)) (laid ws (4 * n) (verdictWords v)) ≡ wordsOf (take (n + 1) (set vs n v))
+    told-more : take (4 * (n + 1)) (laid ws (4 * n) (verdictWords v)) ≡ allVerdictWords (take (n + 1) (set vs n v))
     told-more =
         let k : 4 * (n + 1) ≡ length (take (4 * n) ws ++ verdictWords v) =
         omega (arith, length-append (take (4 * n) ws) (verdictWords v), length-take-le (4 * n) ws (omega (arith, within))) in
         let e : suc n ≡ n + 1 = omega arith in
         (λ i. take (k i) (laid-is (verdictWords v) ws (4 * n) within i)) ∙ take-append-seam (take (4 * n) ws ++ verdictWords v) (drop (4 * n + 4) ws)
         ∙ ap (λ (l : List ℕ). l ++ verdictWords v) (t .told) ∙ sym (words-append (take n vs) (v ∷ []))
-        ∙ ap (λ (us : List Verdict). wordsOf us) (sym (take-suc-set vs n v (omega (arith, t .room))) ∙ ap (λ (m : ℕ). take m (set vs n v)) e)
+        ∙ ap (λ (us : List Verdict). allVerdictWords us) (sym (take-suc-set vs n v (omega (arith, t .room))) ∙ ap (λ (m : ℕ). take m (set vs n v)) e)
 
     rest-more : drop (4 * (n + 1)) (laid ws (4 * n) (verdictWords v)) ≡ drop (4 * (n + 1)) lent
     rest-more =

@@ -18,8 +18,8 @@ ghost use lib.ListN.{length, take};
 ghost use Rattle.flat.specs.Shown.{bare, shown};
 ghost use Rattle.arriving.specs.Arrival.{lentNumber, packetNumber, answeredLength, answeredOut};
 ghost use Rattle.steps.specs.Lent.{heeded};
-ghost use Rattle.landing.specs.Walk.{bareWalked};
-ghost use Rattle.landing.specs.Landing.{afterOf, refusedAs, passed, letIn, landed};
+ghost use Rattle.landing.specs.TableWalk.{bareWalked};
+ghost use Rattle.landing.specs.Landing.{afterOf, refusedAs, packetWalkedOver, letIn, landed};
 
 // The number of the packet, 0 if it was let in; then how many of its chunks have a verdict, the length of the reply, and the head.
 pub struct Landed {
@@ -30,9 +30,9 @@ pub struct Landed {
 }
 
 // What a lent area, and a lent output, must have.
-const AREA: usize = Rail::PLACES * Rail::PAYLOAD;
+const AREA: usize = Rail::AREA;
 
-const OUTPUT: usize = 12 + ROOM;
+const OUTPUT: usize = Rail::LONGEST_PACKET;
 
 fn refused(head: Head, number: u8) -> Landed
     ensures { λ r. ⌜ r ≡ refusedAs head number ⌝ }
@@ -112,7 +112,7 @@ fn let_in(
     out: &mut [u8],
 ) -> Landed
     ensures { λ r. ⌜ afterOf r (now (held .exit)) (now («next_in» .exit)) (now (places .exit)) (now («next_out» .exit)) (now (kept .exit)) (now (area .exit)) (now (verdicts .exit)) (now (out .exit))
-        ≡ letIn (passed (now (packet .entry)) lent (now (cookie .entry)) echoed head (now (held .entry)) (now («next_in» .entry)) (now (places .entry)) (now («next_out» .entry)) (now (kept .entry)) (now (area .entry)) (now (verdicts .entry))) (now (packet .entry)) (now (out .entry)) ⌝ }
+        ≡ letIn (packetWalkedOver (now (packet .entry)) lent (now (cookie .entry)) echoed head (now (held .entry)) (now («next_in» .entry)) (now (places .entry)) (now («next_out» .entry)) (now (kept .entry)) (now (area .entry)) (now (verdicts .entry))) (now (packet .entry)) (now (out .entry)) ⌝ }
 {
     let h = packets::read_header(packet);
     let b = Beside {

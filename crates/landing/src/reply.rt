@@ -9,8 +9,8 @@ ghost use Prim.Native.Nat.{_≤_};
 ghost use lib.ListN.{length, take};
 ghost use Rattle.chunks.specs.ShutdownChunk.{completeBytes};
 ghost use Rattle.flat.specs.Shown.{bare};
-ghost use Rattle.arriving.specs.Reply.{isShutdownDue, endedBy, wholeReply, replyTag, replyHead, sentLength, sentOut};
-ghost use Rattle.landing.specs.Walk.{bareWalked};
+ghost use Rattle.arriving.specs.Reply.{isShutdownDue, shutdownAdded, wholeReply, replyTag, replyHead, replyLength, sentOut};
+ghost use Rattle.landing.specs.TableWalk.{bareWalked};
 
 fn is_shutdown_due(w: Walk) -> bool
     ensures { λ r. ⌜ r ≡ isShutdownDue (bareWalked w) ⌝ }
@@ -26,7 +26,7 @@ fn is_shutdown_due(w: Walk) -> bool
 // One SHUTDOWN with the point at the packet's end, if it is due and fits.
 fn end_reply(w: Walk, scratch: &mut [u8]) -> usize
     requires { ⌜ (w .used ≤ 1460) × (length (now scratch) ≡ 1460) ⌝ }
-    ensures { λ r. ⌜ (take r (now (scratch .exit)) ≡ endedBy (bareWalked w) (take (w .used) (now (scratch .entry)))) × (r ≤ 1460) ⌝ }
+    ensures { λ r. ⌜ (take r (now (scratch .exit)) ≡ shutdownAdded (bareWalked w) (take (w .used) (now (scratch .entry)))) × (r ≤ 1460) ⌝ }
 {
     let used = w.used;
     if is_shutdown_due(w) {
@@ -90,7 +90,7 @@ pub(crate) fn reply_head(head: Head, complete: Owed, h: Header) -> Header
 // The packet of the reply; none where there is no reply.
 pub(crate) fn send(h: Header, reply: &[u8], out: &mut [u8]) -> usize
     requires { ⌜ length (now reply) ≤ 1460 ⌝ }
-    ensures { λ r. ⌜ (r ≡ sentLength (now (reply .entry)) (now (out .entry))) × (now (out .exit) ≡ sentOut h (now (reply .entry)) (now (out .entry))) ⌝ }
+    ensures { λ r. ⌜ (r ≡ replyLength (now (reply .entry)) (now (out .entry))) × (now (out .exit) ≡ sentOut h (now (reply .entry)) (now (out .entry))) ⌝ }
 {
     let n = reply.len();
     if n == 0 {

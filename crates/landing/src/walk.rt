@@ -13,7 +13,7 @@ ghost use mathlib.Core.Path.{_≡_};
 ghost use Prim.Native.Nat.{_≤_, _+_};
 ghost use lib.ListN.{length};
 ghost use Rattle.landing.specs.Verdicts.{verdictAt};
-ghost use Rattle.landing.specs.Walk.{begun, taken, turnOf, turned, walkedOver};
+ghost use Rattle.landing.specs.TableWalk.{headWalkBegun, walkTaken, tableTurnOf, tableTurned, tableWalkedOver};
 
 // The head so far, how many verdicts there are, how many bytes of replies are gathered, whether the rest is unread, whether a SHUTDOWN is due, and
 // what the whole reply owes beside it.
@@ -38,7 +38,7 @@ fn verdict_of(at: usize, d: Stepped) -> Verdict
 // What became of a chunk, taken in; its verdict is the last of so many.
 fn take_in(w: Walk, d: Stepped, count: usize) -> Walk
     requires { ⌜ w .used + d .written ≤ 1460 ⌝ }
-    ensures { λ r. ⌜ r ≡ taken w d count ⌝ }
+    ensures { λ r. ⌜ r ≡ walkTaken w d count ⌝ }
 {
     let head = d.head;
     let owed = d.owed;
@@ -70,8 +70,8 @@ fn turn(
     space: &mut [u8],
 ) -> Walk
     requires { ⌜ w .used + length (now space) ≡ 1460 ⌝ }
-    ensures { λ r. ⌜ (turnOf r (now (held .exit)) (now («next_in» .exit)) (now (places .exit)) (now («next_out» .exit)) (now (kept .exit)) (now (area .exit)) (now (verdicts .exit)) (now (space .exit))
-        ≡ turned at b (now (cookie .entry)) (now (s .entry)) (turnOf w (now (held .entry)) (now («next_in» .entry)) (now (places .entry)) (now («next_out» .entry)) (now (kept .entry)) (now (area .entry)) (now (verdicts .entry)) (now (space .entry)))) × (r .used ≤ 1460) ⌝ }
+    ensures { λ r. ⌜ (tableTurnOf r (now (held .exit)) (now («next_in» .exit)) (now (places .exit)) (now («next_out» .exit)) (now (kept .exit)) (now (area .exit)) (now (verdicts .exit)) (now (space .exit))
+        ≡ tableTurned at b (now (cookie .entry)) (now (s .entry)) (tableTurnOf w (now (held .entry)) (now («next_in» .entry)) (now (places .entry)) (now («next_out» .entry)) (now (kept .entry)) (now (area .entry)) (now (verdicts .entry)) (now (space .entry)))) × (r .used ≤ 1460) ⌝ }
 {
     if w.unread {
         let v = Verdict::unread(at);
@@ -116,8 +116,8 @@ pub(crate) fn walk_over(
     scratch: &mut [u8],
 ) -> Walk
     requires { ⌜ length (now scratch) ≡ 1460 ⌝ }
-    ensures { λ r. ⌜ (turnOf r (now (held .exit)) (now («next_in» .exit)) (now (places .exit)) (now («next_out» .exit)) (now (kept .exit)) (now (area .exit)) (now (verdicts .exit)) (now (scratch .exit))
-        ≡ walkedOver b (now (cookie .entry)) (now (packet .entry)) (turnOf (begun head) (now (held .entry)) (now («next_in» .entry)) (now (places .entry)) (now («next_out» .entry)) (now (kept .entry)) (now (area .entry)) (now (verdicts .entry)) (now (scratch .entry)))) × (r .used ≤ 1460) ⌝ }
+    ensures { λ r. ⌜ (tableTurnOf r (now (held .exit)) (now («next_in» .exit)) (now (places .exit)) (now («next_out» .exit)) (now (kept .exit)) (now (area .exit)) (now (verdicts .exit)) (now (scratch .exit))
+        ≡ tableWalkedOver b (now (cookie .entry)) (now (packet .entry)) (tableTurnOf (headWalkBegun head) (now (held .entry)) (now («next_in» .entry)) (now (places .entry)) (now («next_out» .entry)) (now (kept .entry)) (now (area .entry)) (now (verdicts .entry)) (now (scratch .entry)))) × (r .used ≤ 1460) ⌝ }
 {
     let mut w = Walk {
         head,

@@ -36,8 +36,8 @@ use denote.Triple.End.{Kepts, Fins, outs, lastsOf}
 use denote.Triple.Clauses.{Ended, AtExit, closing}
 use denote.Triple.Spec.{Spec, Meets, tripleOf}
 use denote.Triple.Table.{entered}
-use Rattle.lending.specs.Params.{Kind, copied, relent, reref, Mach, valOf, Fit, Machs, valsOf, Fits}
-use Rattle.lending.specs.Walk.{Valued, Outcome, twoTy, twoVal, val-fits, code, Left, Leaves, walk}
+use Rattle.lending.specs.Params.{ParamKind, copied, relent, reref, Mach, valOf, MachFits, Machs, valsOf, MachsFit}
+use Rattle.lending.specs.LentWalk.{Valued, Outcome, twoTy, twoVal, val-fits, lentCode, Left, Leaves, lent-walk}
 
 -- ---- the types
 abbrev pub uint : (w : S.Width) → Valued (UInt w)
@@ -87,10 +87,10 @@ module _ {T R : RattleType} (t : Valued T) (r : Valued R) (D : Declared) (L : LL
 
 -- ---- the parameters beside the record, as a signature has them: how each goes on, and the machine value that it has
 pub record Pass {n : ℕ} (s : Slot n) : Type 2 where
-  pub kind : Kind
+  pub kind : ParamKind
   pub mach : (κs : Lfts n) → s .row κs .Denot → Mach kind
   pub tells : (κs : Lfts n) → Tells (s .row κs) (Is (s .row κs)) (λ x. valOf kind (mach κs x) ∷ [])
-  pub fits : {M : Type 1} (𝓤 : URA M) (H : Heap 𝓤) (A : Atoms 𝓤) → Given 𝓤 H A → (κs : Lfts n) (x : s .row κs .Denot) → Is (s .row κs) x (valOf kind (mach κs x) ∷ []) → Fit kind (mach κs x)
+  pub fits : {M : Type 1} (𝓤 : URA M) (H : Heap 𝓤) (A : Atoms 𝓤) → Given 𝓤 H A → (κs : Lfts n) (x : s .row κs .Denot) → Is (s .row κs) x (valOf kind (mach κs x) ∷ []) → MachFits kind (mach κs x)
 
 -- a number, a bool or a struct
 abbrev pub by-value : {n : ℕ} {R : RattleType} → Valued R → Pass {n = n} (plain (λ _. R))
@@ -110,8 +110,8 @@ shared {n} j ok w = record {
   fits = λ 𝓤 H A W κs x is. (tt, (tt, (record { fits = is .0 .1 .0 }, tt)));
 }
 
-abbrev pub lent : {n : ℕ} (j : ℕ) (ok : AllWithin n (j ∷ [])) (w : S.Width) → Pass {n = n} (mutSliceOf (j ∷ []) ok (plain (λ _. UInt w)))
-lent {n} j ok w = record {
+abbrev pub lentSlice : {n : ℕ} (j : ℕ) (ok : AllWithin n (j ∷ [])) (w : S.Width) → Pass {n = n} (mutSliceOf (j ∷ []) ok (plain (λ _. UInt w)))
+lentSlice {n} j ok w = record {
   kind = relent w j;
   mach = λ κs x. (x .ptr, length (x .now));
   tells = λ κs. mut-slice-tells (named j) (meetAt n (j ∷ []) ok κs) (UInt w);
@@ -142,34 +142,34 @@ module _ {n : ℕ} where
   others (s ∷ ss) = ss
 
   -- the same of a list of slots
-  abbrev pub Passes : List (Slot n) → Type 2
-  Passes [] = Unit {2}
-  Passes (s ∷ ss) = Pass s × Passes ss
+  abbrev pub SlotsPass : List (Slot n) → Type 2
+  SlotsPass [] = Unit {2}
+  SlotsPass (s ∷ ss) = Pass s × SlotsPass ss
 
-  abbrev pub kinds : (ss : List (Slot n)) → Passes ss → List Kind
-  kinds [] ps = []
-  kinds (s ∷ ss) ps = ps .0 .kind ∷ kinds ss (ps .1)
+  abbrev pub slotKinds : (ss : List (Slot n)) → SlotsPass ss → List ParamKind
+  slotKinds [] ps = []
+  slotKinds (s ∷ ss) ps = ps .0 .kind ∷ slotKinds ss (ps .1)
 
   module _ (κs : Lfts n) where
-    abbrev pub machs : (ss : List (Slot n)) (ps : Passes ss) → Denots (typesAt ss κs) → Machs (kinds ss ps)
+    abbrev pub machs : (ss : List (Slot n)) (ps : SlotsPass ss) → Denots (typesAt ss κs) → Machs (slotKinds ss ps)
     machs [] ps x = tt
     machs (s ∷ ss) ps x = (ps .0 .mach κs (x .0), machs ss (ps .1) (x .1))
 
     -- the machine values as `said` asks for them, that the relations tell them, and that each may stand in a cell
-    abbrev pub spells : (ss : List (Slot n)) → Passes ss → Spells (typesAt ss κs)
+    abbrev pub spells : (ss : List (Slot n)) → SlotsPass ss → Spells (typesAt ss κs)
     spells [] ps = tt
     spells (s ∷ ss) ps = ((λ x. valOf (ps .0 .kind) (ps .0 .mach κs x) ∷ []), spells ss (ps .1))
 
-    pub all-told : (ss : List (Slot n)) (ps : Passes ss) → Tellss (typesAt ss κs) (Ises (typesAt ss κs)) (spells ss ps)
+    pub all-told : (ss : List (Slot n)) (ps : SlotsPass ss) → Tellss (typesAt ss κs) (Ises (typesAt ss κs)) (spells ss ps)
     all-told [] ps = tt
     all-told (s ∷ ss) ps = (ps .0 .tells κs, all-told ss (ps .1))
 
-    pub all-fit : {M : Type 1} (𝓤 : URA M) (H : Heap 𝓤) (A : Atoms 𝓤) → Given 𝓤 H A → (ss : List (Slot n)) (ps : Passes ss) (x : Denots (typesAt ss κs)) → Are (typesAt ss κs) (Ises (typesAt ss κs)) x (valss (typesAt ss κs) (spells ss ps) x) → Fits (kinds ss ps) (machs ss ps x)
+    pub all-fit : {M : Type 1} (𝓤 : URA M) (H : Heap 𝓤) (A : Atoms 𝓤) → Given 𝓤 H A → (ss : List (Slot n)) (ps : SlotsPass ss) (x : Denots (typesAt ss κs)) → Are (typesAt ss κs) (Ises (typesAt ss κs)) x (valss (typesAt ss κs) (spells ss ps) x) → MachsFit (slotKinds ss ps) (machs ss ps x)
     all-fit 𝓤 H A W [] ps x are = tt
     all-fit 𝓤 H A W (s ∷ ss) ps x are = (ps .0 .fits 𝓤 H A W κs (x .0) (are .0), all-fit 𝓤 H A W ss (ps .1) (x .1) (are .1))
 
     -- in a row they are what the code passes on
-    pub all-flat : (ss : List (Slot n)) (ps : Passes ss) (x : Denots (typesAt ss κs)) → valsOf (kinds ss ps) (machs ss ps x) ≡ flat (typesAt ss κs) (valss (typesAt ss κs) (spells ss ps) x)
+    pub all-flat : (ss : List (Slot n)) (ps : SlotsPass ss) (x : Denots (typesAt ss κs)) → valsOf (slotKinds ss ps) (machs ss ps x) ≡ flat (typesAt ss κs) (valss (typesAt ss κs) (spells ss ps) x)
     all-flat [] ps x = refl
     all-flat (s ∷ ss) ps x = ap (λ (vs : List Val). valOf (ps .0 .kind) (ps .0 .mach κs (x .0)) ∷ vs) (all-flat ss (ps .1) (x .1))
 
@@ -215,10 +215,10 @@ module _ {T R O : RattleType} {t : Valued T} {r : Valued R} (o : Outcome t r O) 
   abbrev pub Steps : Fun 𝓤 → Type 1
   Steps run = (κs : Lfts (suc n)) (qs : Shares (suc n)) (a : Args (signature T R ss) κs) (vss : Valss (typesAt ss κs)) → ent 𝓤 (sep 𝓤 (Brought κs qs a vss) (emp 𝓤)) (run (t .val (a .0 .now) ∷ flat (typesAt ss κs) vss) (Stepped κs qs a))
 
-  module _ (ps : Passes ss) (W : Given 𝓤 H A) (C : Calls 𝓤 H) (Λ : Loops 𝓤 H) (fm : FmC 𝓤 H (W .laws) C) (key : S.Name) (steps : Steps (C key)) where
+  module _ (ps : SlotsPass ss) (W : Given 𝓤 H A) (C : Calls 𝓤 H) (Λ : Loops 𝓤 H) (fm : FmC 𝓤 H (W .laws) C) (key : S.Name) (steps : Steps (C key)) where
     -- the function's MIR, and the other parameters' machine values
     abbrev runs-code : Fun 𝓤
-    runs-code = WpFn 𝓤 H C Λ (code o (kinds ss ps) (suc n) key)
+    runs-code = WpFn 𝓤 H C Λ (lentCode o (slotKinds ss ps) (suc n) key)
 
     abbrev spelt-out : (κs : Lfts (suc n)) → Args (signature T R ss) κs → Valss (typesAt ss κs)
     spelt-out κs a = valss (typesAt ss κs) (spells κs ss ps) (a .1)
@@ -229,7 +229,7 @@ module _ {T R O : RattleType} {t : Valued T} {r : Valued R} (o : Outcome t r O) 
     walk-at κs qs a are =
         let P : SProp 𝓤 = Brought κs qs a (spelt-out κs a) in
         subst (λ (us : List Val). ent 𝓤 (onEntry 𝓤 H A (signature T R ss) κs qs a (ptr-vals (a .0), spelt-out κs a)) (runs-code (ptr-vals (a .0) ++ us) (Done κs qs a))) (all-flat κs ss ps (a .1))
-        (walk o 𝓤 H A (Tokens κs qs a) (Fins κs ss ls (a .1)) (lastsOf κs ss ls (a .1)) (Said κs qs a) W (κs .0) (qs .0) (a .0 .ptr .0) (a .0 .ptr .1) (a .0 .name) (kinds ss ps) (machs κs ss ps (a .1)) (a .0 .now) C Λ
+        (lent-walk o 𝓤 H A (Tokens κs qs a) (Fins κs ss ls (a .1)) (lastsOf κs ss ls (a .1)) (Said κs qs a) W (κs .0) (qs .0) (a .0 .ptr .0) (a .0 .ptr .1) (a .0 .name) (slotKinds ss ps) (machs κs ss ps (a .1)) (a .0 .now) C Λ
         (owns (typesAt ss κs) (a .1) (spelt-out κs a)) (all-fit κs 𝓤 H A W ss ps (a .1) are) fm (suc n) key
         (subst (λ (us : List Val). ent 𝓤 P (C key (t .val (a .0 .now) ∷ us) (Stepped κs qs a))) (sym (all-flat κs ss ps (a .1)))
         (via 𝓤 (sep 𝓤 P (emp 𝓤)) (via 𝓤 (sep 𝓤 (emp 𝓤) P) (emp∗ 𝓤 P) (comm∗ 𝓤 (emp 𝓤) P)) (steps κs qs a (spelt-out κs a)))))
@@ -243,9 +243,9 @@ module _ {T R O : RattleType} {t : Valued T} {r : Valued R} (o : Outcome t r O) 
         (λ vss. runs-code (flat (typesAt (signature T R ss .params) κs) vss) (Done κs (y .0 .1) (y .0 .3))) (y .0 .4) (λ are. walk-at κs (y .0 .1) (y .0 .3) (are .1)))
 
 -- ---- the theorem. In the environment γ the function is `own`, of the MIR fn, and `key` is `step`
-module _ {T R O : RattleType} {t : Valued T} {r : Valued R} (o : Outcome t r O) {n : ℕ} (ss : List (Slot (suc n))) (ls : Kepts ss) (ps : Passes ss)
+module _ {T R O : RattleType} {t : Valued T} {r : Valued R} (o : Outcome t r O) {n : ℕ} (ss : List (Slot (suc n))) (ls : Kepts ss) (ps : SlotsPass ss)
     {M : Type 1} (𝓤 : URA M) (H : Heap 𝓤) (𝓜 : Model 𝓤 H) (𝓖 : GhostRules 𝓤 H) (𝓡 : Running 𝓤 H 𝓜) (Q : Ensures T R ss ls 𝓤) where
-  pub lent-meets : (γ : Env) (own key : S.Name) (fn : S.Fn) → Closed 𝓤 H (tables 𝓤 H 𝓜 𝓡 γ .C) (tables 𝓤 H 𝓜 𝓡 γ .Λ) own fn → code o (kinds ss ps) (suc n) key ≡ fn → (step : Routine) → γ key ≡ step
+  pub lent-meets : (γ : Env) (own key : S.Name) (fn : S.Fn) → Closed 𝓤 H (tables 𝓤 H 𝓜 𝓡 γ .C) (tables 𝓤 H 𝓜 𝓡 γ .Λ) own fn → lentCode o (slotKinds ss ps) (suc n) key ≡ fn → (step : Routine) → γ key ≡ step
       → Steps o ss ls 𝓤 H (𝓖 .A) Q (𝓡 .run step) → Meets 𝓤 H (𝓖 .A) (signature T R ss) (𝓡 .run (γ own)) (promise T R ss ls 𝓤 H (𝓖 .A) Q)
   unfolding tablesOf
   lent-meets γ own key fn closed is step calls steps =

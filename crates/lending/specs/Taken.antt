@@ -31,9 +31,9 @@ use denote.Struct.Steps.{spelt}
 use denote.Signature.{Slot, Signature, plain, typesAt}
 use denote.Triple.Entry.{Args, onEntry}
 use denote.Triple.Call.{calls-from}
-use Rattle.lending.specs.Params.{Kind, Machs, valsOf, Fits, handed, lents, here, past, lendAgain, operands, Blocks, front, back, envOf, At, at-all, at-front, at-back, Rooms, Held, Relent, from-at, allocated, freed, stored, lent-again, operands-read, operands-behind, held-room, relent-room}
-use Rattle.lending.specs.Walk.{Valued, Outcome, twoTy, twoVal, fits-in, val-fits, Left, Leaves}
-use Rattle.lending.specs.Lent.{Passes, kinds, machs, spells, all-told, all-fit, all-flat}
+use Rattle.lending.specs.Params.{ParamKind, Machs, valsOf, MachsFit, handedTypes, lents, here, past, lendAgain, operands, CellBlocks, frontBlocks, back, envOf, At, at-all, at-front, at-back, Rooms, ParamsHeld, Relent, from-at, allocated, freed, stored, lent-again, operands-read, operands-behind, held-room, relent-room}
+use Rattle.lending.specs.LentWalk.{Valued, Outcome, twoTy, twoVal, fits-in, val-fits, Left, Leaves}
+use Rattle.lending.specs.Lent.{SlotsPass, slotKinds, machs, spells, all-told, all-fit, all-flat}
 
 -- an outcome is made of an answer and a record
 pub record Joins {T R O : RattleType} {t : Valued T} {r : Valued R} (o : Outcome t r O) : Type 2 where
@@ -45,17 +45,17 @@ pub record Joins {T R O : RattleType} {t : Valued T} {r : Valued R} (o : Outcome
 
 module _ {M : Type 1} {𝓤 : URA M} {H : Heap 𝓤} {A : Atoms 𝓤} {W : Given 𝓤 H A} where
   -- a function's locals are allocated, of which one has its address taken
-  allocated-slot : (τs : List S.Ty) (σ : S.Ty) (σs : List S.Ty) {Γ : List (Item 𝓤)} {Kt : Env 𝓤 H → Goal 𝓤 H} → ((bs : Blocks (τs ++ (σ ∷ σs))) → Sq W (Rooms 𝓤 (τs ++ (σ ∷ σs)) bs ∷ Γ) (Kt (envOf (τs ++ (σ ∷ σs)) bs)))
+  allocated-slot : (τs : List S.Ty) (σ : S.Ty) (σs : List S.Ty) {Γ : List (Item 𝓤)} {Kt : Env 𝓤 H → Goal 𝓤 H} → ((bs : CellBlocks (τs ++ (σ ∷ σs))) → Sq W (Rooms 𝓤 (τs ++ (σ ∷ σs)) bs ∷ Γ) (Kt (envOf (τs ++ (σ ∷ σs)) bs)))
       → Sq W Γ (allocs (map here τs ++ (S.local σ S.memorySlot ∷ map here σs)) Kt)
   allocated-slot [] σ σs {Γ} {Kt} k = alloc1 ! (λ b. allocated σs {Kt = λ E. Kt ((σ, b) ∷ E)} (λ bs. move ! (1 ∷ 2 ∷ 0 ∷ []) $ join ! $ join ! $ k (b, bs)))
   allocated-slot (τ ∷ τs) σ σs {Γ} {Kt} k = alloc1 ! (λ b. allocated-slot τs σ σs {Kt = λ E. Kt ((τ, b) ∷ E)} (λ bs. move ! (1 ∷ 2 ∷ 0 ∷ []) $ join ! $ join ! $ k (b, bs)))
 
   -- rooms of a list in two parts
-  rooms-apart : (τs σs : List S.Ty) (bs : Blocks (τs ++ σs)) {Γ : List (Item 𝓤)} {G : Goal 𝓤 H} → Sq W (Rooms 𝓤 τs (front τs σs bs) ∷ Rooms 𝓤 σs (back τs σs bs) ∷ Γ) G → Sq W (Rooms 𝓤 (τs ++ σs) bs ∷ Γ) G
+  rooms-apart : (τs σs : List S.Ty) (bs : CellBlocks (τs ++ σs)) {Γ : List (Item 𝓤)} {G : Goal 𝓤 H} → Sq W (Rooms 𝓤 τs (frontBlocks τs σs bs) ∷ Rooms 𝓤 σs (back τs σs bs) ∷ Γ) G → Sq W (Rooms 𝓤 (τs ++ σs) bs ∷ Γ) G
   rooms-apart [] σs bs k = nothing ! $ k
   rooms-apart (τ ∷ τs) σs bs k = split ! $ move ! (1 ∷ []) $ rooms-apart τs σs (bs .1) (move ! (2 ∷ 0 ∷ []) $ join ! $ k)
 
-  rooms-together : (τs σs : List S.Ty) (bs : Blocks (τs ++ σs)) {Γ : List (Item 𝓤)} {G : Goal 𝓤 H} → Sq W (Rooms 𝓤 (τs ++ σs) bs ∷ Γ) G → Sq W (Rooms 𝓤 τs (front τs σs bs) ∷ Rooms 𝓤 σs (back τs σs bs) ∷ Γ) G
+  rooms-together : (τs σs : List S.Ty) (bs : CellBlocks (τs ++ σs)) {Γ : List (Item 𝓤)} {G : Goal 𝓤 H} → Sq W (Rooms 𝓤 (τs ++ σs) bs ∷ Γ) G → Sq W (Rooms 𝓤 τs (frontBlocks τs σs bs) ∷ Rooms 𝓤 σs (back τs σs bs) ∷ Γ) G
   rooms-together [] σs bs k = drop ! $ k
   rooms-together (τ ∷ τs) σs bs k = split ! $ move ! (1 ∷ 2 ∷ []) $ rooms-together τs σs (bs .1) (move ! (1 ∷ 0 ∷ []) $ join ! $ k)
 
@@ -64,7 +64,7 @@ module _ {T R O : RattleType} {t : Valued T} {r : Valued R} (o : Outcome t r O) 
   out-ty = twoTy (o .name) (r .ty) (t .ty)
 
   -- ---- the code
-  module _ (ks : List Kind) where
+  module _ (ks : List ParamKind) where
     abbrev ref-ty : S.Ty
     ref-ty = S.tyRef S.erased S.mut (pointee (T .written))
 
@@ -76,11 +76,11 @@ module _ {T R O : RattleType} {t : Valued T} {r : Valued R} (o : Outcome t r O) 
     behind = t .ty ∷ lasting
 
     abbrev locals : List S.Ty
-    locals = out-ty ∷ t .ty ∷ (handed ks ++ behind)
+    locals = out-ty ∷ t .ty ∷ (handedTypes ks ++ behind)
 
     -- the number of the record in memory; of the slices; of the record that came back
     abbrev at-m : ℕ
-    at-m = past (handed ks) 2
+    at-m = past (handedTypes ks) 2
 
     abbrev at-s : ℕ
     at-s = suc (suc (suc at-m))
@@ -91,34 +91,34 @@ module _ {T R O : RattleType} {t : Valued T} {r : Valued R} (o : Outcome t r O) 
     abbrev joining : S.Body
     joining = S.seq (S.assign (S.place at-x []) (S.rvOpd (S.copy (S.place at-m [])))) (S.seq (S.assign (S.place 0 []) (S.aggregate (S.copy (S.place (suc at-m) []) ∷ S.copy (S.place at-x []) ∷ []))) S.return)
 
-    abbrev pub taking : ℕ → S.Name → S.Fn
-    taking n key = record {
+    abbrev pub takingFn : ℕ → S.Name → S.Fn
+    takingFn n key = record {
       lifetimes = n;
       outlives = [];
-      params = past (handed ks) 1;
-      locals = map here (out-ty ∷ t .ty ∷ handed ks) ++ (S.local (t .ty) S.memorySlot ∷ map here lasting);
+      params = past (handedTypes ks) 1;
+      locals = map here (out-ty ∷ t .ty ∷ handedTypes ks) ++ (S.local (t .ty) S.memorySlot ∷ map here lasting);
       body = S.seq (S.assign (S.place at-m []) (S.rvOpd (S.copy (S.place 1 [])))) (S.seq (S.assign (S.place (suc (suc at-m)) []) (S.addrOf (S.place at-m [])))
           (lendAgain 2 at-s ks (S.seq (S.call key (S.copy (S.place (suc (suc at-m)) []) ∷ operands 2 at-s ks) (S.place (suc at-m) [])) joining)));
     }
 
-    abbrev those : Blocks locals → Blocks (handed ks)
-    those bs = front (handed ks) behind (bs .1 .1)
+    abbrev those : CellBlocks locals → CellBlocks (handedTypes ks)
+    those bs = frontBlocks (handedTypes ks) behind (bs .1 .1)
 
-    abbrev rest : Blocks locals → Blocks behind
-    rest bs = back (handed ks) behind (bs .1 .1)
+    abbrev rest : CellBlocks locals → CellBlocks behind
+    rest bs = back (handedTypes ks) behind (bs .1 .1)
 
-    abbrev slices : Blocks locals → Blocks (lents ks)
-    slices bs = front (lents ks) (t .ty ∷ []) (rest bs .1 .1 .1)
+    abbrev slices : CellBlocks locals → CellBlocks (lents ks)
+    slices bs = frontBlocks (lents ks) (t .ty ∷ []) (rest bs .1 .1 .1)
 
-    abbrev last : Blocks locals → Blocks (t .ty ∷ [])
+    abbrev last : CellBlocks locals → CellBlocks (t .ty ∷ [])
     last bs = back (lents ks) (t .ty ∷ []) (rest bs .1 .1 .1)
 
-    module _ {M : Type 1} (𝓤 : URA M) (H : Heap 𝓤) (bs : Blocks locals) where
-      near : At 𝓤 H (envOf locals bs) 2 (handed ks) (those bs)
-      near = at-front 𝓤 H (envOf locals bs) 2 (handed ks) behind (bs .1 .1) (at-all 𝓤 H locals bs .1 .1)
+    module _ {M : Type 1} (𝓤 : URA M) (H : Heap 𝓤) (bs : CellBlocks locals) where
+      near : At 𝓤 H (envOf locals bs) 2 (handedTypes ks) (those bs)
+      near = at-front 𝓤 H (envOf locals bs) 2 (handedTypes ks) behind (bs .1 .1) (at-all 𝓤 H locals bs .1 .1)
 
       far : At 𝓤 H (envOf locals bs) at-m behind (rest bs)
-      far = at-back 𝓤 H (envOf locals bs) 2 (handed ks) behind (bs .1 .1) (at-all 𝓤 H locals bs .1 .1)
+      far = at-back 𝓤 H (envOf locals bs) 2 (handedTypes ks) behind (bs .1 .1) (at-all 𝓤 H locals bs .1 .1)
 
       far-slices : At 𝓤 H (envOf locals bs) at-s (lents ks) (slices bs)
       far-slices = at-front 𝓤 H (envOf locals bs) at-s (lents ks) (t .ty ∷ []) (rest bs .1 .1 .1) (far .1 .1 .1)
@@ -150,16 +150,16 @@ module _ {T R O : RattleType} {t : Valued T} {r : Valued R} (o : Outcome t r O) 
         owned ! O (Is O) (j .makes 𝓤 H A W) (j .make y h) (twoVal (r .val y) (t .val h) ∷ []) is $ move ! (1 ∷ 0 ∷ []) $ join ! $ frame ! $
         show ! (λ (zs : Unit {0} × Z). sep 𝓤 (sem 𝓤 H A (fsep ftrue (Lasts (zs .1)))) (Q (o .told (j .make y h)) (o .kept (j .make y h)) (zs .1))) (tt, z) $ nothing ! $ fjoin ! $ frame ! $ done !
 
-    module _ (ks : List Kind) (ms : Machs ks) (C : Calls 𝓤 H) (Λ : Loops 𝓤 H) where
+    module _ (ks : List ParamKind) (ms : Machs ks) (C : Calls 𝓤 H) (Λ : Loops 𝓤 H) where
       -- what stands while the function runs: the parameters, the slices that are lent again, the lender's part of the record, room for the record that comes back, the reference, room for the answer, the right to free the record's local, the parameter, and room for the outcome
-      abbrev Waiting : (bs : Blocks (locals ks)) (α : ℕ) (γ : GName) (h : T .Denot) → List (Item 𝓤)
+      abbrev Waiting : (bs : CellBlocks (locals ks)) (α : ℕ) (γ : GName) (h : T .Denot) → List (Item 𝓤)
       Waiting bs α γ h =
-          Held 𝓤 ks (those ks bs) ms ∷ Relent 𝓤 ks (slices ks bs) ms ∷ ‵ (flent (α ∷ []) (Body (mem T) (rest ks bs .0) zero γ)) ∷ Rooms 𝓤 (t .ty ∷ []) (last ks bs)
+          ParamsHeld 𝓤 ks (those ks bs) ms ∷ Relent 𝓤 ks (slices ks bs) ms ∷ ‵ (flent (α ∷ []) (Body (mem T) (rest ks bs .0) zero γ)) ∷ Rooms 𝓤 (t .ty ∷ []) (last ks bs)
           ∷ ‵ (fat fullShare (ref-ty ks) (rest ks bs .1 .1 .0) zero (vptr (rest ks bs .0) zero)) ∷ ‵ (fdies (ref-ty ks) (rest ks bs .1 .1 .0))
           ∷ (‵ (froom (r .ty) (rest ks bs .1 .0) zero) ⊛ ‵ (fdies (r .ty) (rest ks bs .1 .0))) ∷ ‵ (fdies (t .ty) (rest ks bs .0))
           ∷ ‵ (fat fullShare (t .ty) (bs .1 .0) zero (t .val h)) ∷ ‵ (fdies (t .ty) (bs .1 .0)) ∷ (‵ (froom out-ty (bs .0) zero) ⊛ ‵ (fdies out-ty (bs .0))) ∷ []
 
-      landed : (bs : Blocks (locals ks)) (α : ℕ) (γ : GName) (h : T .Denot) (v : Val)
+      landed : (bs : CellBlocks (locals ks)) (α : ℕ) (γ : GName) (h : T .Denot) (v : Val)
           → Sq W (raw (Leaves o 𝓤 H A Tok Z Lasts Q γ (α ∷ []) fullShare v) ∷ Waiting bs α γ h) (lands C Λ (envOf (locals ks) bs) (S.place (suc (at-m ks)) []) v (joining ks) (atRet (envOf (locals ks) bs) (Left o 𝓤 H A Tok Z Lasts Q)))
       landed bs α γ h v =
           let at-rest = far ks 𝓤 H bs in
@@ -187,12 +187,12 @@ module _ {T R O : RattleType} {t : Valued T} {r : Valued R} (o : Outcome t r O) 
       abbrev Reached : ℕ → GName → ℕ → T .Denot → Fml → Fml
       Reached α γ b h Owns = fsep (MutRef (named 0) (α ∷ []) T .own (record { ptr = (b, zero); name = γ; now = h }) (vptr b zero ∷ [])) Owns
 
-      pub takes : (h : T .Denot) (Owns : Fml) → Fits ks ms → FmC 𝓤 H (W .laws) C → (n : ℕ) (key : S.Name)
+      pub takes-lent : (h : T .Denot) (Owns : Fml) → MachsFit ks ms → FmC 𝓤 H (W .laws) C → (n : ℕ) (key : S.Name)
           → ((α : ℕ) (γ : GName) (b : ℕ) → ent 𝓤 (sep 𝓤 (sep 𝓤 (A .lft (α ∷ []) fullShare) Tok) (sem 𝓤 H A (Reached α γ b h Owns))) (C key (vptr b zero ∷ valsOf ks ms) (Leaves o 𝓤 H A Tok Z Lasts Q γ (α ∷ []) fullShare)))
-          → ent 𝓤 (sep 𝓤 Tok (sem 𝓤 H A (fsep (T .own h (t .val h ∷ [])) Owns))) (WpFn 𝓤 H C Λ (taking ks n key) (t .val h ∷ valsOf ks ms) (Left o 𝓤 H A Tok Z Lasts Q))
-      takes h Owns fits fm n key met =
+          → ent 𝓤 (sep 𝓤 Tok (sem 𝓤 H A (fsep (T .own h (t .val h ∷ [])) Owns))) (WpFn 𝓤 H C Λ (takingFn ks n key) (t .val h ∷ valsOf ks ms) (Left o 𝓤 H A Tok Z Lasts Q))
+      takes-lent h Owns fits fm n key met =
           qed W (raw Tok ∷ ‵ (fsep (T .own h (t .val h ∷ [])) Owns) ∷ []) ∵ move ! (1 ∷ []) $ fsplit ! $ peeks ! T (Is T) (shows 𝓤 H A T) h (t .val h ∷ []) (λ is. drop ! $
-          enter ! C Λ (taking ks n key) (t .val h ∷ valsOf ks ms) _ $ allocated-slot (out-ty ∷ t .ty ∷ handed ks) (t .ty) (lasting ks) (λ bs.
+          enter ! C Λ (takingFn ks n key) (t .val h ∷ valsOf ks ms) _ $ allocated-slot (out-ty ∷ t .ty ∷ handedTypes ks) (t .ty) (lasting ks) (λ bs.
           let E : List (S.Ty × ℕ) = envOf (locals ks) bs in
           let at-those = near ks 𝓤 H bs in
           let at-rest = far ks 𝓤 H bs in
@@ -210,7 +210,7 @@ module _ {T R O : RattleType} {t : Valued T} {r : Valued R} (o : Outcome t r O) 
           (and-then ! (load ! (from-at (at-rest .1 .1 .0) (stop !)) (look ! 5 refl)) (operands-behind (operands-read E ks 2 (at-s ks) (those ks bs) (slices ks bs) ms at-those at-slices _))) (landed bs α γ h))))))))
 
 -- ---- the same by a signature: where `f`, at the key, meets its contract over a reference, at whatever lifetime and name it is lent
-module _ {T R O : RattleType} {t : Valued T} {r : Valued R} (o : Outcome t r O) (j : Joins o) {n : ℕ} (ss : List (Slot n)) (ps : Passes ss)
+module _ {T R O : RattleType} {t : Valued T} {r : Valued R} (o : Outcome t r O) (j : Joins o) {n : ℕ} (ss : List (Slot n)) (ps : SlotsPass ss)
     {M : Type 1} (𝓤 : URA M) (H : Heap 𝓤) (A : Atoms 𝓤) (W : Given 𝓤 H A) (C : Calls 𝓤 H) (Λ : Loops 𝓤 H) (fm : FmC 𝓤 H (W .laws) C) (key : S.Name) where
   abbrev signature : Signature
   signature = record { lifetimes = n; outlives = []; params = plain (λ _. T) ∷ ss; result = plain (λ _. O) }
@@ -226,13 +226,13 @@ module _ {T R O : RattleType} {t : Valued T} {r : Valued R} (o : Outcome t r O) 
         (C key (vptr b zero ∷ flat (typesAt ss κs) vss) (Leaves o 𝓤 H A Tokens Z Lasts Q γ (α ∷ []) fullShare))
 
     pub taken-at : (vss : Valss (typesAt (signature .params) κs)) → Known
-        → ent 𝓤 (sep 𝓤 (onEntry 𝓤 H A signature κs qs a vss) (emp 𝓤)) (WpFn 𝓤 H C Λ (taking o j (kinds ss ps) n key) (flat (typesAt (signature .params) κs) vss) (Left o 𝓤 H A Tokens Z Lasts Q))
+        → ent 𝓤 (sep 𝓤 (onEntry 𝓤 H A signature κs qs a vss) (emp 𝓤)) (WpFn 𝓤 H C Λ (takingFn o j (slotKinds ss ps) n key) (flat (typesAt (signature .params) κs) vss) (Left o 𝓤 H A Tokens Z Lasts Q))
     taken-at vss known =
         let us : Valss (typesAt ss κs) = valss (typesAt ss κs) (spells κs ss ps) (a .1) in
         via 𝓤 (onEntry 𝓤 H A signature κs qs a vss) (fst∗ 𝓤 _ (emp 𝓤))
         (said 𝓤 H A signature κs qs ((λ x. t .val x ∷ []), spells κs ss ps) (t .tells, all-told κs ss ps) a
-        (λ vs. WpFn 𝓤 H C Λ (taking o j (kinds ss ps) n key) (flat (typesAt (signature .params) κs) vs) (Left o 𝓤 H A Tokens Z Lasts Q)) vss
-        (λ are. subst (λ (vs : List Val). ent 𝓤 (onEntry 𝓤 H A signature κs qs a (t .val (a .0) ∷ [], us)) (WpFn 𝓤 H C Λ (taking o j (kinds ss ps) n key) (t .val (a .0) ∷ vs) (Left o 𝓤 H A Tokens Z Lasts Q))) (all-flat κs ss ps (a .1))
-        (takes o j 𝓤 H A Tokens Z Lasts Q W (kinds ss ps) (machs κs ss ps (a .1)) C Λ (a .0) (owns (typesAt ss κs) (a .1) us) (all-fit κs 𝓤 H A W ss ps (a .1) (are .1)) fm n key
+        (λ vs. WpFn 𝓤 H C Λ (takingFn o j (slotKinds ss ps) n key) (flat (typesAt (signature .params) κs) vs) (Left o 𝓤 H A Tokens Z Lasts Q)) vss
+        (λ are. subst (λ (vs : List Val). ent 𝓤 (onEntry 𝓤 H A signature κs qs a (t .val (a .0) ∷ [], us)) (WpFn 𝓤 H C Λ (takingFn o j (slotKinds ss ps) n key) (t .val (a .0) ∷ vs) (Left o 𝓤 H A Tokens Z Lasts Q))) (all-flat κs ss ps (a .1))
+        (takes-lent o j 𝓤 H A Tokens Z Lasts Q W (slotKinds ss ps) (machs κs ss ps (a .1)) C Λ (a .0) (owns (typesAt ss κs) (a .1) us) (all-fit κs 𝓤 H A W ss ps (a .1) (are .1)) fm n key
         (λ α γ b. subst (λ (vs : List Val). ent 𝓤 (sep 𝓤 (sep 𝓤 (A .lft (α ∷ []) fullShare) Tokens) (sem 𝓤 H A (fsep (MutRef (named 0) (α ∷ []) T .own (record { ptr = (b, zero); name = γ; now = a .0 }) (vptr b zero ∷ [])) (owns (typesAt ss κs) (a .1) us))))
         (C key (vptr b zero ∷ vs) (Leaves o 𝓤 H A Tokens Z Lasts Q γ (α ∷ []) fullShare))) (sym (all-flat κs ss ps (a .1))) (known α γ b us)))))

@@ -16,26 +16,26 @@ use Rattle.delivery.specs.declared.acknowledging.Sack.{Sack}
 use Rattle.delivery.specs.declared.arrival.Verdict.{Verdict}
 use Rattle.delivery.specs.declared.arrival.Verdict.the-variants.{Kept, Far}
 use Rattle.delivery.specs.Receiving.{withKeeping, withHeld}
-use Rattle.delivery.specs.Arrival.{numberOf, isBeyond, Check, firstOf, checks, after, storedBy}
-use Rattle.line.specs.Runs.{Lent}
-use Rattle.line.specs.Demand.{Step, Handing, Receiver, over}
+use Rattle.delivery.specs.Arrival.{verdictNumber, isBeyond, Check, firstMet, checks, receivingAfter, storedBy}
+use Rattle.line.specs.Runs.{ReceiverLent}
+use Rattle.line.specs.Demand.{ReceiverStep, HostHanding, Receiver, receiverOver}
 
 -- ours, over a profile with circles of n and m, with another arrival, take or SACK
 module _ (n m : ℕ) (P : Profile) where
   abbrev right : Receiver
-  right = over (rings n m) P
+  right = receiverOver (rings n m) P
 
-  abbrev withArrive : (ℕ → Lent → Chunk → List ℕ → Step ℕ Lent) → Receiver
-  withArrive f = record { State = Lent; begun = right .begun; arrive = f; take = right .take; sack = right .sack }
+  abbrev withArrive : (ℕ → ReceiverLent → Chunk → List ℕ → ReceiverStep ℕ ReceiverLent) → Receiver
+  withArrive f = record { State = ReceiverLent; begun = right .begun; arrive = f; take = right .take; sack = right .sack }
 
-  abbrev withTake : (Lent → List ℕ → Step Handing Lent) → Receiver
-  withTake f = record { State = Lent; begun = right .begun; arrive = right .arrive; take = f; sack = right .sack }
+  abbrev withTake : (ReceiverLent → List ℕ → ReceiverStep HostHanding ReceiverLent) → Receiver
+  withTake f = record { State = ReceiverLent; begun = right .begun; arrive = right .arrive; take = f; sack = right .sack }
 
-  abbrev withSack : (Lent → Step Sack Lent) → Receiver
-  withSack f = record { State = Lent; begun = right .begun; arrive = right .arrive; take = right .take; sack = f }
+  abbrev withSack : (ReceiverLent → ReceiverStep Sack ReceiverLent) → Receiver
+  withSack f = record { State = ReceiverLent; begun = right .begun; arrive = right .arrive; take = right .take; sack = f }
 
   -- the receiving record moved by f
-  abbrev moved : (Receiving → Receiving) → Lent → Lent
+  abbrev moved : (Receiving → Receiving) → ReceiverLent → ReceiverLent
   moved f l = record { receiving = f (l .receiving); area = l .area }
 
   -- the point and the flags changed
@@ -43,8 +43,8 @@ module _ (n m : ℕ) (P : Profile) where
   withCome point come r = withKeeping r (record { point = record { 0 = point }; come = come; dups = r .keeping .dups; listed = r .keeping .listed })
 
   -- "one that refuses all packets": with the number x, and leaves all
-  abbrev pub refusing : ℕ → Receiver
-  refusing x = withArrive (λ streams l c bytes. record { answer = x; left = l })
+  abbrev pub refusingReceiver : ℕ → Receiver
+  refusingReceiver x = withArrive (λ streams l c bytes. record { answer = x; left = l })
 
   -- "one whose SACK never varies"
   abbrev pub unvarying : Sack → Receiver
@@ -66,11 +66,11 @@ module _ (n m : ℕ) (P : Profile) where
 
   -- "Plain 'less than' on TSN": a chunk is judged as if the circle were a line
   abbrev pub plainTsn : Receiver
-  plainTsn = withArrive (over (record { tsn = line; ssn = ring m }) P .arrive)
+  plainTsn = withArrive (receiverOver (record { tsn = line; ssn = ring m }) P .arrive)
 
   -- "or SSN": the next expected goes up as if the circle were a line
   abbrev pub plainSsn : Receiver
-  plainSsn = withTake (over (record { tsn = ring n; ssn = line }) P .take)
+  plainSsn = withTake (receiverOver (record { tsn = ring n; ssn = line }) P .take)
 
   -- "Freeing a taken chunk's offset above the point": of the flags from offset d on, those stay whose number is still held
   abbrev stillHeld : List Held → ℕ → ℕ → List Bool → List Bool
@@ -86,16 +86,16 @@ module _ (n m : ℕ) (P : Profile) where
   -- "Filling all places above a hole": of the checks, 13 is "d above 128", not "above 128 - low"
   abbrev roomy : Receiving → Held → ℕ → Verdict
   roomy r h streams =
-      firstOf
+      firstMet
       (map
-      (λ (c : Check). pick (eqb (numberOf (c .answer)) 13) (record { met = isBeyond (judged (ring n) (r .keeping .point .0) (P .places) (h .tsn .0)); answer = Far }) c)
+      (λ (c : Check). pick (eqb (verdictNumber (c .answer)) 13) (record { met = isBeyond (judged (ring n) (r .keeping .point .0) (P .places) (h .tsn .0)); answer = Far }) c)
       (checks (rings n m) P r h streams))
       Kept
 
-  abbrev filling : Lent → Held → List ℕ → Verdict → Step ℕ Lent
+  abbrev filling : ReceiverLent → Held → List ℕ → Verdict → ReceiverStep ℕ ReceiverLent
   filling l h bytes v = record {
-    answer = numberOf v;
-    left = record { receiving = after (ring n) P (l .receiving) h v; area = storedBy P (l .receiving .held) (l .area) bytes v };
+    answer = verdictNumber v;
+    left = record { receiving = receivingAfter (ring n) P (l .receiving) h v; area = storedBy P (l .receiving .held) (l .area) bytes v };
   }
 
   abbrev pub fillsAbove : Receiver

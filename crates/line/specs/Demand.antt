@@ -9,7 +9,7 @@ use Rattle.scans.specs.Scan.{pick}
 use Rattle.numbers.specs.declared.circle.Tsn.{Tsn}
 use Rattle.numbers.specs.Numbering.{Numberings, line, circles, lines}
 use Rattle.numbers.specs.Profile.{Profile, rail}
-use Rattle.numbers.specs.KeepingRoom.{Distinct}
+use Rattle.numbers.specs.KeepingRoomLaws.{Distinct}
 use Rattle.holding.specs.declared.held.Chunk.{Chunk}
 use Rattle.holding.specs.declared.taking.Message.{Message}
 use Rattle.holding.specs.declared.taking.Answer.{Answer as Taking}
@@ -17,22 +17,22 @@ use Rattle.holding.specs.declared.taking.Answer.the-variants.{Taken, Nothing, S
 use Rattle.holding.specs.Held.{asHeld}
 use Rattle.holding.specs.Taking.{written}
 use Rattle.delivery.specs.declared.acknowledging.Sack.{Sack}
-use Rattle.delivery.specs.Receiving.{lowOf, taken}
-use Rattle.delivery.specs.Arrival.{numberOf, arrived}
-use Rattle.delivery.specs.Acknowledging.{acknowledged}
+use Rattle.delivery.specs.Receiving.{lowOf, takenInto}
+use Rattle.delivery.specs.Arrival.{verdictNumber, arrived}
+use Rattle.delivery.specs.ReceivingSack.{acknowledgedReceiving}
 use Rattle.line.specs.Reduce.{reduceChunk, reduceMessage, reduceTaken, reduceSack}
-use Rattle.line.specs.Runs.{Event, arrive, take, sack, Lent, turn, start, reduceEvent, Fair, upFrom, Cut, bytesFrom, messageFrom}
-use Rattle.line.specs.Sender.{Sender, ordinal}
+use Rattle.line.specs.Runs.{ReceiverEvent, arrive, take, sack, ReceiverLent, eventTurn, start, reduceEvent, Fair, upFrom, Cut, bytesFrom, messageFrom}
+use Rattle.line.specs.Sender.{HonestSender, ordinal}
 
 -- ---- a receiver, and what its host sees
 
 -- what a call answers, and what the receiver then keeps
-pub record Step (A S : Type 0) : Type 0 where
+pub record ReceiverStep (A S : Type 0) : Type 0 where
   pub answer : A
   pub left : S
 
 -- what a take answers: 0 with the message, 17, or 18 with the length needed; and what then stands in the output
-pub record Handing : Type 0 where
+pub record HostHanding : Type 0 where
   pub answer : Taking
   pub output : List ℕ
 
@@ -42,61 +42,61 @@ pub record Receiver : Type 1 where
   -- fresh, for a peer's initial TSN, with the area that it is lent
   pub begun : Tsn → List ℕ → State
   -- a chunk arrives with its payload, where so many streams are agreed; answered by a number
-  pub arrive : ℕ → State → Chunk → List ℕ → Step ℕ State
+  pub arrive : ℕ → State → Chunk → List ℕ → ReceiverStep ℕ State
   -- a message is to be taken, into a lent output with these bytes in it
-  pub take : State → List ℕ → Step Handing State
-  pub sack : State → Step Sack State
+  pub take : State → List ℕ → ReceiverStep HostHanding State
+  pub sack : State → ReceiverStep Sack State
 
 -- what the host sees of one call
-pub data Seen : Type 0 where
-  number : ℕ → Seen
+pub data HostSaw : Type 0 where
+  number : ℕ → HostSaw
   -- the output as it was lent, the answer, and the output then
-  gave : List ℕ → Taking → List ℕ → Seen
-  told : Sack → Seen
+  gave : List ℕ → Taking → List ℕ → HostSaw
+  told : Sack → HostSaw
 
 -- what it sees of a sequence of calls
-unfoldable pub seen : (R : Receiver) → ℕ → R .State → List Event → List Seen
+unfoldable pub seen : (R : Receiver) → ℕ → R .State → List ReceiverEvent → List HostSaw
 seen R streams s [] = []
 seen R streams s (arrive c bytes ∷ es) = number (R .arrive streams s c bytes .answer) ∷ seen R streams (R .arrive streams s c bytes .left) es
 seen R streams s (take out ∷ es) = gave out (R .take s out .answer .answer) (R .take s out .answer .output) ∷ seen R streams (R .take s out .left) es
 seen R streams s (sack ∷ es) = told (R .sack s .answer) ∷ seen R streams (R .sack s .left) es
 
 -- and what the receiver then keeps
-unfoldable pub after : (R : Receiver) → ℕ → R .State → List Event → R .State
-after R streams s [] = s
-after R streams s (arrive c bytes ∷ es) = after R streams (R .arrive streams s c bytes .left) es
-after R streams s (take out ∷ es) = after R streams (R .take s out .left) es
-after R streams s (sack ∷ es) = after R streams (R .sack s .left) es
+unfoldable pub stateAfter : (R : Receiver) → ℕ → R .State → List ReceiverEvent → R .State
+stateAfter R streams s [] = s
+stateAfter R streams s (arrive c bytes ∷ es) = stateAfter R streams (R .arrive streams s c bytes .left) es
+stateAfter R streams s (take out ∷ es) = stateAfter R streams (R .take s out .left) es
+stateAfter R streams s (sack ∷ es) = stateAfter R streams (R .sack s .left) es
 
--- the receiver of the rules that the code's promises cite (`turn`), over the numberings N of chunks and of the ordered messages of a stream
-abbrev pub over : Numberings → Profile → Receiver
-over N P = record {
-  State = Lent;
+-- the receiver of the rules that the code's promises cite (`eventTurn`), over the numberings N of chunks and of the ordered messages of a stream
+abbrev pub receiverOver : Numberings → Profile → Receiver
+receiverOver N P = record {
+  State = ReceiverLent;
   begun = start (N .tsn) P;
   arrive = λ streams l c bytes. record {
-    answer = numberOf (arrived N P (l .receiving) (asHeld c (length bytes)) streams .verdict);
-    left = turn N P streams l (arrive c bytes) .lent;
+    answer = verdictNumber (arrived N P (l .receiving) (asHeld c (length bytes)) streams .verdict);
+    left = eventTurn N P streams l (arrive c bytes) .lent;
   };
   take = λ l out. record {
     answer = record {
-      answer = taken N P (l .receiving) (length out) .answer;
+      answer = takenInto N P (l .receiving) (length out) .answer;
       output = written N P (l .receiving .held) (l .receiving .next) (l .receiving .keeping .point .0) (l .area) out;
     };
-    left = turn N P 0 l (take out) .lent;
+    left = eventTurn N P 0 l (take out) .lent;
   };
-  sack = λ l. record { answer = acknowledged P (l .receiving) .sack; left = turn N P 0 l sack .lent };
+  sack = λ l. record { answer = acknowledgedReceiving P (l .receiving) .sack; left = eventTurn N P 0 l sack .lent };
 }
 
 -- the line receiver
 abbrev pub onLine : Profile → Receiver
-onLine P = over lines P
+onLine P = receiverOver lines P
 
 -- ours
 abbrev pub ours : Receiver
-ours = over circles rail
+ours = receiverOver circles rail
 
 -- what the host of the line receiver sees, as the circles have it
-abbrev pub reduceSeen : ℕ → ℕ → Seen → Seen
+abbrev pub reduceSeen : ℕ → ℕ → HostSaw → HostSaw
 reduceSeen n m (number x) = number x
 reduceSeen n m (gave out t now) = gave out (reduceTaken m t) now
 reduceSeen n m (told s) = told (reduceSack n s)
@@ -113,8 +113,8 @@ pub record Premises (P : Profile) (h : ℕ) : Type 0 where
   pub chunk : ℕ → Chunk
   pub payload : ℕ → List ℕ
   -- on the line its first number is one turn further, so that there is one before it
-  pub honest : Sender P (initial + (h + h)) streams chunk
-  pub events : List Event
+  pub honest : HonestSender P (initial + (h + h)) streams chunk
+  pub events : List ReceiverEvent
   pub fair : Fair P h (initial + (h + h)) chunk payload streams (start line P (record { 0 = initial + (h + h) }) area) events
 
 module _ {P : Profile} {h : ℕ} (c : Premises P h) where
@@ -122,33 +122,33 @@ module _ {P : Profile} {h : ℕ} (c : Premises P h) where
   first = c .initial + (h + h)
 
   -- what the host of the line receiver sees, and what that receiver then has
-  abbrev pub lineSeen : List Seen
+  abbrev pub lineSeen : List HostSaw
   lineSeen = seen (onLine P) (c .streams) (start line P (record { 0 = first }) (c .area)) (c .events)
 
-  abbrev pub lineAfter : Lent
-  lineAfter = after (onLine P) (c .streams) (start line P (record { 0 = first }) (c .area)) (c .events)
+  abbrev pub lineAfter : ReceiverLent
+  lineAfter = stateAfter (onLine P) (c .streams) (start line P (record { 0 = first }) (c .area)) (c .events)
 
   -- the same of a receiver that gets the numbers modulo n and m
-  abbrev pub hostSeen : ℕ → Receiver → List Seen
+  abbrev pub hostSeen : ℕ → Receiver → List HostSaw
   hostSeen m R = seen R (c .streams) (R .begun (record { 0 = c .initial }) (c .area)) (map (reduceEvent (h + h) m) (c .events))
 
   abbrev pub hostAfter : ℕ → (R : Receiver) → R .State
-  hostAfter m R = after R (c .streams) (R .begun (record { 0 = c .initial }) (c .area)) (map (reduceEvent (h + h) m) (c .events))
+  hostAfter m R = stateAfter R (c .streams) (R .begun (record { 0 = c .initial }) (c .area)) (map (reduceEvent (h + h) m) (c .events))
 
 -- ---- the messages that takes gave
 
 -- the output as it was lent, the message, and the output then
-pub record Given : Type 0 where
+pub record GivenMessage : Type 0 where
   pub lent : List ℕ
   pub message : Message
   pub output : List ℕ
 
-abbrev pub givenBy : List ℕ → Taking → List ℕ → List Given → List Given
+abbrev pub givenBy : List ℕ → Taking → List ℕ → List GivenMessage → List GivenMessage
 givenBy out (Taken m) now gs = record { lent = out; message = m; output = now } ∷ gs
 givenBy out Nothing now gs = gs
 givenBy out (Short n) now gs = gs
 
-abbrev pub given : List Seen → List Given
+abbrev pub given : List HostSaw → List GivenMessage
 given [] = []
 given (number x ∷ zs) = given zs
 given (gave out t now ∷ zs) = givenBy out t now (given zs)
@@ -161,7 +161,7 @@ pub record Span : Type 0 where
 
 -- what was given is the message there: one that the sender cut, its SSN brought back onto a circle of m; its bytes stand first in the output, and the
 -- rest of it stays
-pub record IsThere (m first : ℕ) (chunk : ℕ → Chunk) (payload : ℕ → List ℕ) (s : Span) (g : Given) : Type 0 where
+pub record IsThere (m first : ℕ) (chunk : ℕ → Chunk) (payload : ℕ → List ℕ) (s : Span) (g : GivenMessage) : Type 0 where
   pub cut : Cut first chunk (s .at) (s .count)
   pub message : g .message ≡ reduceMessage m (messageFrom chunk payload (s .at) (s .count))
   pub bytes : g .output ≡ bytesFrom payload (s .at) (s .count) ++ drop (length (bytesFrom payload (s .at) (s .count))) (g .lent)
@@ -182,7 +182,7 @@ ordinals first chunk q (s ∷ ss) =
     (ordinals first chunk q ss)
 
 -- the messages given, by index: different ones of the sender, each with its bytes; those of a stream in order are its first, second, third and on
-pub record Messages (m first : ℕ) (chunk : ℕ → Chunk) (payload : ℕ → List ℕ) (gs : List Given) : Type 0 where
+pub record Messages (m first : ℕ) (chunk : ℕ → Chunk) (payload : ℕ → List ℕ) (gs : List GivenMessage) : Type 0 where
   pub index : List Span
   pub genuine : Match (IsThere m first chunk payload) index gs
   pub different : Distinct (map (λ (s : Span). s .at) index)

@@ -19,32 +19,30 @@ use Rattle.numbers.specs.Circle.{onCircle}
 use Rattle.numbers.specs.Numbering.{ring, line, circles, lines, on, before, far, key}
 use Rattle.numbers.specs.Profile.{Profile, rail, isAgreed}
 use Rattle.numbers.specs.Judgement.{judged}
-use Rattle.numbers.specs.Keeping as keeping
-use Rattle.numbers.specs.Keeping.{offsetOf, isCome, settled, marked, listed}
-use Rattle.numbers.specs.Blocks.{runs, laidOut, blocksOf}
+use Rattle.numbers.specs.Keeping.{offsetOf, isCome, keepingSettled, markedCome, listed, freshKeeping, keepingTold}
+use Rattle.numbers.specs.Blocks.{runs, blocksLaidOut, blocksOf}
 use Rattle.octets.specs.Bytes.{laid}
 use Rattle.holding.specs.declared.held.Chunk.{Chunk}
 use Rattle.holding.specs.declared.taking.Message.{Message}
 use Rattle.holding.specs.declared.taking.Answer.the-variants.{Taken, Nothing, Short}
 use Rattle.holding.specs.Held.{asHeld, holds}
-use Rattle.holding.specs.Message.{isOfOne, continues, follow, isLeftEnd, isDueAt, isExpected, opens, better, chosen}
+use Rattle.holding.specs.Message.{isOfOne, continues, follow, isLeftEnd, isDueAt, isExpected, opens, betterMessage, chosen}
 use Rattle.holding.specs.Taking.{advanced, took, written}
 use Rattle.delivery.specs.declared.arrival.Verdict.the-variants.{Kept, Duplicate}
 use Rattle.delivery.specs.declared.acknowledging.Sack.{Sack}
-use Rattle.delivery.specs.Receiving.{fresh, isLow, lowOf, taken}
+use Rattle.delivery.specs.Receiving.{freshReceiving, isLow, lowOf, takenInto}
 use Rattle.delivery.specs.Contradiction.{contradicts, contradictsNext, clashes, isContradicted}
-use Rattle.delivery.specs.Arrival as arrival
-use Rattle.delivery.specs.Arrival.{isRepeat, isWedged, judgementOf, verdictOf, noted, passed, arrived, areaAfter}
-use Rattle.delivery.specs.Acknowledging.{sackOf, told, acknowledged}
+use Rattle.delivery.specs.Arrival.{isRepeat, isWedged, judgementOf, verdictOf, duplicateNoted, strayPassed, arrived, arrivalArea, keptAtPlace}
+use Rattle.delivery.specs.ReceivingSack.{receivingSack, receivingTold, acknowledgedReceiving}
 use Rattle.line.specs.Reduce.{reduceSsn}
-use Rattle.line.specs.Sender.{Sender, starts, ordinal, ordinal-suc, ordinal-zero}
-use Rattle.line.specs.Runs.{Event, arrive, take, sack, judges, gives, tells, start, answers, reduceEvent, reduceAnswer, Fair}
-use Rattle.line.specs.Agreement.{rail-agrees}
+use Rattle.line.specs.Sender.{HonestSender, starts, ordinal, ordinal-suc, ordinal-zero}
+use Rattle.line.specs.Runs.{ReceiverEvent, arrive, take, sack, judges, gives, tells, start, answers, reduceEvent, reduceAnswer, Fair}
+use Rattle.line.specs.AgreementLaws.{rail-agrees}
 
 -- a sender of messages of one chunk each, of stream 0: ordered ones, and from the number `loose` on unordered ones
 module _ (first loose : ℕ) where
-  abbrev pub chunkOf : ℕ → Chunk
-  chunkOf n = record {
+  abbrev pub exampleChunkOf : ℕ → Chunk
+  exampleChunkOf n = record {
     begin = true;
     end = true;
     unordered = leb loose n;
@@ -54,16 +52,16 @@ module _ (first loose : ℕ) where
     ppid = 7;
   }
 
-  each : (n : ℕ) → n < loose → Dec (n < first) → bit (starts first chunkOf 0 n) + (n - first) ≡ suc n - first
+  each : (n : ℕ) → n < loose → Dec (n < first) → bit (starts first exampleChunkOf 0 n) + (n - first) ≡ suc n - first
   unfolding starts
   each n m (yes l) = rw (lt-ltb n first l) (omega arith)
   each n m (no l) = rw (le-ltb n first (omega arith), lt-leb loose n m) (omega arith)
 
-  counted : (n : ℕ) → n ≤ loose → ordinal first chunkOf 0 n ≡ n - first
-  counted zero m = ordinal-zero first chunkOf 0 ∙ omega arith
-  counted (suc n) m = omega (arith, ordinal-suc first chunkOf 0 n, counted n (omega arith), each n (omega arith) (decLt n first))
+  counted : (n : ℕ) → n ≤ loose → ordinal first exampleChunkOf 0 n ≡ n - first
+  counted zero m = ordinal-zero first exampleChunkOf 0 ∙ omega arith
+  counted (suc n) m = omega (arith, ordinal-suc first exampleChunkOf 0 n, counted n (omega arith), each n (omega arith) (decLt n first))
 
-  pub single : (P : Profile) → isAgreed P 0 1 ≡ true → Sender P first 1 chunkOf
+  pub single : (P : Profile) → isAgreed P 0 1 ≡ true → HonestSender P first 1 exampleChunkOf
   single P e = record {
     number = λ n l. refl;
     begins = refl;
@@ -76,28 +74,28 @@ module _ (first loose : ℕ) where
   }
 
 -- the two bytes of each
-abbrev pub payloadOf : ℕ → ℕ → List ℕ
-payloadOf first n = (n - first) ∷ (9 ∷ [])
+abbrev pub examplePayloadOf : ℕ → ℕ → List ℕ
+examplePayloadOf first n = (n - first) ∷ (9 ∷ [])
 
 -- the last number of the circle; on the line, one turn further
-abbrev pub last : ℕ
-last = 2 ^ 32 - 1
+abbrev pub exampleLast : ℕ
+exampleLast = 2 ^ 32 - 1
 
-abbrev pub first : ℕ
-first = last + 2 ^ 32
+abbrev pub exampleFirst : ℕ
+exampleFirst = exampleLast + 2 ^ 32
 
-abbrev pub initial : Tsn
-initial = record { 0 = first }
+abbrev pub exampleInitial : Tsn
+exampleInitial = record { 0 = exampleFirst }
 
 -- two ordered ones, then unordered ones
-abbrev pub chunk : ℕ → Chunk
-chunk = chunkOf first (first + 2)
+abbrev pub exampleChunk : ℕ → Chunk
+exampleChunk = exampleChunkOf exampleFirst (exampleFirst + 2)
 
 abbrev pub payload : ℕ → List ℕ
-payload = payloadOf first
+payload = examplePayloadOf exampleFirst
 
-pub honest : Sender rail first 1 chunk
-honest = single first (first + 2) rail refl
+pub honest : HonestSender rail exampleFirst 1 exampleChunk
+honest = single exampleFirst (exampleFirst + 2) rail refl
 
 -- a lent area; only its first two places are used
 abbrev pub area : List ℕ
@@ -111,24 +109,24 @@ abbrev pub short : List ℕ
 short = 5 ∷ []
 
 -- the chunk of a number arrives
-abbrev pub comes : ℕ → Event
-comes n = arrive (chunk n) (payload n)
+abbrev pub comes : ℕ → ReceiverEvent
+comes n = arrive (exampleChunk n) (payload n)
 
 -- the second before the first, across the wrap; both taken, the first at the second try; then an unordered one behind a gap, and the same again
-abbrev events : List Event
+abbrev events : List ReceiverEvent
 events =
-    comes (first + 1)
+    comes (exampleFirst + 1)
     ∷ (sack
-    ∷ (comes first
+    ∷ (comes exampleFirst
     ∷ (sack
     ∷ (take short
-    ∷ (take out ∷ (take out ∷ (comes (first + 3) ∷ (take out ∷ (take out ∷ (comes (first + 3) ∷ (sack ∷ [])))))))))))
+    ∷ (take out ∷ (take out ∷ (comes (exampleFirst + 3) ∷ (take out ∷ (take out ∷ (comes (exampleFirst + 3) ∷ (sack ∷ [])))))))))))
 
-fair : Fair rail (2 ^ 31) first chunk payload 1 (start line rail initial area) events
-unfolding fresh keeping.fresh before on far judged offsetOf isCome settled marked listed keeping.told holds isOfOne continues follow isLeftEnd isDueAt isExpected opens key better chosen advanced took isLow lowOf taken isRepeat isWedged judgementOf contradicts contradictsNext clashes isContradicted verdictOf noted passed arrival.kept arrived told acknowledged
+fair : Fair rail (2 ^ 31) exampleFirst exampleChunk payload 1 (start line rail exampleInitial area) events
+unfolding freshReceiving freshKeeping before on far judged offsetOf isCome keepingSettled markedCome listed keepingTold holds isOfOne continues follow isLeftEnd isDueAt isExpected opens key betterMessage chosen advanced took isLow lowOf takenInto isRepeat isWedged judgementOf contradicts contradictsNext clashes isContradicted verdictOf duplicateNoted strayPassed keptAtPlace arrived receivingTold acknowledgedReceiving
 fair = (
-  (first + 1, omega arith, refl, refl, omega arith),
-  ((first, omega arith, refl, refl, omega arith), ((first + 3, omega arith, refl, refl, omega arith), ((first + 3, omega arith, refl, refl, omega arith), tt))),
+  (exampleFirst + 1, omega arith, refl, refl, omega arith),
+  ((exampleFirst, omega arith, refl, refl, omega arith), ((exampleFirst + 3, omega arith, refl, refl, omega arith), ((exampleFirst + 3, omega arith, refl, refl, omega arith), tt))),
 )
 
 -- a SACK, with its arrays as the host has them
@@ -153,7 +151,7 @@ blockAt2 = record { count = 1; starts = 2 ∷ replicate 63 0; ends = 2 ∷ repli
 abbrev message : ℕ → Bool → Message
 message n kind = record { length = 2; stream = record { 0 = 0 }; unordered = kind; ssn = record { 0 = n }; ppid = 7 }
 
-circle-says : answers circles rail 1 (start (ring (2 ^ 32)) rail (record { 0 = last }) area) (map (reduceEvent (2 ^ 32) (2 ^ 16)) events)
+circle-says : answers circles rail 1 (start (ring (2 ^ 32)) rail (record { 0 = exampleLast }) area) (map (reduceEvent (2 ^ 32) (2 ^ 16)) events)
     ≡ judges Kept
     ∷ (tells (sackAt 4294967294 65024 blockAt2 [] 0)
     ∷ (judges Kept
@@ -167,16 +165,16 @@ circle-says : answers circles rail 1 (start (ring (2 ^ 32)) rail (record { 0 = l
     ∷ (judges Duplicate
     ∷ (tells (sackAt 0 65536 blockAt2 (record { 0 = 2 } ∷ []) 1)
     ∷ [])))))))))))
-unfolding answers fresh keeping.fresh before on far onCircle judged offsetOf isCome settled marked listed keeping.told runs laidOut blocksOf laid holds isOfOne continues follow isLeftEnd isDueAt isExpected opens key better chosen advanced took written isLow lowOf taken isRepeat isWedged judgementOf contradicts contradictsNext clashes isContradicted verdictOf noted passed arrival.kept arrived areaAfter sackOf told acknowledged
+unfolding answers freshReceiving freshKeeping before on far onCircle judged offsetOf isCome keepingSettled markedCome listed keepingTold runs blocksLaidOut blocksOf laid holds isOfOne continues follow isLeftEnd isDueAt isExpected opens key betterMessage chosen advanced took written isLow lowOf takenInto isRepeat isWedged judgementOf contradicts contradictsNext clashes isContradicted verdictOf duplicateNoted strayPassed keptAtPlace arrived arrivalArea receivingSack receivingTold acknowledgedReceiving
 circle-says = refl
 
 -- as the theorem says, with both sides of it computed
-holds-here : answers circles rail 1 (start (ring (2 ^ 32)) rail (record { 0 = last }) area) (map (reduceEvent (2 ^ 32) (2 ^ 16)) events)
-    ≡ map (reduceAnswer (2 ^ 32) (2 ^ 16)) (answers lines rail 1 (start line rail initial area) events)
-holds-here = rail-agrees last (omega arith) 1 area chunk payload honest events fair .0
+holds-here : answers circles rail 1 (start (ring (2 ^ 32)) rail (record { 0 = exampleLast }) area) (map (reduceEvent (2 ^ 32) (2 ^ 16)) events)
+    ≡ map (reduceAnswer (2 ^ 32) (2 ^ 16)) (answers lines rail 1 (start line rail exampleInitial area) events)
+holds-here = rail-agrees exampleLast (omega arith) 1 area exampleChunk payload honest events fair .0
 
 -- behind number 65,535 of a stream stands 65,536 on the line, and 0 on the circle
-ssn-returns : advanced (ring (2 ^ 16)) (record { 0 = 65535 } ∷ []) (asHeld (chunk first) 2)
-    ≡ map (reduceSsn (2 ^ 16)) (advanced line (record { 0 = 65535 } ∷ []) (asHeld (chunk first) 2))
+ssn-returns : advanced (ring (2 ^ 16)) (record { 0 = 65535 } ∷ []) (asHeld (exampleChunk exampleFirst) 2)
+    ≡ map (reduceSsn (2 ^ 16)) (advanced line (record { 0 = 65535 } ∷ []) (asHeld (exampleChunk exampleFirst) 2))
 unfolding advanced on
 ssn-returns = refl

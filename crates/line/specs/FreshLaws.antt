@@ -11,19 +11,19 @@ use Rattle.numbers.specs.Profile.{Profile}
 use Rattle.holding.specs.declared.held.Held.{Held}
 use Rattle.holding.specs.declared.taking.Answer.the-variants.{Nothing}
 use Rattle.holding.specs.Held.{noHeld}
-use Rattle.holding.specs.Message.{Choice, none, isLeftEnd, opens, better, chosen}
+use Rattle.holding.specs.Message.{Choice, none, isLeftEnd, opens, betterMessage, chosen}
 use Rattle.holding.specs.Taking.{tookBy, took}
-use Rattle.delivery.specs.Receiving.{fresh, taken}
+use Rattle.delivery.specs.Receiving.{freshReceiving, takenInto}
 
 -- a take answers 17
 module _ (N : Numberings) (P : Profile) (t : Tsn) where
-  free-none : (hs : List Held) (next : List Ssn) (point n i : ℕ) (c : Choice) → foldFrom (better N P hs next point) c i (replicate n noHeld) ≡ c
-  unfolding better opens isLeftEnd
+  free-none : (hs : List Held) (next : List Ssn) (point n i : ℕ) (c : Choice) → foldFrom (betterMessage N P hs next point) c i (replicate n noHeld) ≡ c
+  unfolding betterMessage opens isLeftEnd
   free-none hs next point zero i c = refl
   free-none hs next point (suc n) i c = free-none hs next point n (i + 1) c
 
-  pub fresh-nothing : (room : ℕ) → taken N P (fresh (N .tsn) P t) room .answer ≡ Nothing
-  unfolding taken took fresh chosen
+  pub fresh-nothing : (room : ℕ) → takenInto N P (freshReceiving (N .tsn) P t) room .answer ≡ Nothing
+  unfolding takenInto took freshReceiving chosen
   fresh-nothing room =
-      ap (λ (c : Choice). tookBy (N .ssn) (fresh (N .tsn) P t .held) (fresh (N .tsn) P t .next) room c .answer)
-      (free-none (fresh (N .tsn) P t .held) (fresh (N .tsn) P t .next) (fresh (N .tsn) P t .keeping .point .0) (P .places) 0 none)
+      ap (λ (c : Choice). tookBy (N .ssn) (freshReceiving (N .tsn) P t .held) (freshReceiving (N .tsn) P t .next) room c .answer)
+      (free-none (freshReceiving (N .tsn) P t .held) (freshReceiving (N .tsn) P t .next) (freshReceiving (N .tsn) P t .keeping .point .0) (P .places) 0 none)

@@ -9,9 +9,9 @@ use lib.ListN.{length, drop}
 use lib.Dec.{eqb, ltb, leb}
 use Rattle.scans.specs.Scan.{pick, count, any}
 use Rattle.numbers.specs.declared.circle.Tsn.{Tsn}
-use Rattle.numbers.specs.Numbering.{Numbering, Numberings, lines, Within}
+use Rattle.numbers.specs.Numbering.{Numbering, Numberings, lines, NearerThan}
 use Rattle.numbers.specs.Profile.{Profile}
-use Rattle.numbers.specs.BlocksLaws.{has, listedIn}
+use Rattle.numbers.specs.BlocksLaws.{has, blockList}
 use Rattle.holding.specs.declared.held.Chunk.{Chunk}
 use Rattle.holding.specs.declared.held.Held.{Held}
 use Rattle.holding.specs.declared.taking.Message.{Message}
@@ -23,102 +23,102 @@ use Rattle.holding.specs.Taking.{lengthOf, written}
 use Rattle.delivery.specs.declared.receiving.Receiving.{Receiving}
 use Rattle.delivery.specs.declared.arrival.Verdict.{Verdict}
 use Rattle.delivery.specs.declared.acknowledging.Sack.{Sack}
-use Rattle.delivery.specs.Receiving.{fresh, taken}
-use Rattle.delivery.specs.Arrival.{arrived, areaAfter}
-use Rattle.delivery.specs.Acknowledging.{acknowledged}
+use Rattle.delivery.specs.Receiving.{freshReceiving, takenInto}
+use Rattle.delivery.specs.Arrival.{arrived, arrivalArea}
+use Rattle.delivery.specs.ReceivingSack.{acknowledgedReceiving}
 use Rattle.line.specs.Reduce.{reduceChunk, reduce, reduceTaken, reduceSack}
 
 -- ---- what is asked, and what is answered
 
 -- a call of the receiver
-pub data Event : Type 0 where
+pub data ReceiverEvent : Type 0 where
   -- a chunk arrives, with its payload
-  arrive : Chunk → List ℕ → Event
+  arrive : Chunk → List ℕ → ReceiverEvent
   -- a message is to be taken, into a lent output with these bytes in it
-  take : List ℕ → Event
-  sack : Event
+  take : List ℕ → ReceiverEvent
+  sack : ReceiverEvent
 
 -- what it answers
-pub data Answer : Type 0 where
+pub data EventAnswer : Type 0 where
   -- 0, 9 to 14, 21, 24
-  judges : Verdict → Answer
+  judges : Verdict → EventAnswer
   -- 0 with the message, 17, or 18 with the length needed; and what then stands in the output
-  gives : Taking → List ℕ → Answer
-  tells : Sack → Answer
+  gives : Taking → List ℕ → EventAnswer
+  tells : Sack → EventAnswer
 
 -- an answer other than the verdict v
-abbrev pub Never : Verdict → Answer → Type 0
+abbrev pub Never : Verdict → EventAnswer → Type 0
 Never v (judges w) = w ≡ v → ⊥
 Never v (gives t out) = Unit
 Never v (tells s) = Unit
 
 -- a receiver: its record, and the area that it was lent
-pub record Lent : Type 0 where
+pub record ReceiverLent : Type 0 where
   pub receiving : Receiving
   pub area : List ℕ
 
 -- the answer to one event, and what the receiver then has
-pub record Turn : Type 0 where
-  pub answer : Answer
-  pub lent : Lent
+pub record EventTurn : Type 0 where
+  pub answer : EventAnswer
+  pub lent : ReceiverLent
 
 -- an event, answered by the rules that the code's promises cite
-abbrev pub turn : Numberings → Profile → ℕ → Lent → Event → Turn
-turn N P streams l (arrive c bytes) = record {
+abbrev pub eventTurn : Numberings → Profile → ℕ → ReceiverLent → ReceiverEvent → EventTurn
+eventTurn N P streams l (arrive c bytes) = record {
   answer = judges (arrived N P (l .receiving) (asHeld c (length bytes)) streams .verdict);
   lent = record {
     receiving = arrived N P (l .receiving) (asHeld c (length bytes)) streams .receiving;
-    area = areaAfter N P (l .receiving) (asHeld c (length bytes)) streams (l .area) bytes;
+    area = arrivalArea N P (l .receiving) (asHeld c (length bytes)) streams (l .area) bytes;
   };
 }
-turn N P streams l (take out) = record {
-  answer = gives (taken N P (l .receiving) (length out) .answer) (written N P (l .receiving .held) (l .receiving .next) (l .receiving .keeping .point .0) (l .area) out);
-  lent = record { receiving = taken N P (l .receiving) (length out) .receiving; area = l .area };
+eventTurn N P streams l (take out) = record {
+  answer = gives (takenInto N P (l .receiving) (length out) .answer) (written N P (l .receiving .held) (l .receiving .next) (l .receiving .keeping .point .0) (l .area) out);
+  lent = record { receiving = takenInto N P (l .receiving) (length out) .receiving; area = l .area };
 }
-turn N P streams l sack = record {
-  answer = tells (acknowledged P (l .receiving) .sack);
-  lent = record { receiving = acknowledged P (l .receiving) .receiving; area = l .area };
+eventTurn N P streams l sack = record {
+  answer = tells (acknowledgedReceiving P (l .receiving) .sack);
+  lent = record { receiving = acknowledgedReceiving P (l .receiving) .receiving; area = l .area };
 }
 
 -- a fresh record for a peer whose first number is t, and an area
-abbrev pub start : Numbering → Profile → Tsn → List ℕ → Lent
-start T P t area = record { receiving = fresh T P t; area = area }
+abbrev pub start : Numbering → Profile → Tsn → List ℕ → ReceiverLent
+start T P t area = record { receiving = freshReceiving T P t; area = area }
 
 -- what a receiver answers to a sequence of events
-unfoldable pub answers : Numberings → Profile → ℕ → Lent → List Event → List Answer
+unfoldable pub answers : Numberings → Profile → ℕ → ReceiverLent → List ReceiverEvent → List EventAnswer
 answers N P streams l [] = []
-answers N P streams l (e ∷ es) = turn N P streams l e .answer ∷ answers N P streams (turn N P streams l e .lent) es
+answers N P streams l (e ∷ es) = eventTurn N P streams l e .answer ∷ answers N P streams (eventTurn N P streams l e .lent) es
 
 -- and what it then has
-unfoldable pub finally : Numberings → Profile → ℕ → Lent → List Event → Lent
+unfoldable pub finally : Numberings → Profile → ℕ → ReceiverLent → List ReceiverEvent → ReceiverLent
 finally N P streams l [] = l
-finally N P streams l (e ∷ es) = finally N P streams (turn N P streams l e .lent) es
+finally N P streams l (e ∷ es) = finally N P streams (eventTurn N P streams l e .lent) es
 
 -- ---- the events and answers of the line, as the circles have them
 
-abbrev pub reduceEvent : ℕ → ℕ → Event → Event
+abbrev pub reduceEvent : ℕ → ℕ → ReceiverEvent → ReceiverEvent
 reduceEvent n m (arrive c bytes) = arrive (reduceChunk n m c) bytes
 reduceEvent n m (take out) = take out
 reduceEvent n m sack = sack
 
-abbrev pub reduceAnswer : ℕ → ℕ → Answer → Answer
+abbrev pub reduceAnswer : ℕ → ℕ → EventAnswer → EventAnswer
 reduceAnswer n m (judges v) = judges v
 reduceAnswer n m (gives t out) = gives (reduceTaken m t) out
 reduceAnswer n m (tells s) = tells (reduceSack n s)
 
-abbrev pub reduceLent : ℕ → ℕ → Lent → Lent
+abbrev pub reduceLent : ℕ → ℕ → ReceiverLent → ReceiverLent
 reduceLent n m l = record { receiving = reduce n m (l .receiving); area = l .area }
 
 -- ---- the premise on arrivals
 
 -- each chunk that arrives is the sender's, with its payload, and less than h from the point up to which all has come
-abbrev pub Fair : Profile → ℕ → ℕ → (ℕ → Chunk) → (ℕ → List ℕ) → ℕ → Lent → List Event → Type 0
+abbrev pub Fair : Profile → ℕ → ℕ → (ℕ → Chunk) → (ℕ → List ℕ) → ℕ → ReceiverLent → List ReceiverEvent → Type 0
 Fair P h first chunk payload streams l [] = Unit
 Fair P h first chunk payload streams l (arrive c bytes ∷ es) =
-    ((n : ℕ) × (first ≤ n) × (c ≡ chunk n) × (bytes ≡ payload n) × Within h (l .receiving .keeping .point .0) n)
-    × Fair P h first chunk payload streams (turn lines P streams l (arrive c bytes) .lent) es
-Fair P h first chunk payload streams l (take out ∷ es) = Fair P h first chunk payload streams (turn lines P streams l (take out) .lent) es
-Fair P h first chunk payload streams l (sack ∷ es) = Fair P h first chunk payload streams (turn lines P streams l sack .lent) es
+    ((n : ℕ) × (first ≤ n) × (c ≡ chunk n) × (bytes ≡ payload n) × NearerThan h (l .receiving .keeping .point .0) n)
+    × Fair P h first chunk payload streams (eventTurn lines P streams l (arrive c bytes) .lent) es
+Fair P h first chunk payload streams l (take out ∷ es) = Fair P h first chunk payload streams (eventTurn lines P streams l (take out) .lent) es
+Fair P h first chunk payload streams l (sack ∷ es) = Fair P h first chunk payload streams (eventTurn lines P streams l sack .lent) es
 
 -- ---- what a run gave
 
@@ -129,23 +129,23 @@ copies hs n = count (holds n) hs
 -- whether a SACK of the line tells that number n has come: it lies from the first to the point, or in one of the blocks
 unfoldable pub acknowledges : ℕ → Sack → ℕ → Bool
 acknowledges first s n =
-    pick (ltb n first) false (pick (leb n (s .point .0)) true (any (has (n - s .point .0)) (listedIn (s .blocks))))
+    pick (ltb n first) false (pick (leb n (s .point .0)) true (any (has (n - s .point .0)) (blockList (s .blocks))))
 
 -- the chunks of the message that a take into so many bytes gives, none where it gives no message
-abbrev pub handedBy : List Held → ℕ → Choice → List Held
-handedBy hs room none = []
-handedBy hs room (one k is) = pick (ltb room (lengthOf hs is)) [] (chunksAt hs is)
+abbrev pub chunksHandedBy : List Held → ℕ → Choice → List Held
+chunksHandedBy hs room none = []
+chunksHandedBy hs room (one k is) = pick (ltb room (lengthOf hs is)) [] (chunksAt hs is)
 
 -- of the message that the take chooses
-unfoldable pub handed : Numberings → Profile → Receiving → ℕ → List Held
-handed N P r room = handedBy (r .held) room (chosen N P (r .held) (r .next) (r .keeping .point .0))
+unfoldable pub chunksHanded : Numberings → Profile → Receiving → ℕ → List Held
+chunksHanded N P r room = chunksHandedBy (r .held) room (chosen N P (r .held) (r .next) (r .keeping .point .0))
 
 -- the chunks of every take of a run, one list for each
-abbrev pub handedOver : Profile → ℕ → Lent → List Event → List (List Held)
-handedOver P streams l [] = []
-handedOver P streams l (arrive c bytes ∷ es) = handedOver P streams (turn lines P streams l (arrive c bytes) .lent) es
-handedOver P streams l (take out ∷ es) = handed lines P (l .receiving) (length out) ∷ handedOver P streams (turn lines P streams l (take out) .lent) es
-handedOver P streams l (sack ∷ es) = handedOver P streams (turn lines P streams l sack .lent) es
+abbrev pub takesHanded : Profile → ℕ → ReceiverLent → List ReceiverEvent → List (List Held)
+takesHanded P streams l [] = []
+takesHanded P streams l (arrive c bytes ∷ es) = takesHanded P streams (eventTurn lines P streams l (arrive c bytes) .lent) es
+takesHanded P streams l (take out ∷ es) = chunksHanded lines P (l .receiving) (length out) ∷ takesHanded P streams (eventTurn lines P streams l (take out) .lent) es
+takesHanded P streams l (sack ∷ es) = takesHanded P streams (eventTurn lines P streams l sack .lent) es
 
 -- all of them in a row
 abbrev pub joinedAll : List (List Held) → List Held
@@ -165,7 +165,7 @@ ssnOf Nothing = 0
 ssnOf (Short n) = 0
 
 -- the SSNs of the ordered messages of stream q that a run gave
-abbrev pub orderGiven : ℕ → List Answer → List ℕ
+abbrev pub orderGiven : ℕ → List EventAnswer → List ℕ
 orderGiven q [] = []
 orderGiven q (judges v ∷ zs) = orderGiven q zs
 orderGiven q (gives t out ∷ zs) = pick (isOrderedIn q t) (ssnOf t ∷ orderGiven q zs) (orderGiven q zs)

@@ -24,7 +24,7 @@ ordinal first chunk s zero = 0
 ordinal first chunk s (suc n) = ordinal first chunk s n + bit (starts first chunk s n)
 
 -- the premises on the sender; it has nothing else to keep
-pub record Sender (P : Profile) (first streams : ℕ) (chunk : ℕ → Chunk) : Type 0 where
+pub record HonestSender (P : Profile) (first streams : ℕ) (chunk : ℕ → Chunk) : Type 0 where
   -- it numbers its chunks one after the other
   pub number : (n : ℕ) → first ≤ n → chunk n .tsn .0 ≡ n
   -- it cuts whole messages: one begins at the first number and behind each end, and nowhere else
@@ -42,7 +42,7 @@ pub record Sender (P : Profile) (first streams : ℕ) (chunk : ℕ → Chunk) : 
 
 -- ---- laws
 
-module _ {P : Profile} {first streams : ℕ} {chunk : ℕ → Chunk} (send : Sender P first streams chunk) where
+module _ {P : Profile} {first streams : ℕ} {chunk : ℕ → Chunk} (send : HonestSender P first streams chunk) where
   pub agreed-few : (n : ℕ) → first ≤ n → chunk n .stream .0 < P .streams
   agreed-few n l = agreed-below P (chunk n .stream .0) streams (send .agreed n l)
 

@@ -11,11 +11,11 @@ ghost use mathlib.Core.List.{map};
 ghost use Prim.Native.Nat.{_≤_};
 ghost use Rattle.scans.specs.Scan.{count, total};
 ghost use Rattle.numbers.specs.Profile.{rail};
-ghost use Rattle.places.specs.Places.{marked, missed, hasStatus, flightOf, tallied, isEmpty};
-ghost use Rattle.places.specs.Sack.{takenIn, settled};
-ghost use Rattle.tables.specs.Place.{placesOf};
+ghost use Rattle.places.specs.Places.{markedForResend, missed, hasStatus, flightOf, tallied, isEmpty};
+ghost use Rattle.places.specs.Sack.{sackTakenIn, placeSettled};
+ghost use Rattle.tables.specs.PlaceWords.{placesOf};
 ghost use Rattle.tables.specs.PlaceStates.{statesBy};
-ghost use Rattle.marks.specs.Marking.{never, missing};
+ghost use Rattle.marks.specs.MarkingLaws.{never, missing};
 
 // What a SACK newly acknowledges: the bytes, and the highest offset.
 pub struct Took {
@@ -33,8 +33,8 @@ pub struct Missing {
 
 // Freed, acknowledged, outstanding again.
 pub fn taken_in(k: Sack, t: &mut [u32; 1024], from: Tsn) -> Took
-    ensures { λ r. ⌜ (r .newly ≡ takenIn k from (placesOf rail (now (t .entry))) .newly) × (r .highest ≡ takenIn k from (placesOf rail (now (t .entry))) .highest) ⌝ }
-    ensures { λ _. ⌜ now (t .exit) ≡ statesBy rail (hasStatus 0) (settled k) (now (t .entry)) ⌝ }
+    ensures { λ r. ⌜ (r .newly ≡ sackTakenIn k from (placesOf rail (now (t .entry))) .newly) × (r .highest ≡ sackTakenIn k from (placesOf rail (now (t .entry))) .highest) ⌝ }
+    ensures { λ _. ⌜ now (t .exit) ≡ statesBy rail (hasStatus 0) (placeSettled k) (now (t .entry)) ⌝ }
 {
     let mut newly: u32 = 0;
     let mut highest: u32 = 0;
@@ -104,8 +104,8 @@ pub fn missed_all(t: &mut [u32; 1024], from: Tsn, limit: u64) -> Missing
 
 // T3, and the flight that it leaves.
 pub fn marked_all(t: &mut [u32; 1024]) -> u32
-    ensures { λ r. ⌜ r ≡ total flightOf (map marked (placesOf rail (now (t .entry)))) ⌝ }
-    ensures { λ _. ⌜ now (t .exit) ≡ statesBy rail never marked (now (t .entry)) ⌝ }
+    ensures { λ r. ⌜ r ≡ total flightOf (map markedForResend (placesOf rail (now (t .entry)))) ⌝ }
+    ensures { λ _. ⌜ now (t .exit) ≡ statesBy rail never markedForResend (now (t .entry)) ⌝ }
 {
     let mut flight: u32 = 0;
     let mut i: usize = 0;

@@ -11,7 +11,7 @@ use Rattle.numbers.specs.Numbering.{ring, circles, on, far, key}
 use Rattle.numbers.specs.Profile.{rail}
 use Rattle.holding.specs.declared.held.Held.{Held}
 use Rattle.holding.specs.Held.{noHeld, holds}
-use Rattle.holding.specs.Message.{one, isOfOne, continues, follow, isLeftEnd, isDueAt, isExpected, opens, better, chosen}
+use Rattle.holding.specs.Message.{one, isOfOne, continues, follow, isLeftEnd, isDueAt, isExpected, opens, betterMessage, chosen}
 use Rattle.meaning.specs.Meant.{IsFirst, Stored, HeldOn}
 use Rattle.meaning.specs.Given.{AreaFits}
 use Rattle.meaning.specs.MeantLaws.{chosen-first}
@@ -31,25 +31,25 @@ part b e u t = record {
 }
 
 -- the last chunk of an ordered message, an unordered one of one chunk behind it, a free place, and the ordered one's first chunk
-abbrev pub places : List Held
-places = part false true false 0 ∷ part true true true 1 ∷ noHeld ∷ part true false false (2 ^ 32 - 1) ∷ []
+abbrev pub examplePlaces : List Held
+examplePlaces = part false true false 0 ∷ part true true true 1 ∷ noHeld ∷ part true false false (2 ^ 32 - 1) ∷ []
 
-pub stored : Stored rail places
-stored = record { places = omega arith; apart = (refl, (refl, (refl, tt))) }
+pub exampleStored : Stored rail examplePlaces
+exampleStored = record { places = omega arith; apart = (refl, (refl, (refl, tt))) }
 
-pub on-circle : HeldOn (ring (2 ^ 32)) places
+pub on-circle : HeldOn (ring (2 ^ 32)) examplePlaces
 on-circle = (λ u. omega arith, (λ u. omega arith, (λ u. omega arith, (λ u. omega arith, tt))))
 
-pub fits : AreaFits rail places (replicate 65536 9)
-fits = record {
+pub example-fits : AreaFits rail examplePlaces (replicate 65536 9)
+example-fits = record {
   enough = omega (arith, length-replicate {A = ℕ} 65536 9);
   fit = (λ u. omega arith, (λ u. omega arith, (λ u. omega arith, (λ u. omega arith, tt))));
 }
 
 -- the point is two before the end
-chosen-is : chosen circles rail places (ssn0 ∷ []) (2 ^ 32 - 2) ≡ one (2 ^ 31 + 1) (3 ∷ 0 ∷ [])
-unfolding chosen better opens isExpected isDueAt isLeftEnd follow continues isOfOne holds on far onCircle key
+chosen-is : chosen circles rail examplePlaces (ssn0 ∷ []) (2 ^ 32 - 2) ≡ one (2 ^ 31 + 1) (3 ∷ 0 ∷ [])
+unfolding chosen betterMessage opens isExpected isDueAt isLeftEnd follow continues isOfOne holds on far onCircle key
 chosen-is = refl
 
-pub first-is : IsFirst circles rail places (ssn0 ∷ []) (2 ^ 32 - 2) (3 ∷ 0 ∷ [])
-first-is = chosen-first circles rail places (ssn0 ∷ []) (2 ^ 32 - 2) stored (2 ^ 31 + 1) (3 ∷ 0 ∷ []) chosen-is
+pub first-is : IsFirst circles rail examplePlaces (ssn0 ∷ []) (2 ^ 32 - 2) (3 ∷ 0 ∷ [])
+first-is = chosen-first circles rail examplePlaces (ssn0 ∷ []) (2 ^ 32 - 2) exampleStored (2 ^ 31 + 1) (3 ∷ 0 ∷ []) chosen-is

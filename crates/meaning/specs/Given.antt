@@ -6,7 +6,7 @@ use mathlib.Core.List.{List, [], _∷_, _++_}
 use lib.ListN.{length, drop}
 use Rattle.numbers.specs.declared.circle.Ssn.{Ssn}
 use Rattle.numbers.specs.Numbering.{Numbering}
-use Rattle.numbers.specs.Profile.{Profile, placeAt}
+use Rattle.numbers.specs.Profile.{Profile, payloadStart}
 use Rattle.scans.specs.Each.{All}
 use Rattle.holding.specs.declared.held.Held.{Held}
 use Rattle.holding.specs.declared.taking.Answer.the-variants.{Taken}
@@ -33,5 +33,5 @@ pub record GivesMessage (S : Numbering) (P : Profile) (hs : List Held) (next : L
 
 -- what the laws need for the bytes: a lent area of as many bytes as the places have, "payload of a DATA chunk 1 to 512"
 pub record AreaFits (P : Profile) (hs : List Held) (area : List ℕ) : Type 0 where
-  pub enough : placeAt P (P .places) ≤ length area
+  pub enough : payloadStart P (P .places) ≤ length area
   pub fit : All (λ (h : Held). h .used ≡ true → h .len ≤ P .payload) hs

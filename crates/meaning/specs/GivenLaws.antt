@@ -12,7 +12,7 @@ use lib.ListN.{length, drop, getD, length-append, length-drop}
 use lib.Seq.{length-take-le}
 use Rattle.numbers.specs.declared.circle.Ssn.{Ssn}
 use Rattle.numbers.specs.Numbering.{Numberings}
-use Rattle.numbers.specs.Profile.{Profile, placeAt}
+use Rattle.numbers.specs.Profile.{Profile, payloadStart}
 use Rattle.octets.specs.Bytes.{laid}
 use Rattle.octets.specs.BytesLaws.{laid-nil, laid-more, laid-is}
 use Rattle.scans.specs.Each.{All, all-at, clash}
@@ -20,10 +20,10 @@ use Rattle.holding.specs.declared.held.Held.{Held}
 use Rattle.holding.specs.declared.taking.Answer.the-variants.{Short}
 use Rattle.holding.specs.Held.{noHeld}
 use Rattle.holding.specs.Message.{Choice, none, one, chosen}
-use Rattle.holding.specs.Taking.{numberOf, lenAt, lengthOf, payloadAt, copied, tookBy, took, writtenBy, written}
+use Rattle.holding.specs.Taking.{takeNumber, lenAt, lengthOf, payloadAt, copied, tookBy, took, writtenBy, written}
 use Rattle.meaning.specs.Meant.{CanBeTaken, IsFirst, Stored}
 use Rattle.meaning.specs.MeantLaws.{chosen-taken, chosen-first, chosen-none}
-use Rattle.meaning.specs.RunLaws.{held-within}
+use Rattle.meaning.specs.RunLaws.{used-within}
 use Rattle.meaning.specs.Given.{bytesOf, GivesMessage, AreaFits}
 
 -- ---- bytes
@@ -40,10 +40,10 @@ module _ (P : Profile) (hs : List Held) (area : List ℕ) where
 
   lent-lies : Stored P hs → AreaFits P hs area → (i : ℕ) → getD hs i noHeld .used ≡ true → Lies i
   lent-lies s w i u =
-      let l : i < length hs = held-within hs i u in
+      let l : i < length hs = used-within hs i u in
       let m : lenAt hs i ≤ P .payload = all-at (λ (h : Held). h .used ≡ true → h .len ≤ P .payload) hs i noHeld (λ q. clash q) (w .fit) u in
       let n : P .payload * suc i ≤ P .payload * P .places = mul-le-mul-left (P .payload) (omega (arith, s .places)) in
-      length-take-le (lenAt hs i) (drop (placeAt P i) area) (omega (arith, length-drop (placeAt P i) area, mul-suc (P .payload) i, w .enough))
+      length-take-le (lenAt hs i) (drop (payloadStart P i) area) (omega (arith, length-drop (payloadStart P i) area, mul-suc (P .payload) i, w .enough))
 
   bytes-long : (is : List ℕ) → All Lies is → length (bytesOf P area hs is) ≡ lengthOf hs is
   bytes-long [] w = refl
@@ -73,7 +73,7 @@ module _ (P : Profile) (hs : List Held) (area : List ℕ) where
 module _ (N : Numberings) (P : Profile) (hs : List Held) (next : List Ssn) (point : ℕ) (area out : List ℕ) (stored : Stored P hs) where
   -- the answer's number
   abbrev answered : ℕ
-  answered = numberOf (took N P hs next point (length out) .answer)
+  answered = takeNumber (took N P hs next point (length out) .answer)
 
   -- a message is given, and it is the first of those that can be taken
   pub took-gives : AreaFits P hs area → answered ≡ 0
@@ -81,7 +81,7 @@ module _ (N : Numberings) (P : Profile) (hs : List Held) (next : List Ssn) (poin
   unfolding took written
   took-gives lent e = go (chosen N P hs next point) refl e
     where
-      go : (c : Choice) → chosen N P hs next point ≡ c → numberOf (tookBy (N .ssn) hs next (length out) c .answer) ≡ 0
+      go : (c : Choice) → chosen N P hs next point ≡ c → takeNumber (tookBy (N .ssn) hs next (length out) c .answer) ≡ 0
           → (is : List ℕ) × IsFirst N P hs next point is × GivesMessage (N .ssn) P hs next area out is (tookBy (N .ssn) hs next (length out) c) (writtenBy P hs area out c)
       go none q e = absurd (omega arith)
       go (one l []) q e = absurd (omega (arith, chosen-taken N P hs next point l [] q .0 .message .some))
@@ -93,7 +93,7 @@ module _ (N : Numberings) (P : Profile) (hs : List Held) (next : List Ssn) (poin
           lies : All (Lies P hs area) (i ∷ is)
           lies = each-place (Lies P hs area) (i ∷ is) (λ k m. lent-lies P hs area stored lent (getD (i ∷ is) k 0) (f .ready .message .held k m))
 
-          side : Dec (length out < lengthOf hs (i ∷ is)) → numberOf (tookBy (N .ssn) hs next (length out) (one l (i ∷ is)) .answer) ≡ 0
+          side : Dec (length out < lengthOf hs (i ∷ is)) → takeNumber (tookBy (N .ssn) hs next (length out) (one l (i ∷ is)) .answer) ≡ 0
               → (js : List ℕ) × IsFirst N P hs next point js × GivesMessage (N .ssn) P hs next area out js (tookBy (N .ssn) hs next (length out) (one l (i ∷ is))) (writtenBy P hs area out (one l (i ∷ is)))
           side (yes m) e = absurd (omega (arith, rw (lt-ltb (length out) (lengthOf hs (i ∷ is)) m) at e))
           side (no m) e =
@@ -116,7 +116,7 @@ module _ (N : Numberings) (P : Profile) (hs : List Held) (next : List Ssn) (poin
   unfolding took
   took-nothing e = go (chosen N P hs next point) refl e
     where
-      go : (c : Choice) → chosen N P hs next point ≡ c → numberOf (tookBy (N .ssn) hs next (length out) c .answer) ≡ 17 → (js : List ℕ) → CanBeTaken N P hs next js → ⊥
+      go : (c : Choice) → chosen N P hs next point ≡ c → takeNumber (tookBy (N .ssn) hs next (length out) c .answer) ≡ 17 → (js : List ℕ) → CanBeTaken N P hs next js → ⊥
       go none q e = chosen-none N P hs next point stored q
       go (one l is) q e = side (decLt (length out) (lengthOf hs is))
         where
@@ -129,7 +129,7 @@ module _ (N : Numberings) (P : Profile) (hs : List Held) (next : List Ssn) (poin
   unfolding took
   nothing-took f = go (chosen N P hs next point) refl
     where
-      go : (c : Choice) → chosen N P hs next point ≡ c → numberOf (tookBy (N .ssn) hs next (length out) c .answer) ≡ 17
+      go : (c : Choice) → chosen N P hs next point ≡ c → takeNumber (tookBy (N .ssn) hs next (length out) c .answer) ≡ 17
       go none q = refl
       go (one l is) q = absurd (f is (chosen-taken N P hs next point l is q .0))
 
@@ -139,12 +139,12 @@ module _ (N : Numberings) (P : Profile) (hs : List Held) (next : List Ssn) (poin
   unfolding took
   took-short e = go (chosen N P hs next point) refl e
     where
-      go : (c : Choice) → chosen N P hs next point ≡ c → numberOf (tookBy (N .ssn) hs next (length out) c .answer) ≡ 18
+      go : (c : Choice) → chosen N P hs next point ≡ c → takeNumber (tookBy (N .ssn) hs next (length out) c .answer) ≡ 18
           → (is : List ℕ) × IsFirst N P hs next point is × (length out < lengthOf hs is) × (tookBy (N .ssn) hs next (length out) c .answer ≡ Short (lengthOf hs is))
       go none q e = absurd (omega arith)
       go (one l is) q e = side (decLt (length out) (lengthOf hs is)) e
         where
-          side : Dec (length out < lengthOf hs is) → numberOf (tookBy (N .ssn) hs next (length out) (one l is) .answer) ≡ 18
+          side : Dec (length out < lengthOf hs is) → takeNumber (tookBy (N .ssn) hs next (length out) (one l is) .answer) ≡ 18
               → (js : List ℕ) × IsFirst N P hs next point js × (length out < lengthOf hs js) × (tookBy (N .ssn) hs next (length out) (one l is) .answer ≡ Short (lengthOf hs js))
           side (yes m) e = (is, chosen-first N P hs next point stored l is q, m, rw (lt-ltb (length out) (lengthOf hs is) m))
           side (no m) e = let n : lengthOf hs is ≤ length out = omega arith in absurd (omega (arith, rw (le-ltb (length out) (lengthOf hs is) n) at e))

@@ -11,8 +11,8 @@ use Rattle.numbers.specs.declared.circle.Ssn.{Ssn}
 use Rattle.numbers.specs.Circle.{ssn0}
 use Rattle.numbers.specs.Numbering.{Numbering, Numberings, on, key}
 use Rattle.numbers.specs.Profile.{Profile}
-use Rattle.numbers.specs.KeepingRoom.{numbersOf, Distinct}
-use Rattle.numbers.specs.Reach.{On}
+use Rattle.numbers.specs.KeepingRoomLaws.{numbersOf, Distinct}
+use Rattle.numbers.specs.ReachLaws.{On}
 use Rattle.scans.specs.Each.{All}
 use Rattle.holding.specs.declared.held.Held.{Held}
 use Rattle.holding.specs.Held.{noHeld}

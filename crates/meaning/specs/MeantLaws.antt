@@ -14,14 +14,14 @@ use Rattle.numbers.specs.declared.circle.Ssn.{Ssn}
 use Rattle.numbers.specs.Circle.{ssn0, along}
 use Rattle.numbers.specs.Numbering.{Numbering, Numberings, ring, line, key}
 use Rattle.numbers.specs.Profile.{Profile}
-use Rattle.numbers.specs.Reach.{On}
+use Rattle.numbers.specs.ReachLaws.{On}
 use Rattle.scans.specs.Scan.{pick, tick, count}
 use Rattle.scans.specs.Each.{all-at, clash, after-so}
 use Rattle.holding.specs.declared.held.Held.{Held}
 use Rattle.holding.specs.Held.{noHeld, holds-is}
 use Rattle.holding.specs.Message.{Run, broken, whole, follow, isLeftEnd, isExpected, opens, Choice, none, one, isOne, chosen, isDueAt}
 use Rattle.holding.specs.TakeOrder.{keyAt, inTakeOrder, opened, orElse, firstReady, firstInOrder}
-use Rattle.holding.specs.TakeOrderLaws.{Rising, in-take-order-rising, in-take-order-count, chosen-in-order}
+use Rattle.holding.specs.TakeOrderLaws.{KeysRising, in-take-order-rising, in-take-order-count, chosen-in-order}
 use Rattle.meaning.specs.Meant.{IsNext, CanBeTaken, orderOf, IsFirst, Stored, HeldOn}
 use Rattle.meaning.specs.RunLaws.{stored-once, same-place, found-message, message-begins, message-found}
 
@@ -52,7 +52,7 @@ module _ (k : ℕ → ℕ) (ready : ℕ → Run) where
           (j, sym a, q ∙ ap whole b)
 
   -- one that stands in the order has no smaller key than what the order begins at
-  rising-among : (m : ℕ) (js : List ℕ) → Rising k m js → (j : ℕ) → 1 ≤ count (eqb j) js → m ≤ k j
+  rising-among : (m : ℕ) (js : List ℕ) → KeysRising k m js → (j : ℕ) → 1 ≤ count (eqb j) js → m ≤ k j
   rising-among m [] s j c = absurd (omega arith)
   rising-among m (i ∷ js) s j c = go (ℕ-discrete j i) (rising-among (k i) js (s .1) j)
     where
@@ -60,7 +60,7 @@ module _ (k : ℕ → ℕ) (ready : ℕ → Run) where
       go (yes e) ih = omega (arith, s .0, ap k e)
       go (no e) ih = let d : 1 ≤ count (eqb j) js = rw (ne-eqb j i e) at c in omega (arith, s .0, ih d)
 
-  first-least : (m : ℕ) (js : List ℕ) → Rising k m js → (j : ℕ) → 1 ≤ count (eqb j) js → (is : List ℕ) → ready j ≡ whole is → AtMost (k j) (firstReady k ready js)
+  first-least : (m : ℕ) (js : List ℕ) → KeysRising k m js → (j : ℕ) → 1 ≤ count (eqb j) js → (is : List ℕ) → ready j ≡ whole is → AtMost (k j) (firstReady k ready js)
   first-least m [] s j c is w = absurd (omega arith)
   first-least m (i ∷ js) s j c is w = go (ready i) refl (λ d. first-least (k i) js (s .1) j d is w) (ℕ-discrete j i)
     where

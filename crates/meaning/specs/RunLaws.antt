@@ -13,11 +13,11 @@ use mir.Val.{boolByte as bit}
 use Rattle.scans.specs.declared.Found.{Found}
 use Rattle.scans.specs.declared.Found.the-variants.{At, Nothing}
 use Rattle.scans.specs.Scan.{pick, count, findFrom}
-use Rattle.scans.specs.Counts.{count-most, count-set, count-at}
+use Rattle.scans.specs.CountsLaws.{count-most, count-set, count-at}
 use Rattle.scans.specs.Each.{All, clash, after-so, after-not, found-at}
 use Rattle.numbers.specs.Numbering.{Numbering, on}
 use Rattle.numbers.specs.Profile.{Profile}
-use Rattle.numbers.specs.KeepingRoom.{numbersOf, count-numbers, distinct-once}
+use Rattle.numbers.specs.KeepingRoomLaws.{numbersOf, count-numbers, distinct-once}
 use Rattle.holding.specs.declared.held.Held.{Held}
 use Rattle.holding.specs.Held.{noHeld, holds, holds-is, holds-unused, is-held, count-holds}
 use Rattle.holding.specs.Message.{Run, broken, whole, led, onward, isOfOne, continues, follow, isLeftEnd}
@@ -124,17 +124,17 @@ Apart (i ∷ is) = Missing i is × Apart is
 abbrev isUsed : Held → Bool
 isUsed h = h .used
 
-pub held-within : (hs : List Held) (i : ℕ) → getD hs i noHeld .used ≡ true → i < length hs
-held-within [] i e = clash e
-held-within (x ∷ hs) zero e = omega arith
-held-within (x ∷ hs) (suc i) e = omega (arith, held-within hs i e)
+pub used-within : (hs : List Held) (i : ℕ) → getD hs i noHeld .used ≡ true → i < length hs
+used-within [] i e = clash e
+used-within (x ∷ hs) zero e = omega arith
+used-within (x ∷ hs) (suc i) e = omega (arith, used-within hs i e)
 
 -- as many places as are used
 apart-room : (hs : List Held) (is : List ℕ) → All (λ (i : ℕ). getD hs i noHeld .used ≡ true) is → Apart is → length is ≤ count isUsed hs
 apart-room hs [] w a = omega arith
 apart-room hs (i ∷ is) w a =
     let s : count isUsed (set hs i noHeld) + 1 ≡ count isUsed hs + 0
-    = subst (λ (b : Bool). count isUsed (set hs i noHeld) + bit b ≡ count isUsed hs + 0) (w .0) (count-set isUsed noHeld hs i noHeld (held-within hs i (w .0))) in
+    = subst (λ (b : Bool). count isUsed (set hs i noHeld) + bit b ≡ count isUsed hs + 0) (w .0) (count-set isUsed noHeld hs i noHeld (used-within hs i (w .0))) in
     omega (arith, apart-room (set hs i noHeld) is (others is (a .0) (w .1)) (a .1))
   where
     others : (js : List ℕ) → Missing i js → All (λ (j : ℕ). getD hs j noHeld .used ≡ true) js → All (λ (j : ℕ). getD (set hs i noHeld) j noHeld .used ≡ true) js
@@ -149,7 +149,7 @@ stored-once P hs s t =
 -- so a number has one place
 pub same-place : (hs : List Held) → ((t : ℕ) → count (holds t) hs ≤ 1) → (t i j : ℕ) → holds t (getD hs i noHeld) ≡ true → holds t (getD hs j noHeld) ≡ true → i ≡ j
 same-place hs once t i j a b =
-    one-place (holds t) noHeld hs (holds-unused t noHeld refl) (once t) i j (held-within hs i (is-held t (getD hs i noHeld) a .0)) (held-within hs j (is-held t (getD hs j noHeld) b .0)) a b
+    one-place (holds t) noHeld hs (holds-unused t noHeld refl) (once t) i j (used-within hs i (is-held t (getD hs i noHeld) a .0)) (used-within hs j (is-held t (getD hs j noHeld) b .0)) a b
 
 -- ---- a run, from its first place on
 
@@ -291,7 +291,7 @@ module _ (T : Numbering) (hs : List Held) where
         find-only (continues first t) noHeld hs 0 j here (is-continues first t (at j) c) only ∙ ap At (omega arith)
       where
         here : j < length hs
-        here = held-within hs j (c .held)
+        here = used-within hs j (c .held)
 
         only : (k : ℕ) → k < length hs → continues first t (at k) ≡ true → k ≡ j
         only k l e =

@@ -1,3 +1,4 @@
 -- A message handed in over head and lent tables.
-pub mod Messages
-pub mod MessagesLaws
+-- To read: MessageWords. The rest are laws.
+pub mod MessageWords
+pub mod MessageWordsLaws

@@ -13,12 +13,12 @@ ghost use mathlib.Core.Path.{_≡_};
 ghost use Prim.Native.Nat.{_≤_, _<_, _*_};
 ghost use lib.ListN.{length};
 ghost use Rattle.scans.specs.Scan.{count};
-ghost use Rattle.numbers.specs.Profile.{rail, placeAt};
+ghost use Rattle.numbers.specs.Profile.{rail, payloadStart};
 ghost use Rattle.octets.specs.Bytes.{laid};
 ghost use Rattle.places.specs.Places.{hasStatus};
 ghost use Rattle.sending.specs.HandIn.{chunksOf, partLen, partOf, chunkAt, waitingAt, storedIn};
-ghost use Rattle.tables.specs.Place.{placesOf};
-ghost use Rattle.messages.specs.Messages.{laidWords, handing, handedWords, handedArea};
+ghost use Rattle.tables.specs.PlaceWords.{placesOf};
+ghost use Rattle.messages.specs.MessageWords.{laidWords, handing, handedWords, handedArea};
 
 // The number, 0 if none; how many chunks were cut.
 pub struct Handing {
@@ -74,7 +74,7 @@ fn waiting_at(m: Message, n: usize, k: usize) -> Place
 // The payload of chunk k into the bytes of place i.
 fn store(area: &mut [u8], message: &[u8], i: usize, k: usize)
     requires { ⌜ (i < 128) × (k < 128) ⌝ }
-    ensures { λ _. ⌜ now (area .exit) ≡ laid (now (area .entry)) (placeAt rail i) (partOf rail (now (message .entry)) k) ⌝ }
+    ensures { λ _. ⌜ now (area .exit) ≡ laid (now (area .entry)) (payloadStart rail i) (partOf rail (now (message .entry)) k) ⌝ }
 {
     let part = octets::bytes::part(message, Rail::PAYLOAD * k, Rail::PAYLOAD);
     octets::bytes::put_all(area, Rail::PAYLOAD * i, part);

@@ -4,13 +4,13 @@ use mathlib.Core.Bool.{Bool}
 use lib.ListN.{replicate}
 use Rattle.numbers.specs.declared.circle.Tsn.{Tsn}
 use Rattle.numbers.specs.declared.circle.StreamId.{StreamId}
-use Rattle.numbers.specs.Profile.{rail}
+use Rattle.numbers.specs.Profile.{rail, placeWordCount}
 use Rattle.path.specs.Sizes.{railSizes, sizesOf}
 use Rattle.places.specs.declared.sack.Sack.{Sack}
 use Rattle.sending.specs.declared.sending.Sending.{Sending}
-use Rattle.sending.specs.Sending.{fresh}
-use Rattle.sender.specs.Seen.{seen, headOf}
-use Rattle.messages.specs.Messages.{handing, handedWords}
+use Rattle.sending.specs.Sending.{freshSending}
+use Rattle.sender.specs.Seen.{sendingShown, senderHead}
+use Rattle.messages.specs.MessageWords.{handing, handedWords}
 use Rattle.acks.specs.Acks.{ackedHead, ackedWords, shutHead, shutWords, expiredHead, expiredWords}
 use Rattle.choice.specs.Fill.{Fill, filledIn}
 use Rattle.outgoing.specs.declared.Outgoing.{Outgoing}
@@ -20,11 +20,11 @@ use Rattle.outgoing.specs.declared.Answered.{Answered}
 use Rattle.outgoing.specs.declared.Packet.{Packet}
 
 -- what it shows
-abbrev pub shown : Outgoing → Sending
-shown r = seen rail (r .head) (r .places) (r .next)
+abbrev pub outgoingShown : Outgoing → Sending
+outgoingShown r = sendingShown rail (r .head) (r .places) (r .next)
 
-abbrev pub begun : Tsn → ℕ → ℕ → Outgoing
-begun t window mode = record { head = headOf (fresh (sizesOf mode) rail t window mode); places = replicate 1024 0; next = replicate 128 0 }
+abbrev pub outgoingBegun : Tsn → ℕ → ℕ → Outgoing
+outgoingBegun t window mode = record { head = senderHead (freshSending (sizesOf mode) rail t window mode); places = replicate (placeWordCount rail) 0; next = replicate (rail .streams) 0 }
 
 abbrev pub handedTo : Outgoing → ℕ → StreamId → Bool → ℕ → ℕ → HandedIn
 handedTo r len stream unordered ppid streams = record {
@@ -33,8 +33,8 @@ handedTo r len stream unordered ppid streams = record {
   outgoing = record { head = r .head; places = handedWords rail (r .head) (r .places) len stream unordered ppid streams; next = r .next };
 }
 
-abbrev pub answeredBy : Outgoing → Sack → Answered
-answeredBy r k = record {
+abbrev pub outgoingAnswered : Outgoing → Sack → Answered
+outgoingAnswered r k = record {
   number = ackedHead (sizesOf (r .head .mode)) rail (r .head) (r .places) k .number;
   outgoing = record { head = ackedHead (sizesOf (r .head .mode)) rail (r .head) (r .places) k .head; places = ackedWords rail (r .head) (r .places) k; next = r .next };
 }

@@ -11,13 +11,13 @@ ghost use Rattle.numbers.specs.Profile.{rail};
 ghost use Rattle.sending.specs.declared.acknowledging.Answer.{Answer};
 ghost use Rattle.sending.specs.declared.cutting.Handed.{Handed};
 ghost use Rattle.sending.specs.declared.expiring.Expiry.{Expiry};
-ghost use Rattle.sending.specs.Sending.{fresh};
-ghost use Rattle.sending.specs.HandIn.{handedIn, areaAfter};
-ghost use Rattle.sending.specs.Acknowledge.{sackOf, acknowledged, shutdownPoint};
-ghost use Rattle.sending.specs.Expiry.{expired};
-ghost use Rattle.sending.specs.Choose.{filled};
-ghost use Rattle.sending.specs.ChooseParts.{loadedBy};
-ghost use Rattle.outgoing.specs.Outgoing.{shown, begun, handedTo, answeredBy, shutBy, expiredIn, packetOf};
+ghost use Rattle.sending.specs.Sending.{freshSending};
+ghost use Rattle.sending.specs.HandIn.{handedIn, handedInArea};
+ghost use Rattle.sending.specs.Acknowledge.{wholeSack, acknowledgedSending, shutdownPoint};
+ghost use Rattle.sending.specs.Expiry.{sendingExpired};
+ghost use Rattle.sending.specs.Choose.{packetFilled};
+ghost use Rattle.sending.specs.ChoosePartsLaws.{loadedBy};
+ghost use Rattle.outgoing.specs.Outgoing.{outgoingShown, outgoingBegun, handedTo, outgoingAnswered, shutBy, expiredIn, packetOf};
 
 // Head, places and next SSNs.
 pub struct Outgoing {
@@ -55,7 +55,7 @@ pub struct Packet {
 impl Outgoing {
     // Nothing waits, and nothing was sent from `start` on.
     pub fn fresh(start: Tsn, advertised: u32, mode: u8) -> Outgoing
-        ensures { λ r. ⌜ (r ≡ begun start advertised mode) × (shown r ≡ fresh (sizesOf mode) rail start advertised mode) ⌝ }
+        ensures { λ r. ⌜ (r ≡ outgoingBegun start advertised mode) × (outgoingShown r ≡ freshSending (sizesOf mode) rail start advertised mode) ⌝ }
     {
         let head = Sender::fresh(start, advertised, mode);
         Outgoing {
@@ -77,8 +77,8 @@ pub fn hand_in(
     streams: u16,
 ) -> HandedIn
     ensures { λ o. ⌜ (o ≡ handedTo r (length (now (message .entry))) stream unordered ppid streams)
-        × (_≡_ {A = Handed} (record { number = o .number; chunks = o .chunks; sending = shown (o .outgoing) }) (handedIn rail (shown r) (length (now (message .entry))) stream unordered ppid streams))
-        × (now (area .exit) ≡ areaAfter rail (shown r) (now (area .entry)) (now (message .entry)) stream streams) ⌝ }
+        × (_≡_ {A = Handed} (record { number = o .number; chunks = o .chunks; sending = outgoingShown (o .outgoing) }) (handedIn rail (outgoingShown r) (length (now (message .entry))) stream unordered ppid streams))
+        × (now (area .exit) ≡ handedInArea rail (outgoingShown r) (now (area .entry)) (now (message .entry)) stream streams) ⌝ }
 {
     let h = r.head;
     let a = messages::hand_in(
@@ -100,7 +100,7 @@ pub fn hand_in(
 
 // A SACK.
 pub fn acknowledge(mut r: Outgoing, point: Tsn, window: u32, blocks: Blocks) -> Answered
-    ensures { λ o. ⌜ (o ≡ answeredBy r (sackOf point window blocks)) × (_≡_ {A = Answer} (record { number = o .number; sending = shown (o .outgoing) }) (acknowledged (sizesOf (r .head .mode)) (shown r) (sackOf point window blocks))) ⌝ }
+    ensures { λ o. ⌜ (o ≡ outgoingAnswered r (wholeSack point window blocks)) × (_≡_ {A = Answer} (record { number = o .number; sending = outgoingShown (o .outgoing) }) (acknowledgedSending (sizesOf (r .head .mode)) (outgoingShown r) (wholeSack point window blocks))) ⌝ }
 {
     let h = r.head;
     let a = acks::acknowledge(h, &mut r.places, point, window, blocks);
@@ -114,7 +114,7 @@ pub fn acknowledge(mut r: Outgoing, point: Tsn, window: u32, blocks: Blocks) -> 
 
 // A SHUTDOWN's point.
 pub fn shutdown_point(mut r: Outgoing, point: Tsn) -> Answered
-    ensures { λ o. ⌜ (o ≡ shutBy r point) × (_≡_ {A = Answer} (record { number = o .number; sending = shown (o .outgoing) }) (shutdownPoint (sizesOf (r .head .mode)) (shown r) point)) ⌝ }
+    ensures { λ o. ⌜ (o ≡ shutBy r point) × (_≡_ {A = Answer} (record { number = o .number; sending = outgoingShown (o .outgoing) }) (shutdownPoint (sizesOf (r .head .mode)) (outgoingShown r) point)) ⌝ }
 {
     let h = r.head;
     let a = acks::shutdown_point(h, &mut r.places, point);
@@ -128,7 +128,7 @@ pub fn shutdown_point(mut r: Outgoing, point: Tsn) -> Answered
 
 // T3 expires.
 pub fn t3(mut r: Outgoing) -> Expired
-    ensures { λ o. ⌜ (o ≡ expiredIn r) × (_≡_ {A = Expiry} (record { number = o .number; over = o .over; sending = shown (o .outgoing) }) (expired (sizesOf (r .head .mode)) (shown r))) ⌝ }
+    ensures { λ o. ⌜ (o ≡ expiredIn r) × (_≡_ {A = Expiry} (record { number = o .number; over = o .over; sending = outgoingShown (o .outgoing) }) (sendingExpired (sizesOf (r .head .mode)) (outgoingShown r))) ⌝ }
 {
     let h = r.head;
     let e = acks::t3(h, &mut r.places);
@@ -143,7 +143,7 @@ pub fn t3(mut r: Outgoing) -> Expired
 
 // What goes into the next packet. Two tables of one record cannot be lent at once: the smaller goes by a local.
 pub fn choose(mut r: Outgoing) -> Packet
-    ensures { λ o. ⌜ (o ≡ packetOf r) × (loadedBy (shown (o .outgoing)) (o .load) ≡ filled railSizes rail (shown r)) ⌝ }
+    ensures { λ o. ⌜ (o ≡ packetOf r) × (loadedBy (outgoingShown (o .outgoing)) (o .load) ≡ packetFilled railSizes rail (outgoingShown r)) ⌝ }
 {
     let h = r.head;
     let mut next = r.next;

@@ -50,14 +50,14 @@ unfoldable pub rowsAt : List ℕ → ℕ → List ℕ → ℕ
 rowsAt should at s = foldFrom (spacedAt should) at 0 s
 
 -- the bytes of a packet that are shown, of a longer one its first
-abbrev pub shown : ℕ
-shown = 160
+abbrev pub pageShown : ℕ
+pageShown = 160
 
 -- of a longer one then " .. of " and its length
 unfoldable pub packetAt : List ℕ → ℕ → List ℕ → ℕ
 packetAt should at s =
-    pick (leb (length s) shown) (rowsAt should at s)
-    (saidAt should (saidAt should (rowsAt should at (take shown s)) (32 ∷ 46 ∷ 46 ∷ 32 ∷ 111 ∷ 102 ∷ 32 ∷ [])) (decimalOf (length s)))
+    pick (leb (length s) pageShown) (rowsAt should at s)
+    (saidAt should (saidAt should (rowsAt should at (take pageShown s)) (32 ∷ 46 ∷ 46 ∷ 32 ∷ 111 ∷ 102 ∷ 32 ∷ [])) (decimalOf (length s)))
 
 -- a number of document 01 behind "no ", or "ok"
 unfoldable pub answerAt : List ℕ → ℕ → ℕ → ℕ

@@ -36,8 +36,8 @@ betweenOf s from to = take (to - from) (drop from s)
 unfoldable pub lineAt : List ℕ → ℕ → List ℕ
 lineAt s at = betweenOf s at (findIn s at 10)
 
-unfoldable pub lineAfter : List ℕ → ℕ → ℕ
-lineAfter s at =
+unfoldable pub textLineAfter : List ℕ → ℕ → ℕ
+textLineAfter s at =
     pick (ltb at (findIn s at 10)) (pick (ltb (findIn s at 10) (length s)) (findIn s at 10 + 1) (findIn s at 10))
     (pick (ltb at (length s)) (at + 1) at)
 
@@ -73,8 +73,8 @@ pastWords zero s = s
 pastWords (suc k) s = pastWords k (restOf s)
 
 -- the word behind k others, or behind 7 where k is more
-unfoldable pub wordOf : List ℕ → ℕ → List ℕ
-wordOf s k = firstOf (pastWords (pick (ltb k 7) k 7) s)
+unfoldable pub textWordOf : List ℕ → ℕ → List ℕ
+textWordOf s k = firstOf (pastWords (pick (ltb k 7) k 7) s)
 
 -- ---- numbers
 
@@ -86,20 +86,20 @@ digitOf b = pick (ltb b 48) 16 (pick (ltb b 58) (b - 48) (pick (ltb b 97) 16 (pi
 unfoldable pub grownBy : ℕ → Bool → ℕ → ℕ
 grownBy n hex d = pick (ltb 4294967295 n) n (pick (ltb 15 d) n (pick hex (n * 16 + d) (n * 10 + d)))
 
-abbrev pub valueIn : Bool → ℕ → List ℕ → ℕ
-valueIn hex n [] = n
-valueIn hex n (x ∷ xs) = valueIn hex (grownBy n hex (digitOf x)) xs
+abbrev pub textValueIn : Bool → ℕ → List ℕ → ℕ
+textValueIn hex n [] = n
+textValueIn hex n (x ∷ xs) = textValueIn hex (grownBy n hex (digitOf x)) xs
 
 -- the number that a word is: with an x (120) before it in base 16, else in base 10
 unfoldable pub numberOf : List ℕ → ℕ
-numberOf w = pick (eqb (getD w 0 0) 120) (valueIn true 0 (drop 1 w)) (valueIn false 0 (drop 0 w))
+numberOf w = pick (eqb (getD w 0 0) 120) (textValueIn true 0 (drop 1 w)) (textValueIn false 0 (drop 0 w))
 
-unfoldable pub valueOf : List ℕ → ℕ → ℕ
-valueOf s k = numberOf (wordOf s k)
+unfoldable pub textValueOf : List ℕ → ℕ → ℕ
+textValueOf s k = numberOf (textWordOf s k)
 
 -- the same where it is below `limit`, else 0
 unfoldable pub valueBelow : ℕ → List ℕ → ℕ → ℕ
-valueBelow limit s k = pick (ltb (valueOf s k) limit) (valueOf s k) 0
+valueBelow limit s k = pick (ltb (textValueOf s k) limit) (textValueOf s k) 0
 
 -- ---- bytes
 

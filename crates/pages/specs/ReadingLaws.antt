@@ -7,7 +7,7 @@ use native.Mathlib.Omega.{arith}
 use lib.ListN.{length, drop, getD}
 use lib.Dec.{eqb, ltb}
 use Rattle.scans.specs.Scan.{pick, left-one, left-none}
-use Rattle.pages.specs.Reading.{plusOf, seekFrom, sought, valueIn, grownBy, digitOf, Spelling, spelt, signPut, speltAt}
+use Rattle.pages.specs.Reading.{plusOf, seekFrom, sought, textValueIn, grownBy, digitOf, Spelling, spelt, signPut, speltAt}
 
 -- ---- a search
 
@@ -33,14 +33,14 @@ module _ {is : Bool} {s : List ℕ} {from c i : ℕ} (w : Searching is s from c 
 
 -- n so far, of the digits before place i
 pub record Valuing (hex : Bool) (s : List ℕ) (from n i : ℕ) : Type 0 where
-  pub rest : valueIn hex n (drop i s) ≡ valueIn hex 0 (drop from s)
+  pub rest : textValueIn hex n (drop i s) ≡ textValueIn hex 0 (drop from s)
 
 module _ {hex : Bool} {s : List ℕ} {from n i : ℕ} (w : Valuing hex s from n i) where
   pub value-more : {m : ℕ} → i < length s → m ≡ grownBy n hex (digitOf (getD s i 0)) → Valuing hex s from m (i + 1)
-  value-more h e = record { rest = rw e (left-one (valueIn hex n) s i (w .rest) 0 h) }
+  value-more h e = record { rest = rw e (left-one (textValueIn hex n) s i (w .rest) 0 h) }
 
-  pub value-end : length s ≤ i → n ≡ valueIn hex 0 (drop from s)
-  value-end h = left-none (valueIn hex n) s i (w .rest) h
+  pub value-end : length s ≤ i → n ≡ textValueIn hex 0 (drop from s)
+  value-end h = left-none (textValueIn hex n) s i (w .rest) h
 
 -- ---- bytes that are spelt
 

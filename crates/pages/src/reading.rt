@@ -10,7 +10,7 @@ ghost use mathlib.Core.Bool.{true, false};
 ghost use lib.Dec.{eqb, ltb};
 ghost use lib.ListN.{length, drop, getD};
 ghost use Rattle.scans.specs.Scan.{pick};
-ghost use Rattle.pages.specs.Reading.{sought, findIn, pastIn, betweenOf, lineAt, lineAfter, isHeading, deedOf, shouldOf, firstOf, restOf, pastWords, wordOf, digitOf, grownBy, valueIn, valueOf, valueBelow, highOf, joinedOf, halfPut, signPut, speltAt};
+ghost use Rattle.pages.specs.Reading.{sought, findIn, pastIn, betweenOf, lineAt, textLineAfter, isHeading, deedOf, shouldOf, firstOf, restOf, pastWords, textWordOf, digitOf, grownBy, textValueIn, textValueOf, valueBelow, highOf, joinedOf, halfPut, signPut, speltAt};
 
 const NEW_LINE: u8 = 10;
 
@@ -77,7 +77,7 @@ pub fn line_at(s: &[u8], at: usize) -> &[u8]
 
 // Where the line after it begins, or the end: farther on, so that a script ends.
 pub fn line_after(s: &[u8], at: usize) -> usize
-    ensures { λ r. ⌜ (r ≡ lineAfter (now (s .entry)) at) × (at < length (now (s .entry)) → at < r) ⌝ }
+    ensures { λ r. ⌜ (r ≡ textLineAfter (now (s .entry)) at) × (at < length (now (s .entry)) → at < r) ⌝ }
 {
     let end = find(s, at, NEW_LINE);
     if at < end {
@@ -163,7 +163,7 @@ fn past_words(s: &[u8], k: usize) -> &[u8]
 }
 
 pub fn word(s: &[u8], k: usize) -> &[u8]
-    ensures { λ r. ⌜ now r ≡ wordOf (now (s .entry)) k ⌝ }
+    ensures { λ r. ⌜ now r ≡ textWordOf (now (s .entry)) k ⌝ }
 {
     first(past_words(s, k))
 }
@@ -203,7 +203,7 @@ fn grown(n: u64, hex: bool, d: u8) -> u64
 }
 
 fn value_of(s: &[u8], from: usize, hex: bool) -> u64
-    ensures { λ r. ⌜ r ≡ valueIn hex 0 (drop from (now (s .entry))) ⌝ }
+    ensures { λ r. ⌜ r ≡ textValueIn hex 0 (drop from (now (s .entry))) ⌝ }
 {
     let mut n: u64 = 0;
     let mut i = from;
@@ -216,7 +216,7 @@ fn value_of(s: &[u8], from: usize, hex: bool) -> u64
 
 // The number that the word behind k others is: with an x before it in base 16, else in base 10.
 pub fn value(s: &[u8], k: usize) -> u64
-    ensures { λ r. ⌜ r ≡ valueOf (now (s .entry)) k ⌝ }
+    ensures { λ r. ⌜ r ≡ textValueOf (now (s .entry)) k ⌝ }
 {
     let w = word(s, k);
     if get8(w, 0) == 120 {

@@ -12,22 +12,22 @@ use Rattle.scans.specs.Scan.{pick, any, total, count}
 use Rattle.scans.specs.Upto.{larger, largest}
 use Rattle.places.specs.declared.place.Place.{Place}
 use Rattle.places.specs.declared.sack.Sack.{Sack}
-use Rattle.places.specs.Places.{being, hasStatus, flightOf, payloadOf, lastOf, isOutstanding, isSent, offsetOf, isEmpty, tallied, marked, gets, reaches, missed, missedAll}
-use Rattle.places.specs.Blocks.{isBlocked}
-use Rattle.places.specs.Sack.{settled, isNewly, newlyBytes, newlyOffset, takenIn}
-use Rattle.places.specs.Laws.{unsent, flight-other, settled-unsent}
+use Rattle.places.specs.Places.{being, hasStatus, flightOf, windowPayload, outstandingOffset, isOutstanding, isSent, placeOffset, isEmpty, tallied, markedForResend, gets, reachesThree, missed, missedAll}
+use Rattle.places.specs.SackBlocks.{isBlocked}
+use Rattle.places.specs.Sack.{placeSettled, isNewly, newlyBytes, newlyOffset, sackTakenIn}
+use Rattle.places.specs.PlacesLaws.{unsent, flight-other, settled-unsent}
 
 -- ---- as sums
 
-pub taken-newly : (k : Sack) (from : Tsn) (ps : List Place) → takenIn k from ps .newly ≡ total (λ p. newlyBytes p (settled k p)) ps
-unfolding takenIn
+pub taken-newly : (k : Sack) (from : Tsn) (ps : List Place) → sackTakenIn k from ps .newly ≡ total (λ p. newlyBytes p (placeSettled k p)) ps
+unfolding sackTakenIn
 taken-newly k from ps = refl
 
-pub taken-highest : (k : Sack) (from : Tsn) (ps : List Place) → takenIn k from ps .highest ≡ largest (λ p. newlyOffset from p (settled k p)) ps
-unfolding takenIn
+pub taken-highest : (k : Sack) (from : Tsn) (ps : List Place) → sackTakenIn k from ps .highest ≡ largest (λ p. newlyOffset from p (placeSettled k p)) ps
+unfolding sackTakenIn
 taken-highest k from ps = refl
 
-pub missed-struck : (from : Tsn) (limit : ℕ) (ps : List Place) → missedAll from limit ps .struck ≡ any (reaches from limit) ps
+pub missed-struck : (from : Tsn) (limit : ℕ) (ps : List Place) → missedAll from limit ps .struck ≡ any (reachesThree from limit) ps
 unfolding missedAll
 missed-struck from limit ps = refl
 
@@ -36,7 +36,7 @@ unfolding isEmpty
 empty-is ps = refl
 
 pub tallied-is : (from : Tsn) (ps : List Place)
-    → tallied from ps ≡ record { flight = total flightOf ps; payload = total payloadOf ps; left = any isOutstanding ps; last = largest (lastOf from) ps }
+    → tallied from ps ≡ record { flight = total flightOf ps; payload = total windowPayload ps; left = any isOutstanding ps; last = largest (outstandingOffset from) ps }
 unfolding tallied
 tallied-is from ps = refl
 
@@ -68,9 +68,9 @@ same p = record { chunk = refl; status = λ h. h; misses = λ h. h }
 state : (p : Place) (s : ℕ) → s < 256 → Restated p (being p s)
 state p s l = record { chunk = refl; status = λ h. l; misses = λ h. h }
 
-pub settled-restated : (k : Sack) (p : Place) → Restated p (settled k p)
-unfolding settled
-settled-restated k p = go (isSent p) (ltb (offsetOf (k .point) p) 1) (isBlocked (k .blocks) (offsetOf (k .point) p)) (eqb (p .status) 4) (k .whole)
+pub settled-restated : (k : Sack) (p : Place) → Restated p (placeSettled k p)
+unfolding placeSettled
+settled-restated k p = go (isSent p) (ltb (placeOffset (k .point) p) 1) (isBlocked (k .blocks) (placeOffset (k .point) p)) (eqb (p .status) 4) (k .whole)
   where
     go : (a b c d e : Bool) → Restated p (pick a (pick b (being p 0) (pick c (being p 4) (pick d (pick e (being p 2) p) p))) p)
     go false b c d e = same p
@@ -91,8 +91,8 @@ missed-restated from limit p = go (gets from limit p) (ltb (p .misses) 2) (eqb (
     go true false true e = record { chunk = refl; status = λ h. omega arith; misses = λ h. omega arith }
     go true false false e = same p
 
-pub marked-restated : (p : Place) → Restated p (marked p)
-unfolding marked
+pub marked-restated : (p : Place) → Restated p (markedForResend p)
+unfolding markedForResend
 marked-restated p = go (isOutstanding p)
   where
     go : (t : Bool) → Restated p (record { status = pick t 3 (p .status); misses = 0; chunk = p .chunk })
@@ -109,11 +109,11 @@ module _ (p : Place) (h : p .status ≡ 0) where
   pub free-light : flightOf p ≡ 0
   free-light = flight-other p (ne-eqb (p .status) 2 (λ e. omega arith))
 
-  pub free-last : (from : Tsn) → lastOf from p ≡ 0
-  unfolding lastOf
+  pub free-last : (from : Tsn) → outstandingOffset from p ≡ 0
+  unfolding outstandingOffset
   free-last from = rw free-idle
 
-  pub free-settled : (k : Sack) → settled k p ≡ p
+  pub free-settled : (k : Sack) → placeSettled k p ≡ p
   free-settled k = settled-unsent k p (unsent p (omega arith))
 
   pub free-bytes : (q : Place) → newlyBytes p q ≡ 0
@@ -132,8 +132,8 @@ module _ (p : Place) (h : p .status ≡ 0) where
   unfolding missed
   free-missed from limit = rw (free-gets from limit)
 
-  pub free-reaches : (from : Tsn) (limit : ℕ) → reaches from limit p ≡ false
-  unfolding reaches
+  pub free-reaches : (from : Tsn) (limit : ℕ) → reachesThree from limit p ≡ false
+  unfolding reachesThree
   free-reaches from limit = rw (free-gets from limit)
 
 -- ---- a place that a pass leaves as it is
@@ -166,6 +166,6 @@ module _ (from : Tsn) (limit : ℕ) (p : Place) (e : gets from limit p ≡ false
   unfolding missed
   unmissed = rw e
 
-  pub unreached : reaches from limit p ≡ false
-  unfolding reaches
+  pub unreached : reachesThree from limit p ≡ false
+  unfolding reachesThree
   unreached = rw e

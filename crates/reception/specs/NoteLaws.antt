@@ -9,12 +9,12 @@ use native.Mathlib.Decide.{ℕ-discrete}
 use lib.ListN.{length, take, set, replicate, getD, length-replicate, length-set}
 use lib.Seq.{take-suc, getD-set-same, getD-set-other}
 use Rattle.scans.specs.Scan.{pick, any, either}
-use Rattle.scans.specs.Counts.{any-append}
+use Rattle.scans.specs.CountsLaws.{any-append}
 use Rattle.scans.specs.Each.{clash, pick-self}
 use Rattle.scans.specs.Upto.{anyUpto, Trying, try-start, try-yes, try-no, try-end}
 use Rattle.holding.specs.declared.held.Held.{Held}
 use Rattle.holding.specs.Held.{noHeld, holds, holds-unused, holds-other}
-use Rattle.delivery.specs.Bounds.{isSecond, isTwice}
+use Rattle.delivery.specs.ReceivingBounds.{isSecond, isTwice}
 
 -- one more place
 any-next : (p : Held → Bool) (hs : List Held) (i : ℕ) → i < length hs → any p (take (i + 1) hs) ≡ either (any p (take i hs)) (p (getD hs i noHeld))

@@ -20,9 +20,9 @@ use Rattle.delivery.specs.Receiving.{isLow}
 use Rattle.delivery.specs.LowLaws.{lowBy, low-free}
 use Rattle.delivery.specs.Contradiction.{contradictsNext}
 use Rattle.delivery.specs.LookLaws.{Looking, look-used, look-free, orFree}
-use Rattle.delivery.specs.Bounds.{isTwice, isUnfit}
-use Rattle.delivery.specs.BoundsLaws.{unfit-free}
-use Rattle.taking.specs.Taking.{freeFor}
+use Rattle.delivery.specs.ReceivingBounds.{isTwice, isUnfit}
+use Rattle.delivery.specs.ReceivingBoundsLaws.{unfit-free}
+use Rattle.taking.specs.TakeWords.{freeFor}
 use Rattle.taking.specs.FreeLaws.{over-free, free-first}
 use Rattle.reception.specs.NoteLaws.{Checking, check-start, check-free, check-new, check-held, check-same}
 
@@ -30,9 +30,9 @@ use Rattle.reception.specs.NoteLaws.{Checking, check-start, check-free, 
 abbrev pub itself : Bool → Bool
 itself flag = flag
 
-pub not-so : (b : Bool) → not b ≡ true → b ≡ false
-not-so true e = sym e
-not-so false e = refl
+pub not-set : (b : Bool) → not b ≡ true → b ≡ false
+not-set true e = sym e
+not-set false e = refl
 
 -- where none is set, no one that is read is
 pub none-set : (flags : List Bool) → any itself flags ≡ false → (j : ℕ) → getD flags j false ≡ false
@@ -79,9 +79,9 @@ module _ {hs : List Held} {m : ℕ} {seen : List Bool} {i : ℕ} (w : Checking h
     read-same t q = check-same w h u there before t q
 
 -- the answer of a test, turned round
-pub turned : (b : Bool) → not b ≡ pick b false true
-turned true = refl
-turned false = refl
+pub not-pick : (b : Bool) → not b ≡ pick b false true
+not-pick true = refl
+not-pick false = refl
 
 -- free places, in the pass that weighs them
 module _ (T : Numbering) (P : Profile) (k : Keeping) {hs : List Held} where

@@ -15,14 +15,14 @@ ghost use Prim.Native.Nat.{_^_, _<_, _≤_};
 ghost use lib.ListN.{length};
 ghost use Rattle.numbers.specs.Numbering.{ring, circles};
 ghost use Rattle.numbers.specs.Profile.{rail};
-ghost use Rattle.numbers.specs.Keeping.{marked};
+ghost use Rattle.numbers.specs.Keeping.{markedCome};
 ghost use Rattle.scans.specs.Scan.{findFrom};
-ghost use Rattle.holding.specs.Held.{asHeld, isFree};
-ghost use Rattle.tables.specs.Held.{heldOf};
+ghost use Rattle.holding.specs.Held.{asHeld, isHeldFree};
+ghost use Rattle.tables.specs.HeldWords.{heldOf};
 ghost use Rattle.tables.specs.Ssns.{ssnsOf};
 ghost use Rattle.delivery.specs.LookLaws.{freeOf, Looked};
-ghost use Rattle.delivery.specs.Arrival.{isWedged, verdictOf, stored, areaAfter};
-ghost use Rattle.reception.specs.Reception.{seen, wordsKept, wordsAfter, told};
+ghost use Rattle.delivery.specs.Arrival.{isWedged, verdictOf, payloadStored, arrivalArea};
+ghost use Rattle.reception.specs.Reception.{receivingShown, wordsKept, wordsAfter, arrivalTold};
 
 // The verdict, and number-keeping after it.
 pub struct Arrived {
@@ -94,7 +94,7 @@ fn judge(
     streams: u16,
 ) -> Verdict
     requires { ⌜ Looked (ring (2 ^ 32)) rail keeping (heldOf rail (now words)) c w ⌝ }
-    ensures { λ v. ⌜ v ≡ verdictOf circles rail (seen rail keeping (now (words .entry)) (now (next .entry))) (asHeld c len) streams ⌝ }
+    ensures { λ v. ⌜ v ≡ verdictOf circles rail (receivingShown rail keeping (now (words .entry)) (now (next .entry))) (asHeld c len) streams ⌝ }
 {
     if len < 1 {
         return Verdict::Empty;
@@ -140,8 +140,8 @@ fn keep(
     c: Chunk,
     payload: &[u8],
 ) -> Keeping
-    requires { ⌜ (length (now payload) ≤ 512) × (free ≡ freeOf rail (findFrom isFree 0 (heldOf rail (now words)))) ⌝ }
-    ensures { λ k. ⌜ (k ≡ marked (ring (2 ^ 32)) rail keeping (c .tsn .0)) × (now (words .exit) ≡ wordsKept rail (now (words .entry)) (asHeld c (length (now (payload .entry)))) (findFrom isFree 0 (heldOf rail (now (words .entry))))) × (now (area .exit) ≡ stored rail (now (area .entry)) (now (payload .entry)) (findFrom isFree 0 (heldOf rail (now (words .entry))))) ⌝ }
+    requires { ⌜ (length (now payload) ≤ 512) × (free ≡ freeOf rail (findFrom isHeldFree 0 (heldOf rail (now words)))) ⌝ }
+    ensures { λ k. ⌜ (k ≡ markedCome (ring (2 ^ 32)) rail keeping (c .tsn .0)) × (now (words .exit) ≡ wordsKept rail (now (words .entry)) (asHeld c (length (now (payload .entry)))) (findFrom isHeldFree 0 (heldOf rail (now (words .entry))))) × (now (area .exit) ≡ payloadStored rail (now (area .entry)) (now (payload .entry)) (findFrom isHeldFree 0 (heldOf rail (now (words .entry))))) ⌝ }
 {
     let tsn = c.tsn;
     if free < Rail::PLACES {
@@ -164,7 +164,7 @@ pub fn arrive(
     payload: &[u8],
     streams: u16,
 ) -> Arrived
-    ensures { λ a. ⌜ (a ≡ told circles rail (seen rail keeping (now (words .entry)) (now (next .entry))) (asHeld c (length (now (payload .entry)))) streams) × (now (words .exit) ≡ wordsAfter circles rail (seen rail keeping (now (words .entry)) (now (next .entry))) (now (words .entry)) (asHeld c (length (now (payload .entry)))) streams) × (now (area .exit) ≡ areaAfter circles rail (seen rail keeping (now (words .entry)) (now (next .entry))) (asHeld c (length (now (payload .entry)))) streams (now (area .entry)) (now (payload .entry))) ⌝ }
+    ensures { λ a. ⌜ (a ≡ arrivalTold circles rail (receivingShown rail keeping (now (words .entry)) (now (next .entry))) (asHeld c (length (now (payload .entry)))) streams) × (now (words .exit) ≡ wordsAfter circles rail (receivingShown rail keeping (now (words .entry)) (now (next .entry))) (now (words .entry)) (asHeld c (length (now (payload .entry)))) streams) × (now (area .exit) ≡ arrivalArea circles rail (receivingShown rail keeping (now (words .entry)) (now (next .entry))) (asHeld c (length (now (payload .entry)))) streams (now (area .entry)) (now (payload .entry))) ⌝ }
 {
     let tsn = c.tsn;
     let w = look_for(keeping, words, c);

@@ -17,12 +17,12 @@ ghost use Rattle.numbers.specs.Profile.{rail};
 ghost use Rattle.numbers.specs.Come.{highest};
 ghost use Rattle.scans.specs.Scan.{any, either};
 ghost use Rattle.holding.specs.Held.{holds};
-ghost use Rattle.delivery.specs.Bounds.{isSound};
-ghost use Rattle.delivery.specs.BoundsLaws.{weightOf};
+ghost use Rattle.delivery.specs.ReceivingBounds.{isReceivingSound};
+ghost use Rattle.delivery.specs.ReceivingBoundsLaws.{lowWeight};
 ghost use Rattle.delivery.specs.LowLaws.{flagAt, lowBy};
-ghost use Rattle.tables.specs.Held.{heldOf};
-ghost use Rattle.taking.specs.Taking.{freeFor};
-ghost use Rattle.reception.specs.Reception.{seen};
+ghost use Rattle.tables.specs.HeldWords.{heldOf};
+ghost use Rattle.taking.specs.TakeWords.{freeFor};
+ghost use Rattle.reception.specs.Reception.{receivingShown};
 ghost use Rattle.reception.specs.ReadLaws.{itself};
 
 // Whether one of the first places holds the chunk of the number.
@@ -98,7 +98,7 @@ fn is_low_at(point: Tsn, come: &[bool; Rail::PLACES], some: bool, tsn: Tsn) -> b
 // How many held chunks are low; more than may be where one is unfit or a number is held twice. Only where a slot is noted is a number compared with
 // all before it. Where nothing is held nothing is noted.
 fn weight(keeping: Keeping, words: &[u32; held::WORDS]) -> usize
-    ensures { λ n. ⌜ (n ≡ weightOf (ring (2 ^ 32)) rail keeping (heldOf rail (now (words .entry)))) × (n ≤ 129) ⌝ }
+    ensures { λ n. ⌜ (n ≡ lowWeight (ring (2 ^ 32)) rail keeping (heldOf rail (now (words .entry)))) × (n ≤ 129) ⌝ }
 {
     let start = free_before(words);
     if Rail::PLACES <= start {
@@ -158,7 +158,7 @@ fn is_over(come: &[bool; Rail::PLACES], low: usize) -> bool
 
 // Whether number-keeping and the places are within their bounds; any next expected SSNs are.
 pub fn is_sound(keeping: Keeping, words: &[u32; held::WORDS]) -> bool
-    ensures { λ y. ⌜ y ≡ isSound (ring (2 ^ 32)) rail (seen rail keeping (now (words .entry)) []) ⌝ }
+    ensures { λ y. ⌜ y ≡ isReceivingSound (ring (2 ^ 32)) rail (receivingShown rail keeping (now (words .entry)) []) ⌝ }
 {
     if !keeping.within_bounds() {
         return false;

@@ -15,30 +15,30 @@ use Rattle.path.specs.Sizes.{sizesOf}
 use Rattle.path.specs.Path as way
 use Rattle.holding.specs.declared.taking.Answer as took
 use Rattle.holding.specs.declared.taking.Answer.the-variants.{Taken, Nothing, Short}
-use Rattle.holding.specs.Taking as taken
+use Rattle.holding.specs.Taking.{takeNumber, took}
 use Rattle.holding.specs.TakingLaws.{took-refused}
 use Rattle.sending.specs.Sending.{hasOutstanding}
 use Rattle.sending.specs.HandIn.{refusal}
-use Rattle.tables.specs.Held.{heldOf}
+use Rattle.tables.specs.HeldWords.{heldOf}
 use Rattle.tables.specs.Ssns.{ssnsOf}
 use Rattle.taking.specs.LeftLaws.{words-left}
-use Rattle.sender.specs.Seen.{seen}
+use Rattle.sender.specs.Seen.{sendingShown}
 use Rattle.acks.specs.declared.Expired.{Expired}
 use Rattle.acks.specs.Acks.{overdueHead, overdueWords, expiredHead, expiredWords}
-use Rattle.messages.specs.Messages.{handing, words-kept, area-kept}
+use Rattle.messages.specs.MessageWords.{handing, words-kept, area-kept}
 use Rattle.association.specs.declared.ends.Association.{Association}
 use Rattle.calls.specs.Messages.{deliveredAs}
 use Rattle.steps.specs.declared.lent.Lent.{Lent}
 use Rattle.steps.specs.declared.lent.Echoed.{Echoed}
 use Rattle.steps.specs.Lent.{heeded}
-use Rattle.arriving.specs.Arrival.{numberOf}
+use Rattle.arriving.specs.Arrival.{arrivalNumber}
 use Rattle.flat.specs.declared.head.Head.{Head}
 use Rattle.flat.specs.Shown.{shown, bare}
-use Rattle.asks.specs.Opening.{Tables, tablesAfter}
-use Rattle.asks.specs.Timers.{Lapse, lapsedBy, lapsed}
-use Rattle.asks.specs.Messages.{Handover, handedBy, notHanded, handedOver, Delivery, deliveredBy, notDelivered, deliveredFrom}
-use Rattle.asks.specs.Transmit.{Dispatch, notDispatched, dispatched}
-use Rattle.landing.specs.Landing.{After, afterOf, refusedAs, passed, letIn, landed}
+use Rattle.asks.specs.TableOpening.{Tables, tablesAfter}
+use Rattle.asks.specs.TableTimers.{Lapse, lapsedBy, lapsed}
+use Rattle.asks.specs.TableMessages.{Handover, senderHandover, notHanded, handedOver, Delivery, deliveredBy, notDelivered, deliveredFrom}
+use Rattle.asks.specs.TableTransmit.{Dispatch, notDispatched, dispatched}
+use Rattle.landing.specs.Landing.{After, afterOf, refusedAs, packetWalkedOver, letIn, landed}
 
 -- our own INIT
 pub tables-left : (n : ℕ) (ts : Tables) → 0 < n → tablesAfter n ts ≡ ts
@@ -48,14 +48,14 @@ tables-left n ts h = rw (ne-eqb n 0 (λ z. omega (arith, z, h)))
 -- a packet
 module _ (packet : List ℕ) (lent : Lent) (cookie : List ℕ) (e : Echoed) (h : Head) (held next places nextOut kept area verdicts out : List ℕ) where
   abbrev number : ℕ
-  number = numberOf (shown h held next places nextOut kept) area packet e out
+  number = arrivalNumber (shown h held next places nextOut kept) area packet e out
 
   pub landed-left : 0 < landed packet lent cookie e h held next places nextOut kept area verdicts out .landed .number
       → landed packet lent cookie e h held next places nextOut kept area verdicts out ≡ afterOf (refusedAs h number) held next places nextOut kept area verdicts out
   unfolding landed letIn
   landed-left = go (eqb number 0)
     where
-      go : (t : Bool) → (let x : After = pick t (letIn (passed packet lent cookie (heeded (h .state) (h .ends) e) h held next places nextOut kept area verdicts) packet out) (afterOf (refusedAs h number) held next places nextOut kept area verdicts out) in
+      go : (t : Bool) → (let x : After = pick t (letIn (packetWalkedOver packet lent cookie (heeded (h .state) (h .ends) e) h held next places nextOut kept area verdicts) packet out) (afterOf (refusedAs h number) held next places nextOut kept area verdicts out) in
           0 < x .landed .number → x ≡ afterOf (refusedAs h number) held next places nextOut kept area verdicts out)
       go true p = absurd (omega arith)
       go false p = refl
@@ -63,7 +63,7 @@ module _ (packet : List ℕ) (lent : Lent) (cookie : List ℕ) (e : Echoed) (h :
 -- a message handed in
 module _ (n : ℕ) (h : Head) (places area message : List ℕ) (stream : StreamId) (unordered : Bool) (ppid : ℕ) where
   abbrev no : ℕ
-  no = refusal rail (seen rail (h .sender) places []) (length message) stream (h .ends .«streams_out»)
+  no = refusal rail (sendingShown rail (h .sender) places []) (length message) stream (h .ends .«streams_out»)
 
   abbrev handover : Handover
   handover = handedOver n h places area message stream unordered ppid
@@ -72,17 +72,17 @@ module _ (n : ℕ) (h : Head) (places area message : List ℕ) (stream : StreamI
   unfolding handedOver handing
   handed-left = go (eqb n 0)
     where
-      by : 0 < no → (handedBy h places area message stream unordered ppid .places ≡ places) × (handedBy h places area message stream unordered ppid .area ≡ area)
+      by : 0 < no → (senderHandover h places area message stream unordered ppid .places ≡ places) × (senderHandover h places area message stream unordered ppid .area ≡ area)
       by p =
           let z : eqb no 0 ≡ false = ne-eqb no 0 (λ q. omega (arith, q, p)) in
           (sym (words-kept rail (h .sender) places (length message) stream (h .ends .«streams_out») {no = no} refl unordered ppid z), sym (area-kept rail (h .sender) places area message stream (h .ends .«streams_out») {no = no} refl z))
 
-      go : (t : Bool) → (let x : Handover = pick t (handedBy h places area message stream unordered ppid) (notHanded n places area) in 0 < x .answer .number → (x .places ≡ places) × (x .area ≡ area))
+      go : (t : Bool) → (let x : Handover = pick t (senderHandover h places area message stream unordered ppid) (notHanded n places area) in 0 < x .answer .number → (x .places ≡ places) × (x .area ≡ area))
       go true p = by p
       go false p = (refl, refl)
 
 -- a message taken
-given-number : (x : took.Answer) (b : Association) → deliveredAs x b .number ≡ taken.numberOf x
+given-number : (x : took.Answer) (b : Association) → deliveredAs x b .number ≡ takeNumber x
 given-number (Taken m) b = refl
 given-number Nothing b = refl
 given-number (Short n) b = refl
@@ -92,7 +92,7 @@ module _ (n : ℕ) (h : Head) (held next area out : List ℕ) where
   delivery = deliveredFrom n h held next area out
 
   abbrev answer : took.Answer
-  answer = taken.took circles rail (heldOf rail held) (ssnsOf rail next) (h .keeping .point .0) (length out) .answer
+  answer = took circles rail (heldOf rail held) (ssnsOf rail next) (h .keeping .point .0) (length out) .answer
 
   pub delivered-left : 0 < delivery .answer .number → (delivery .held ≡ held) × (delivery .next ≡ next) × (delivery .out ≡ out)
   unfolding deliveredFrom
@@ -101,7 +101,7 @@ module _ (n : ℕ) (h : Head) (held next area out : List ℕ) where
       by : 0 < deliveredAs answer (bare h) .number
           → (deliveredBy h held next area out .held ≡ held) × (deliveredBy h held next area out .next ≡ next) × (deliveredBy h held next area out .out ≡ out)
       by p =
-          let q : 0 < taken.numberOf answer = omega (arith, p, given-number answer (bare h)) in
+          let q : 0 < takeNumber answer = omega (arith, p, given-number answer (bare h)) in
           let w = words-left circles rail held next (h .keeping .point .0) (length out) q in
           (w .0, w .1, took-refused circles rail (heldOf rail held) (ssnsOf rail next) (h .keeping .point .0) area out q .output)
 
@@ -138,5 +138,5 @@ module _ (n : ℕ) (h : Head) (places : List ℕ) where
       go : (t : Bool)
           → (let x : Lapse = pick t (record { answer = lapsedBy h (expiredHead (sizesOf (h .sender .mode)) rail (h .sender) places); places = expiredWords (sizesOf (h .sender .mode)) rail (h .sender) places }) (record { answer = record { number = n; length = 0; over = false; head = h }; places = places }) in
           0 < x .answer .number → (x .answer .head ≡ h) × (x .places ≡ places))
-      go true p = by (hasOutstanding (seen rail (h .sender) places [])) (way.isOver (sizesOf (h .sender .mode)) (h .sender .path)) p
+      go true p = by (hasOutstanding (sendingShown rail (h .sender) places [])) (way.isOver (sizesOf (h .sender .mode)) (h .sender .path)) p
       go false p = (refl, refl)

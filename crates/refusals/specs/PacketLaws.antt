@@ -29,28 +29,28 @@ use Rattle.steps.specs.declared.verdict.Owed.the-variants.{Nothing}
 use Rattle.steps.specs.Lent.{heeded}
 use Rattle.arriving.specs.declared.verdict.Verdict.{Verdict}
 use Rattle.arriving.specs.declared.walk.Walked.{Walked}
-use Rattle.arriving.specs.Refusal.{Barred}
-use Rattle.arriving.specs.Verdict.{unreadAt}
+use Rattle.arriving.specs.PacketRefusal.{Barred}
+use Rattle.arriving.specs.ChunkVerdict.{unreadAt}
 use Rattle.arriving.specs.Walked.{owes, isDue, besideAt}
-use Rattle.arriving.specs.Reply.{isSilenced, isShutdownSent, endedBy, closedBy, wholeReply, replyHead, sentLength, sentOut}
-use Rattle.arriving.specs.Arrival.{lentNumber, packetNumber, answeredLength, answeredOut, numberOf}
+use Rattle.arriving.specs.Reply.{isSilenced, isShutdownSent, shutdownAdded, closedBy, wholeReply, replyHead, replyLength, sentOut}
+use Rattle.arriving.specs.Arrival.{lentNumber, packetNumber, answeredLength, answeredOut, arrivalNumber}
 use Rattle.flat.specs.declared.head.Head.{Head}
 use Rattle.flat.specs.Shown.{shown}
-use Rattle.asks.specs.Answer.{withKeeping}
-use Rattle.rows.specs.Rows.{Rowed}
-use Rattle.landing.specs.Verdicts.{verdictWords, wordsOf, verdictOf, verdictsOf, verdictAt, countAfter}
+use Rattle.asks.specs.TableAnswer.{headWithKeeping}
+use Rattle.rows.specs.TableRows.{Rowed}
+use Rattle.landing.specs.Verdicts.{verdictWords, allVerdictWords, verdictIn, verdictsOf, verdictAt, countAfter}
 use Rattle.landing.specs.VerdictsLaws.{verdictsNoted, Telling, telling-none, telling-one}
-use Rattle.landing.specs.Walk.{Turn, turnOf, begun, bareWalked, unreadTurn, readTurn, rowedAt, turned, inPart, inWhole, turnedIn, walkedOver}
-use Rattle.landing.specs.Landing.{After, afterOf, refusedAs, gathered, passed, letIn, landed}
-use Rattle.refusals.specs.Refusals.{Refused}
+use Rattle.landing.specs.TableWalk.{TableTurn, tableTurnOf, headWalkBegun, bareWalked, unreadTurn, readTurn, rowedAt, tableTurned, inPart, inWhole, turnedIn, tableWalkedOver}
+use Rattle.landing.specs.Landing.{After, afterOf, refusedAs, repliesGathered, packetWalkedOver, letIn, landed}
+use Rattle.refusals.specs.Refusals.{VerdictRefused}
 use Rattle.refusals.specs.RowLaws.{rowed-leaves}
 
 -- ---- what the words of the verdicts say
 
-refused-word : (v : Verdict) → Refused (verdictOf (verdictWords v)) → Refused v
+refused-word : (v : Verdict) → VerdictRefused (verdictIn (verdictWords v)) → VerdictRefused v
 refused-word v h = let n : 0 < (v .fate * 256 + v .number) % 256 = h in omega (arith, n)
 
-barred-word : (v : Verdict) → Barred (verdictOf (verdictWords v)) → Barred v
+barred-word : (v : Verdict) → Barred (verdictIn (verdictWords v)) → Barred v
 barred-word v b =
     let n : 0 < (v .fate * 256 + v .number) % 256 = b .0 in (
       omega (arith, n),
@@ -58,15 +58,15 @@ barred-word v b =
       λ q. b .2 (let e : (v .fate * 256 + v .number) % 256 ≡ 14 = omega (arith, q) in e),
     )
 
-words-say : (P : Verdict → Type 0) → ((v : Verdict) → P (verdictOf (verdictWords v)) → P v) → (vs : List Verdict) (rest : List ℕ) → All P (verdictsOf (length vs) (wordsOf vs ++ rest)) → All P vs
+words-say : (P : Verdict → Type 0) → ((v : Verdict) → P (verdictIn (verdictWords v)) → P v) → (vs : List Verdict) (rest : List ℕ) → All P (verdictsOf (length vs) (allVerdictWords vs ++ rest)) → All P vs
 words-say P f [] rest w = tt
 words-say P f (v ∷ vs) rest w = (f v (w .0), words-say P f vs rest (w .1))
 
-told-say : (P : Verdict → Type 0) → ((v : Verdict) → P (verdictOf (verdictWords v)) → P v) → {lent ws : List ℕ} {n : ℕ} {vs : List Verdict} → Telling lent ws n vs
+told-say : (P : Verdict → Type 0) → ((v : Verdict) → P (verdictIn (verdictWords v)) → P v) → {lent ws : List ℕ} {n : ℕ} {vs : List Verdict} → Telling lent ws n vs
     → All P (verdictsOf n ws) → All P (take n vs)
 told-say P f {lent} {ws} {n} {vs} t w =
     let l : length (take n vs) ≡ n = length-take-le n vs (omega (arith, t .few, t .room)) in
-    let e : ws ≡ wordsOf (take n vs) ++ drop (4 * n) ws = sym (take-append-drop (4 * n) ws) ∙ ap (λ (x : List ℕ). x ++ drop (4 * n) ws) (t .told) in
+    let e : ws ≡ allVerdictWords (take n vs) ++ drop (4 * n) ws = sym (take-append-drop (4 * n) ws) ∙ ap (λ (x : List ℕ). x ++ drop (4 * n) ws) (t .told) in
     words-say P f (take n vs) (drop (4 * n) ws) (subst (All P) (λ i. verdictsOf (sym l i) (e i)) w)
 
 all-split : {A : Type 0} (P : A → Type 0) (xs : List A) (x : A) → All P (xs ++ x ∷ []) → All P xs × P x
@@ -99,7 +99,7 @@ over-at I Q f s k q (suc n) r at h p =
     go (no l) w = rw (over-end f r s at (omega arith)) (q r at p)
 
 -- nothing that is lent has changed, nothing is gathered and nothing is owed; of the head number-keeping may differ
-record Same (h : Head) (ws ns ps ms cs bytes : List ℕ) (t : Turn) : Type 0 where
+record Same (h : Head) (ws ns ps ms cs bytes : List ℕ) (t : TableTurn) : Type 0 where
   pub held : t .held ≡ ws
   pub next : t .next ≡ ns
   pub places : t .places ≡ ps
@@ -109,32 +109,32 @@ record Same (h : Head) (ws ns ps ms cs bytes : List ℕ) (t : Turn) : Type 0 whe
   pub used : t .walk .used ≡ 0
   pub due : t .walk .due ≡ false
   pub complete : t .walk .complete ≡ Nothing
-  pub head : t .walk .head ≡ withKeeping h (t .walk .head .keeping)
+  pub head : t .walk .head ≡ headWithKeeping h (t .walk .head .keeping)
 
 module _ (h : Head) (held next places nextOut kept area verdicts : List ℕ) where
   -- that, by the verdicts so far
-  record Judged (t : Turn) (vs : List Verdict) : Type 0 where
-    pub same : All Refused vs → Same h held next places nextOut kept area t
+  record Judged (t : TableTurn) (vs : List Verdict) : Type 0 where
+    pub same : All VerdictRefused vs → Same h held next places nextOut kept area t
     pub keeping : All Barred vs → t .walk .head .keeping ≡ h .keeping
 
-  record Judging (t : Turn) : Type 0 where
+  record Judging (t : TableTurn) : Type 0 where
     pub list : List Verdict
     pub telling : Telling verdicts (t .verdicts) (t .walk .count) list
     pub judged : Judged t (take (t .walk .count) list)
 
   -- with room for a verdict of each chunk from `at` on
-  record Passing (at : ℕ) (t : Turn) : Type 0 where
+  record Passing (at : ℕ) (t : TableTurn) : Type 0 where
     pub few : 4 * t .walk .count + 12 ≤ at
     pub judging : Judging t
 
-  module _ (at : ℕ) (b : Beside) (cookie s : List ℕ) (t : Turn) (few : t .walk .count < 365) (j : Judging t) where
+  module _ (at : ℕ) (b : Beside) (cookie s : List ℕ) (t : TableTurn) (few : t .walk .count < 365) (j : Judging t) where
     abbrev so-far : List Verdict
     so-far = take (t .walk .count) (j .list)
 
-    abbrev Onward : Turn → Type 0
+    abbrev Onward : TableTurn → Type 0
     Onward u = (u .walk .count ≡ t .walk .count + 1) × Judging u
 
-    onward : (u : Turn) (v : Verdict) → u .walk .count ≡ countAfter (t .walk .count) → Telling verdicts (u .verdicts) (u .walk .count) (verdictsNoted (j .list) (t .walk .count) v)
+    onward : (u : TableTurn) (v : Verdict) → u .walk .count ≡ countAfter (t .walk .count) → Telling verdicts (u .verdicts) (u .walk .count) (verdictsNoted (j .list) (t .walk .count) v)
         → Judged u (so-far ++ (v ∷ [])) → Onward u
     onward u v n w q = (
       n ∙ noted-count (t .walk .count) few,
@@ -149,21 +149,21 @@ module _ (h : Head) (held next places nextOut kept area verdicts : List ℕ) whe
     unread-on : Onward (inWhole (t .space) (t .walk .used) (unreadTurn at (inPart t)))
     unread-on =
         onward _ (unreadAt at) refl (telling-one (j .telling) (unreadAt at))
-        (record { same = λ w. absurd (omega (arith, all-split Refused so-far (unreadAt at) w .1)); keeping = λ w. absurd (omega (arith, all-split Barred so-far (unreadAt at) w .1 .0)) })
+        (record { same = λ w. absurd (omega (arith, all-split VerdictRefused so-far (unreadAt at) w .1)); keeping = λ w. absurd (omega (arith, all-split Barred so-far (unreadAt at) w .1 .0)) })
 
     -- read and refused
     abbrev row : Rowed
     row = rowedAt at b cookie s (inPart t)
 
-    abbrev after : Turn
+    abbrev after : TableTurn
     after = inWhole (t .space) (t .walk .used) (readTurn at (inPart t) row)
 
     abbrev verdict : Verdict
     verdict = verdictAt at (row .stepped)
 
-    read-same : All Refused (so-far ++ (verdict ∷ [])) → Same h held next places nextOut kept area after
+    read-same : All VerdictRefused (so-far ++ (verdict ∷ [])) → Same h held next places nextOut kept area after
     read-same w =
-        let v = all-split Refused so-far verdict w in
+        let v = all-split VerdictRefused so-far verdict w in
         let m = j .judged .same (v .0) in
         let l = rowed-leaves (t .walk .head) (t .held) (t .next) (t .places) (t .nextOut) (t .kept) (t .area) s (inPart t .space) (besideAt at b) cookie (v .1) in
         record {
@@ -176,7 +176,7 @@ module _ (h : Head) (held next places nextOut kept area verdicts : List ℕ) whe
           used = omega (arith, l .written, m .used);
           due = λ i. either (m .due i) (isDue (l .owed i));
           complete = λ i. owes (m .complete i) (l .owed i);
-          head = l .head ∙ ap (λ (g : Head). withKeeping g (row .stepped .head .keeping)) (m .head);
+          head = l .head ∙ ap (λ (g : Head). headWithKeeping g (row .stepped .head .keeping)) (m .head);
         }
 
     read-keeping : All Barred (so-far ++ (verdict ∷ [])) → after .walk .head .keeping ≡ h .keeping
@@ -189,13 +189,13 @@ module _ (h : Head) (held next places nextOut kept area verdicts : List ℕ) whe
     read-on = onward _ verdict refl (telling-one (j .telling) verdict) (record { same = read-same; keeping = read-keeping })
 
     turned-on : Onward (turnedIn at b cookie s t)
-    unfolding turnedIn turned
+    unfolding turnedIn tableTurned
     turned-on =
-        pick-keeps (λ (u : Turn). Onward (inWhole (t .space) (t .walk .used) u)) (t .walk .unread) (unreadTurn at (inPart t)) (readTurn at (inPart t) row) unread-on read-on
+        pick-keeps (λ (u : TableTurn). Onward (inWhole (t .space) (t .walk .used) u)) (t .walk .unread) (unreadTurn at (inPart t)) (readTurn at (inPart t) row) unread-on read-on
 
   module _ (packet : List ℕ) (lent : Lent) (cookie : List ℕ) (short : length packet ≤ 1472) (words : length verdicts ≡ 1460) where
-    passed-judging : (e : Echoed) → Judging (passed packet lent cookie e h held next places nextOut kept area verdicts)
-    unfolding passed walkedOver begun
+    passed-judging : (e : Echoed) → Judging (packetWalkedOver packet lent cookie e h held next places nextOut kept area verdicts)
+    unfolding packetWalkedOver tableWalkedOver headWalkBegun
     passed-judging e =
         over-at Passing Judging _ packet
         (λ t at l p. let o = turned-on (length packet - length (drop at packet)) _ cookie (drop at packet) t (omega (arith, p .few, l, short)) (p .judging) in record { few = omega (arith, o .0, p .few, size-least (drop at packet)); judging = o .1 })
@@ -216,15 +216,15 @@ module _ (h : Head) (held next places nextOut kept area verdicts : List ℕ) whe
 
 -- nothing gathered and nothing owed is no reply
 whole-none : (w : Walked) (reply : List ℕ) → reply ≡ [] → w .due ≡ false → w .complete ≡ Nothing → wholeReply w reply ≡ []
-unfolding wholeReply endedBy
+unfolding wholeReply shutdownAdded
 whole-none w reply r d c =
     ap (λ (o : Owed). closedBy w reply o) c
     ∙ (ap (λ (t : Bool). pick (pick t (isShutdownSent (w .association .state)) false) (reply ++ fitting (1460 - length reply) (shutdownBytes (w .association .receiving .keeping .point))) reply) d ∙ r)
 
 silent : (w : Walked) (packet reply out : List ℕ) → wholeReply w reply ≡ [] → (answeredLength w packet reply out ≡ 0) × (answeredOut w packet reply out ≡ out)
-unfolding answeredLength answeredOut sentLength sentOut laid
+unfolding answeredLength answeredOut replyLength sentOut laid
 silent w packet reply out e = (
-  ap (λ (r : List ℕ). pick (isSilenced packet) 0 (sentLength r out)) e ∙ pick-keeps (λ (n : ℕ). n ≡ 0) (isSilenced packet) 0 0 refl refl,
+  ap (λ (r : List ℕ). pick (isSilenced packet) 0 (replyLength r out)) e ∙ pick-keeps (λ (n : ℕ). n ≡ 0) (isSilenced packet) 0 0 refl refl,
   ap (λ (r : List ℕ). pick (isSilenced packet) out (sentOut (replyHead (w .association) (w .complete) (headerOf packet)) r out)) e ∙ pick-keeps (λ (x : List ℕ). x ≡ out) (isSilenced packet) out out refl refl,
 )
 
@@ -244,28 +244,28 @@ pub record LandedLeaves (h : Head) (ws ns ps ms cs bytes sent : List ℕ) (x : A
   pub area : x .area ≡ bytes
   pub out : x .out ≡ sent
   pub silent : x .landed .length ≡ 0
-  pub head : x .landed .head ≡ withKeeping h (x .landed .head .keeping)
+  pub head : x .landed .head ≡ headWithKeeping h (x .landed .head .keeping)
   pub keeping : All Barred (verdictsOf (x .landed .count) (x .verdicts)) → x .landed .head .keeping ≡ h .keeping
 
 module _ (packet : List ℕ) (lent : Lent) (cookie : List ℕ) (e : Echoed) (h : Head) (held next places nextOut kept area verdicts out : List ℕ) (words : length verdicts ≡ 1460) where
   abbrev number : ℕ
-  number = numberOf (shown h held next places nextOut kept) area packet e out
+  number = arrivalNumber (shown h held next places nextOut kept) area packet e out
 
-  abbrev turn : Turn
-  turn = passed packet lent cookie (heeded (h .state) (h .ends) e) h held next places nextOut kept area verdicts
+  abbrev turn : TableTurn
+  turn = packetWalkedOver packet lent cookie (heeded (h .state) (h .ends) e) h held next places nextOut kept area verdicts
 
   let-in-short : number ≡ 0 → length packet ≤ 1472
-  unfolding numberOf packetNumber
+  unfolding arrivalNumber packetNumber
   let-in-short z =
       size-most packet
       (not-two (eqb (sizeNumber packet) 2) _ (earlier-none (lentNumber (shown h held next places nextOut kept) (length area) (length out)) (packetNumber (shown h held next places nextOut kept) packet (heeded (h .state) (h .ends) e)) z .1))
 
-  let-in-leaves : number ≡ 0 → (let x : After = letIn turn packet out in All Refused (verdictsOf (x .landed .count) (x .verdicts)) → LandedLeaves h held next places nextOut kept area out x)
+  let-in-leaves : number ≡ 0 → (let x : After = letIn turn packet out in All VerdictRefused (verdictsOf (x .landed .count) (x .verdicts)) → LandedLeaves h held next places nextOut kept area out x)
   unfolding letIn
   let-in-leaves z w =
       let j = passed-judging h held next places nextOut kept area verdicts packet lent cookie (let-in-short z) words (heeded (h .state) (h .ends) e) in
-      let m = j .judged .same (told-say Refused refused-word (j .telling) w) in
-      let n = silent (bareWalked (turn .walk)) packet (gathered turn) out (whole-none (bareWalked (turn .walk)) (gathered turn) (ap (λ (k : ℕ). take k (turn .space)) (m .used)) (m .due) (m .complete)) in
+      let m = j .judged .same (told-say VerdictRefused refused-word (j .telling) w) in
+      let n = silent (bareWalked (turn .walk)) packet (repliesGathered turn) out (whole-none (bareWalked (turn .walk)) (repliesGathered turn) (ap (λ (k : ℕ). take k (turn .space)) (m .used)) (m .due) (m .complete)) in
       record {
         held = m .held;
         next = m .next;
@@ -279,12 +279,12 @@ module _ (packet : List ℕ) (lent : Lent) (cookie : List ℕ) (e : Echoed) (h :
         keeping = λ v. j .judged .keeping (told-say Barred barred-word (j .telling) v);
       }
 
-  pub landed-leaves : (let x : After = landed packet lent cookie e h held next places nextOut kept area verdicts out in All Refused (verdictsOf (x .landed .count) (x .verdicts)) → LandedLeaves h held next places nextOut kept area out x)
+  pub landed-leaves : (let x : After = landed packet lent cookie e h held next places nextOut kept area verdicts out in All VerdictRefused (verdictsOf (x .landed .count) (x .verdicts)) → LandedLeaves h held next places nextOut kept area out x)
   unfolding landed
   landed-leaves = go (eqb number 0) refl
     where
       go : (t : Bool) → eqb number 0 ≡ t
           → (let x : After = pick t (letIn turn packet out) (afterOf (refusedAs h number) held next places nextOut kept area verdicts out) in
-          All Refused (verdictsOf (x .landed .count) (x .verdicts)) → LandedLeaves h held next places nextOut kept area out x)
+          All VerdictRefused (verdictsOf (x .landed .count) (x .verdicts)) → LandedLeaves h held next places nextOut kept area out x)
       go true q w = let-in-leaves (eqb-true number 0 q) w
       go false q w = record { held = refl; next = refl; places = refl; nextOut = refl; kept = refl; area = refl; out = refl; silent = refl; head = refl; keeping = λ v. refl }

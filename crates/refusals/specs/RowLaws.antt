@@ -25,15 +25,15 @@ use Rattle.holding.specs.declared.held.Held.{Held}
 use Rattle.holding.specs.Held.{asHeld}
 use Rattle.delivery.specs.declared.arrival.Verdict.{Verdict}
 use Rattle.delivery.specs.declared.arrival.Verdict.the-variants.{Kept, Empty, Long, Opposite, Duplicate, Wedged, Far, Stray, Clashing}
-use Rattle.delivery.specs.Arrival.{verdictOf, after, storedBy, areaAfter}
+use Rattle.delivery.specs.Arrival.{verdictOf, receivingAfter, storedBy, arrivalArea}
 use Rattle.reception.specs.declared.arrival.Arrived.{Arrived}
-use Rattle.reception.specs.Reception as receiver
+use Rattle.reception.specs.Reception.{arrivalWords, arrivalTold, wordsAfter}
 use Rattle.places.specs.declared.sack.Sack.{Sack}
 use Rattle.sending.specs.declared.acknowledging.Answer.{Answer}
 use Rattle.sending.specs.Acknowledge.{judgedPoint, shutOf}
 use Rattle.sending.specs.Sending.{isBare}
 use Rattle.sender.specs.declared.Sender.{Sender}
-use Rattle.sender.specs.Seen.{seen}
+use Rattle.sender.specs.Seen.{sendingShown}
 use Rattle.acks.specs.Acks.{acceptedHead, acceptedWords, ackedHead, ackedWords, shutHead, shutWords}
 use Rattle.states.specs.declared.state.State.{State}
 use Rattle.states.specs.declared.state.State.the-variants.{Closed, ShutdownReceived, ShutdownAckSent}
@@ -54,20 +54,20 @@ use Rattle.steps.specs.declared.verdict.Named.the-variants.{NoCall, ErrorStale}
 use Rattle.steps.specs.declared.verdict.Event.the-variants.{NoEvent, Down}
 use Rattle.steps.specs.declared.verdict.Reason.the-variants.{HostName}
 use Rattle.steps.specs.declared.verdict.Owed.the-variants.{Nothing}
-use Rattle.steps.specs.Verdict.{Step, numberOf, accepted, answering, refused, quiet, ending}
-use Rattle.steps.specs.Opening.{isPoor, isOdd, isPoorLent, nameRefused, answerInit, established, echoedBack, takeInitAck}
-use Rattle.steps.specs.Meeting.{offered, repeatAck, cookieAckBytes, actionOf, starts, startedAs, stays, acts, readEchoed, readEcho}
-use Rattle.steps.specs.Carrying.{chunkOf, payloadOf, dataRead, lateDataRead, shutdownOwed, shutdownAcked, areaIn, sackCall, echoHeartbeat, clearTries}
+use Rattle.steps.specs.Verdict.{Step, fateNumber, accepted, answering, refused, quiet, leavingUnread}
+use Rattle.steps.specs.Opening.{isPoor, isCookieOdd, isPoorLent, nameRefused, answerInit, established, echoedBack, takeInitAck}
+use Rattle.steps.specs.Meeting.{offered, repeatAck, cookieAckBytes, actionOf, startsAnew, startedAs, stays, acts, readEchoed, readEcho}
+use Rattle.steps.specs.Carrying.{dataArriving, payloadOf, dataRead, lateDataRead, shutdownOwed, shutdownAcked, areaIn, sackCall, echoHeartbeat, clearTries}
 use Rattle.steps.specs.Closing.{readError, shutdownTaken, shutdownAnswered}
 use Rattle.steps.specs.Unknown.{passUnknown, tellUnknown}
 use Rattle.steps.specs.Steps.{rowMet}
 use Rattle.flat.specs.declared.head.Head.{Head}
-use Rattle.flat.specs.Shown.{bare, headOf}
-use Rattle.asks.specs.Answer.{withKeeping}
-use Rattle.rows.specs.Rows.{heardData, heldHeard, arrivalWith, side, readDataBy, readLateDataBy, sackIn, heardSack, placesSacked, answerWith, readSackBy, readSackPendingBy, readSackReceivedBy, heardPoint, placesShut, readShutdownBy, answerShutdownBy, isTaken, begins, isStarting, clearedIf, keptIf, Left, headLeft, dataLeft, placesLeft, ackLeft, echoLeft, rowLeft, Rowed, rowed}
+use Rattle.flat.specs.Shown.{bare, associationHead}
+use Rattle.asks.specs.TableAnswer.{headWithKeeping}
+use Rattle.rows.specs.TableRows.{heardData, heldHeard, arrivalWith, side, readDataBy, readLateDataBy, sackToSender, sackHeard, placesSacked, answerWith, readSackBy, readSackPendingBy, readSackReceivedBy, heardPoint, placesShut, readShutdownBy, answerShutdownBy, isTaken, echoBegins, isStarting, clearedIf, keptIf, RowLeft, headLeft, dataLeft, placesLeft, ackLeft, echoLeft, rowLeft, Rowed, rowed}
 
 -- what a row leaves of its chunk, where the head was h
-record Leaves (h : Head) (ws ns ps ms cs bytes : List ℕ) (l : Left) : Type 0 where
+record Leaves (h : Head) (ws ns ps ms cs bytes : List ℕ) (l : RowLeft) : Type 0 where
   pub held : l .held ≡ ws
   pub next : l .next ≡ ns
   pub places : l .places ≡ ps
@@ -76,12 +76,12 @@ record Leaves (h : Head) (ws ns ps ms cs bytes : List ℕ) (l : Left) : Type 0 w
   pub area : l .area ≡ bytes
   pub reply : l .step .reply ≡ []
   pub owed : l .step .owed ≡ Nothing
-  pub head : headOf (l .step .association) ≡ withKeeping h (l .step .association .receiving .keeping)
-  pub keeping : (numberOf (l .step .fate) ≡ 11 → ⊥) → (numberOf (l .step .fate) ≡ 14 → ⊥) → l .step .association .receiving .keeping ≡ h .keeping
+  pub head : associationHead (l .step .association) ≡ headWithKeeping h (l .step .association .receiving .keeping)
+  pub keeping : (fateNumber (l .step .fate) ≡ 11 → ⊥) → (fateNumber (l .step .fate) ≡ 14 → ⊥) → l .step .association .receiving .keeping ≡ h .keeping
 
 module _ (h : Head) (held next places nextOut kept area s : List ℕ) where
-  abbrev Refusal : Left → Type 0
-  Refusal l = 0 < numberOf (l .step .fate) → Leaves h held next places nextOut kept area l
+  abbrev Refusal : RowLeft → Type 0
+  Refusal l = 0 < fateNumber (l .step .fate) → Leaves h held next places nextOut kept area l
 
   -- a row that changes no table
   abbrev Heads : Step → Type 0
@@ -99,15 +99,15 @@ module _ (h : Head) (held next places nextOut kept area s : List ℕ) where
   -- ---- DATA
 
   abbrev chunk : Held
-  chunk = asHeld (chunkOf s) (length (payloadOf s))
+  chunk = asHeld (dataArriving s) (length (payloadOf s))
 
   abbrev told : Verdict → Arrived
-  told v = record { verdict = v; keeping = after (circles .tsn) rail (side h held next) chunk v .keeping }
+  told v = record { verdict = v; keeping = receivingAfter (circles .tsn) rail (side h held next) chunk v .keeping }
 
-  abbrev dataBy : Step → Verdict → Left
+  abbrev dataBy : Step → Verdict → RowLeft
   dataBy d v = record {
     step = d;
-    held = receiver.wordsBy rail held chunk v;
+    held = arrivalWords rail held chunk v;
     next = next;
     places = places;
     nextOut = nextOut;
@@ -139,11 +139,11 @@ module _ (h : Head) (held next places nextOut kept area s : List ℕ) where
   late-refusal Clashing p = read-refusal Clashing p
 
   data-leaves : Refusal (dataLeft h held next places nextOut kept area s (readDataBy h held next s))
-  unfolding readDataBy heardData heldHeard areaIn receiver.told receiver.wordsAfter areaAfter
+  unfolding readDataBy heardData heldHeard areaIn arrivalTold wordsAfter arrivalArea
   data-leaves = read-refusal (verdictOf circles rail (side h held next) chunk (h .ends .«streams_in»))
 
   late-leaves : Refusal (dataLeft h held next places nextOut kept area s (readLateDataBy h held next s))
-  unfolding readLateDataBy heardData heldHeard areaIn receiver.told receiver.wordsAfter areaAfter
+  unfolding readLateDataBy heardData heldHeard areaIn arrivalTold wordsAfter arrivalArea
   late-leaves = late-refusal (verdictOf circles rail (side h held next) chunk (h .ends .«streams_in»))
 
   -- ---- SACK and the point of a SHUTDOWN
@@ -202,26 +202,26 @@ module _ (h : Head) (held next places nextOut kept area s : List ℕ) where
     shut-refusal state false = answered-refusal state (eqb n 0)
 
   abbrev sackJudged : ℕ
-  sackJudged = judgedPoint (seen rail (h .sender) [] []) (sackIn s)
+  sackJudged = judgedPoint (sendingShown rail (h .sender) [] []) (sackToSender s)
 
   sack-leaves : Points (placesSacked (h .sender) places s) (readSackBy h places s)
-  unfolding readSackBy heardSack placesSacked ackedHead ackedWords
-  sack-leaves = sack-refusal sackJudged (acceptedHead (sizesOf (h .sender .mode)) rail (h .sender) places (sackIn s)) (acceptedWords rail (h .sender) places (sackIn s)) (eqb sackJudged 0)
+  unfolding readSackBy sackHeard placesSacked ackedHead ackedWords
+  sack-leaves = sack-refusal sackJudged (acceptedHead (sizesOf (h .sender .mode)) rail (h .sender) places (sackToSender s)) (acceptedWords rail (h .sender) places (sackToSender s)) (eqb sackJudged 0)
 
   pending-leaves : Points (placesSacked (h .sender) places s) (readSackPendingBy h places s)
-  unfolding readSackPendingBy heardSack placesSacked ackedHead ackedWords
-  pending-leaves = then-refusal sackJudged (acceptedHead (sizesOf (h .sender .mode)) rail (h .sender) places (sackIn s)) (acceptedWords rail (h .sender) places (sackIn s)) shutdownOwed (λ a. took) (eqb sackJudged 0)
+  unfolding readSackPendingBy sackHeard placesSacked ackedHead ackedWords
+  pending-leaves = then-refusal sackJudged (acceptedHead (sizesOf (h .sender .mode)) rail (h .sender) places (sackToSender s)) (acceptedWords rail (h .sender) places (sackToSender s)) shutdownOwed (λ a. took) (eqb sackJudged 0)
 
   received-leaves : Points (placesSacked (h .sender) places s) (readSackReceivedBy h places s)
-  unfolding readSackReceivedBy heardSack placesSacked ackedHead ackedWords
+  unfolding readSackReceivedBy sackHeard placesSacked ackedHead ackedWords
   received-leaves =
-      then-refusal sackJudged (acceptedHead (sizesOf (h .sender .mode)) rail (h .sender) places (sackIn s)) (acceptedWords rail (h .sender) places (sackIn s)) (λ (q : Association). shutdownAcked q (ShutdownAckSent 0)) (λ a. took) (eqb sackJudged 0)
+      then-refusal sackJudged (acceptedHead (sizesOf (h .sender .mode)) rail (h .sender) places (sackToSender s)) (acceptedWords rail (h .sender) places (sackToSender s)) (λ (q : Association). shutdownAcked q (ShutdownAckSent 0)) (λ a. took) (eqb sackJudged 0)
 
   abbrev point : Sack
-  point = shutOf (seen rail (h .sender) [] []) (pointOf s)
+  point = shutOf (sendingShown rail (h .sender) [] []) (pointOf s)
 
   abbrev pointJudged : ℕ
-  pointJudged = judgedPoint (seen rail (h .sender) [] []) point
+  pointJudged = judgedPoint (sendingShown rail (h .sender) [] []) point
 
   shutdown-leaves : Points (placesShut (h .sender) places s) (readShutdownBy h places s)
   unfolding readShutdownBy heardPoint placesShut shutHead shutWords ackedHead ackedWords
@@ -240,7 +240,7 @@ module _ (h : Head) (held next places nextOut kept area s : List ℕ) where
 
   ack-leaves : (room : ℕ) → Refusal (ackLeft h held next places nextOut kept area s (takeInitAck room (bare h) s))
   unfolding takeInitAck echoedBack isTaken
-  ack-leaves room = go (isPoor (initOf s)) (isOdd (valueOf COOKIE 4 s .len)) (isThere NAME s)
+  ack-leaves room = go (isPoor (initOf s)) (isCookieOdd (valueOf COOKIE 4 s .len)) (isThere NAME s)
     where
       go : (x y z : Bool)
           → (let t : Bool = pick x false (pick y false (pick z false true)) in
@@ -263,7 +263,7 @@ module _ (h : Head) (held next places nextOut kept area s : List ℕ) where
   repeat-leaves = either-heads (isPoor (initOf s)) _ _ (same 8 NoCall) took
 
   -- an echo, where t says whether all begins from it
-  abbrev echoIf : Bool → Step → Left
+  abbrev echoIf : Bool → Step → RowLeft
   echoIf t d = record {
     step = d;
     held = clearedIf t 512 held;
@@ -274,7 +274,7 @@ module _ (h : Head) (held next places nextOut kept area s : List ℕ) where
     area = area;
   }
 
-  echo-same : (n : ℕ) (c : Named) → Refusal (echoIf false (ending (refused (bare h) n c)))
+  echo-same : (n : ℕ) (c : Named) → Refusal (echoIf false (leavingUnread (refused (bare h) n c)))
   echo-same n c p = record { held = refl; next = refl; places = refl; nextOut = refl; kept = refl; area = refl; reply = refl; owed = refl; head = refl; keeping = λ x y. refl }
 
   -- in every state a good one is refused only outside A to D
@@ -285,9 +285,9 @@ module _ (h : Head) (held next places nextOut kept area s : List ℕ) where
   stays-leaves room m Late = took
   stays-leaves room m Outside = echo-same 7 NoCall
 
-  acts-leaves : (room source : ℕ) (m : Made) (x : Action) → Refusal (echoIf (starts x (h .state)) (acts room (bare h) source m x))
+  acts-leaves : (room source : ℕ) (m : Made) (x : Action) → Refusal (echoIf (startsAnew x (h .state)) (acts room (bare h) source m x))
   unfolding acts
-  acts-leaves room source m x = go (starts x (h .state))
+  acts-leaves room source m x = go (startsAnew x (h .state))
     where
       go : (t : Bool) → Refusal (echoIf t (pick t (accepted (established (bare h) source m) (startedAs x (h .state)) cookieAckBytes) (stays room (bare h) m x)))
       go true = took
@@ -295,9 +295,9 @@ module _ (h : Head) (held next places nextOut kept area s : List ℕ) where
 
   echo-leaves : (room : ℕ) (e : Echoed) (source : ℕ) → Refusal (echoLeft h held next places nextOut kept area s e (readEcho room (bare h) e source s))
   unfolding readEcho isStarting
-  echo-leaves room e source = go (isOdd (partFrom 4 s .len)) e
+  echo-leaves room e source = go (isCookieOdd (partFrom 4 s .len)) e
     where
-      go : (x : Bool) (e : Echoed) → Refusal (echoIf (pick x false (begins (h .state) (h .ends) e)) (pick x (ending (refused (bare h) 8 NoCall)) (readEchoed room (bare h) source e)))
+      go : (x : Bool) (e : Echoed) → Refusal (echoIf (pick x false (echoBegins (h .state) (h .ends) e)) (pick x (leavingUnread (refused (bare h) 8 NoCall)) (readEchoed room (bare h) source e)))
       go true e = echo-same 8 NoCall
       go false (Good m) = acts-leaves room source m (actionOf (h .state) (h .ends) m)
       go false (Stale m) = echo-same 27 ErrorStale
@@ -367,11 +367,11 @@ pub record RowedLeaves (h : Head) (ws ns ps ms cs bytes : List ℕ) (o : Rowed) 
   pub area : o .area ≡ bytes
   pub written : o .stepped .written ≡ 0
   pub owed : o .stepped .owed ≡ Nothing
-  pub head : o .stepped .head ≡ withKeeping h (o .stepped .head .keeping)
-  pub keeping : (numberOf (o .stepped .fate) ≡ 11 → ⊥) → (numberOf (o .stepped .fate) ≡ 14 → ⊥) → o .stepped .head .keeping ≡ h .keeping
+  pub head : o .stepped .head ≡ headWithKeeping h (o .stepped .head .keeping)
+  pub keeping : (fateNumber (o .stepped .fate) ≡ 11 → ⊥) → (fateNumber (o .stepped .fate) ≡ 14 → ⊥) → o .stepped .head .keeping ≡ h .keeping
 
 pub rowed-leaves : (h : Head) (held next places nextOut kept area s space : List ℕ) (b : Beside) (cookie : List ℕ)
-    → (let o : Rowed = rowed b cookie s h held next places nextOut kept area space in 0 < numberOf (o .stepped .fate) → RowedLeaves h held next places nextOut kept area o)
+    → (let o : Rowed = rowed b cookie s h held next places nextOut kept area space in 0 < fateNumber (o .stepped .fate) → RowedLeaves h held next places nextOut kept area o)
 unfolding rowed
 rowed-leaves h held next places nextOut kept area s space b cookie p =
     let w = row-leaves h held next places nextOut kept area s (length space) b cookie (rowMet (bare h) b s) p in

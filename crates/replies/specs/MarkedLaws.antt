@@ -8,9 +8,9 @@ use Rattle.scans.specs.Each.{All}
 use Rattle.numbers.specs.Profile.{rail}
 use Rattle.path.specs.Sizes.{railSizes}
 use Rattle.sending.specs.Sending.{noPlace}
-use Rattle.sending.specs.Choose.{filled}
+use Rattle.sending.specs.Choose.{packetFilled}
 use Rattle.association.specs.declared.ends.Association.{Association}
-use Rattle.association.specs.KeptLaws.{Kept}
+use Rattle.association.specs.AssociationKeptLaws.{AssociationKept}
 use Rattle.calls.specs.Transmit.{chunkBytes, transmitted, transmittedOut}
 use Rattle.calls.specs.Outcomes.{chosenChunks}
 use Rattle.calls.specs.MarkLaws.{transmit-full}
@@ -26,8 +26,8 @@ some-all g [] w = refl
 some-all g (i ∷ is) w = some-more (g i) (map g is) (w .0) (some-all g is (w .1))
 
 -- in a record within its bounds: none of the places chosen is without bytes, so all their chunks are read back
-pub transmit-carries : (a : Association) (area out : List ℕ) → Kept a → transmitted a area out .number ≡ 0 → 0 < transmitted a area out .length
-    → chunksIn (take (transmitted a area out .length) (transmittedOut a area out)) ≡ chosenChunks area (filled railSizes rail (a .sending))
+pub transmit-carries : (a : Association) (area out : List ℕ) → AssociationKept a → transmitted a area out .number ≡ 0 → 0 < transmitted a area out .length
+    → chunksIn (take (transmitted a area out .length) (transmittedOut a area out)) ≡ chosenChunks area (packetFilled railSizes rail (a .sending))
 transmit-carries a area out k z h =
     transmit-reads a out area h
-    ∙ some-all (λ (i : ℕ). chunkBytes area (getD (filled railSizes rail (a .sending) .sending .places) i noPlace) i) (take (filled railSizes rail (a .sending) .count) (filled railSizes rail (a .sending) .places)) (transmit-full a area out k z)
+    ∙ some-all (λ (i : ℕ). chunkBytes area (getD (packetFilled railSizes rail (a .sending) .sending .places) i noPlace) i) (take (packetFilled railSizes rail (a .sending) .count) (packetFilled railSizes rail (a .sending) .places)) (transmit-full a area out k z)

@@ -12,14 +12,14 @@ use Rattle.numbers.specs.Profile.{rail}
 use Rattle.octets.specs.Bytes.{be32}
 use Rattle.octets.specs.Walk.{size, walk, itemAt, joined, Whole}
 use Rattle.octets.specs.WalkLaws.{walk-on, walk-end}
-use Rattle.octets.specs.Tiling.{joined-end, joined-within, joined-size, joined-next}
+use Rattle.octets.specs.TilingLaws.{joined-end, joined-within, joined-size, joined-next}
 use Rattle.packets.specs.ShapeLaws.{not-alone}
-use Rattle.packets.specs.Body.{Sound}
+use Rattle.packets.specs.Body.{ChunkSound}
 use Rattle.packets.specs.BodyLaws.{data-sound}
-use Rattle.chunks.specs.Cause.{caused, code, information}
+use Rattle.chunks.specs.Cause.{caused, causeCode, information}
 use Rattle.chunks.specs.CauseLaws.{information-small}
 use Rattle.chunks.specs.CookieLaws.{echo-within}
-use Rattle.chunks.specs.DataChunk.{dataFields, flagsOf}
+use Rattle.chunks.specs.DataChunk.{dataFields, dataFlags}
 use Rattle.chunks.specs.Frame.{framed, parameter}
 use Rattle.chunks.specs.FrameLaws.{framed-long, Carried}
 use Rattle.chunks.specs.FrameLaws.Carried.{none, whole}
@@ -27,43 +27,43 @@ use Rattle.chunks.specs.InitChunk.{initFields}
 use Rattle.chunks.specs.SackChunk.{sackFields}
 use Rattle.chunks.specs.SackLaws.{sack-is}
 use Rattle.chunks.specs.declared.data.Data.{Data}
-use Rattle.passing.specs.Passing.{init-passes, sack-long, sack-passes, shutdown-passes, echo-passes, heartbeat-passes, abort-passes, shutdown-ack-passes, error-passes}
+use Rattle.replies.specs.PassingLaws.{init-passes, sack-long, sack-passes, shutdown-passes, echo-passes, heartbeat-passes, abort-passes, shutdown-ack-passes, error-passes}
 use Rattle.path.specs.Sizes.{railSizes}
 use Rattle.places.specs.declared.place.Place.{Place}
 use Rattle.sending.specs.declared.choosing.Chosen.{Chosen}
-use Rattle.sending.specs.Choose.{filled}
+use Rattle.sending.specs.Choose.{packetFilled}
 use Rattle.sending.specs.Sending.{noPlace}
-use Rattle.sending.specs.SizeLaws.{sizeAt}
+use Rattle.sending.specs.SendingSizeLaws.{sizeAt}
 use Rattle.states.specs.declared.call.Call.{Call}
 use Rattle.states.specs.declared.call.Call.the-variants.{FirstTimer, SecondTimer}
 use Rattle.association.specs.declared.ends.Association.{Association}
-use Rattle.arriving.specs.Outcomes.Sealed.{behind}
+use Rattle.arriving.specs.PacketOutcomes.Sealed.{behind}
 use Rattle.calls.specs.declared.closing.Reason.{Reason}
-use Rattle.calls.specs.Answer.{Plan, answerOf, outOf}
-use Rattle.calls.specs.Acknowledging.{acknowledged, acknowledgedOut}
+use Rattle.calls.specs.Answer.{Plan, answerOf, planOut}
+use Rattle.calls.specs.Acknowledging.{acknowledgedCall, acknowledgedOut}
 use Rattle.calls.specs.Opening.{associating}
 use Rattle.calls.specs.Timers.{expiring}
 use Rattle.calls.specs.Closing.{shutting, aborting}
 use Rattle.calls.specs.Telling.{tellingStream, tellingStale, beating}
-use Rattle.calls.specs.Transmit.{dataOf, chunkBytes, transmitted, transmittedOut}
-use Rattle.calls.specs.Outcomes.{Arrays, Carries, Tells, Outgoing, chosenChunks, Bundling}
+use Rattle.calls.specs.Transmit.{dataSent, chunkBytes, transmitted, transmittedOut}
+use Rattle.calls.specs.Outcomes.{Arrays, Carries, Tells, CallSends, chosenChunks, Bundling}
 use Rattle.calls.specs.Outcomes.Carries.{init, cookie-echo, sack, shutdown, shutdown-ack, heartbeat}
 use Rattle.calls.specs.Outcomes.Tells.{abort, error}
-use Rattle.calls.specs.Outcomes.Outgoing.{silent, sends}
+use Rattle.calls.specs.Outcomes.CallSends.{silent, sends}
 use Rattle.calls.specs.Outcomes.Bundling.{nothing, bundle}
 use Rattle.calls.specs.OutcomesLaws.{chunk-carried, refusing-goes, associate-goes, expiry-goes, shutdown-goes, abort-goes, stream-goes, stale-goes, heartbeat-goes, sack-goes, transmit-goes}
 use Rattle.events.specs.declared.event.Event.{Event}
-use Rattle.events.specs.Happening.{Buffers, Left, strayNumber, halves, happened}
+use Rattle.events.specs.Happening.{Buffers, EventLeft, strayNumber, halves, happened}
 use Rattle.events.specs.HappenedLaws.{halves-long, any-keeps, each-event}
-use Rattle.replies.specs.Sent.{longestSent, Passing, chunksIn, someOf, Leaves}
+use Rattle.replies.specs.Sent.{longestSent, Passing, chunksIn, someOf, OutputAfter}
 use Rattle.replies.specs.Sent.Passing.{untouched}
 use Rattle.replies.specs.Reply.{Shared}
-use Rattle.replies.specs.ReplyLaws.{shared-none, shared-one, shared-both, shared-as, sound-packed, shared-packed}
-use Rattle.replies.specs.Passes.{counts, reads-back, sealed-as, arrive-passes}
+use Rattle.replies.specs.ReplyLaws.{shared-none, one-shared, shared-both, shared-as, sound-packed, shared-packed}
+use Rattle.replies.specs.PassesLaws.{seal-counts, reads-back, sealed-as, arrive-passes}
 
 -- ---- a packet of one chunk
 
-carries-sound : {bs : List ℕ} → Carries bs → Sound bs
+carries-sound : {bs : List ℕ} → Carries bs → ChunkSound bs
 carries-sound (init v e) = rw e (init-passes v)
 carries-sound (cookie-echo c l n e) = rw e (echo-passes c l n)
 carries-sound (sack k h g e) = rw e (sack-passes k h g)
@@ -71,9 +71,9 @@ carries-sound (shutdown point e) = rw e (shutdown-passes point)
 carries-sound (shutdown-ack e) = rw e shutdown-ack-passes
 carries-sound (heartbeat v l e) = rw e (heartbeat-passes (parameter 1 v))
 
-tells-sound : {bs : List ℕ} → Tells bs → Sound bs
-tells-sound (abort c e) = rw e (abort-passes 0 (caused (code c) (information c)))
-tells-sound (error c e) = rw e (error-passes (caused (code c) (information c)))
+tells-sound : {bs : List ℕ} → Tells bs → ChunkSound bs
+tells-sound (abort c e) = rw e (abort-passes 0 (caused (causeCode c) (information c)))
+tells-sound (error c e) = rw e (error-passes (caused (causeCode c) (information c)))
 
 -- the longest is a SACK with 64 blocks and 16 duplicates
 carries-small : {bs : List ℕ} → Carries bs → length bs ≤ 336
@@ -85,11 +85,11 @@ carries-small (shutdown-ack e) = omega (arith, ap length e, framed-long 8 0 [])
 carries-small (heartbeat v l e) = omega (arith, ap length e, framed-long 4 0 (parameter 1 v))
 
 tells-small : {bs : List ℕ} → Tells bs → length bs ≤ 336
-tells-small (abort c e) = omega (arith, ap length e, framed-long 6 0 (caused (code c) (information c)), information-small c)
-tells-small (error c e) = omega (arith, ap length e, framed-long 9 0 (caused (code c) (information c)), information-small c)
+tells-small (abort c e) = omega (arith, ap length e, framed-long 6 0 (caused (causeCode c) (information c)), information-small c)
+tells-small (error c e) = omega (arith, ap length e, framed-long 9 0 (caused (causeCode c) (information c)), information-small c)
 
-module _ (C : List ℕ → Type 0) (sound : (bs : List ℕ) → C bs → Sound bs) (small : (bs : List ℕ) → C bs → length bs ≤ 336) where
-  outgoing-passes : {out : List ℕ} {n : ℕ} {exit : List ℕ} → Outgoing C out n exit → Passing longestSent out n exit
+module _ (C : List ℕ → Type 0) (sound : (bs : List ℕ) → C bs → ChunkSound bs) (small : (bs : List ℕ) → C bs → length bs ≤ 336) where
+  outgoing-passes : {out : List ℕ} {n : ℕ} {exit : List ℕ} → CallSends C out n exit → Passing longestSent out n exit
   outgoing-passes (silent e d) = untouched e d
   outgoing-passes (sends bs c m f) =
       let x = sound bs c in
@@ -97,29 +97,29 @@ module _ (C : List ℕ → Type 0) (sound : (bs : List ℕ) → C bs → Sound b
       let w = f (omega (arith, s)) in
       sealed-as (sound-packed x) (omega (arith, s)) (omega (arith, s)) m (behind (w .header) (λ z. omega (arith, z, x .whole .some)) (w .count) (w .bytes))
 
-carried-passes : {out : List ℕ} {n : ℕ} {exit : List ℕ} → Outgoing Carries out n exit → Passing longestSent out n exit
+carried-passes : {out : List ℕ} {n : ℕ} {exit : List ℕ} → CallSends Carries out n exit → Passing longestSent out n exit
 carried-passes w = outgoing-passes Carries (λ bs c. carries-sound c) (λ bs c. carries-small c) w
 
-told-passes : {out : List ℕ} {n : ℕ} {exit : List ℕ} → Outgoing Tells out n exit → Passing longestSent out n exit
+told-passes : {out : List ℕ} {n : ℕ} {exit : List ℕ} → CallSends Tells out n exit → Passing longestSent out n exit
 told-passes w = outgoing-passes Tells (λ bs c. tells-sound c) (λ bs c. tells-small c) w
 
 -- ---- a packet of DATA
 
-data-share : {p bs x : List ℕ} (d : Data) → bs ≡ framed 0 (flagsOf d) (dataFields d ++ p) → Carried 512 p bs x → Shared x
+data-share : {p bs x : List ℕ} (d : Data) → bs ≡ framed 0 (dataFlags d) (dataFields d ++ p) → Carried 512 p bs x → Shared x
 data-share d q (none e) = shared-as e shared-none
 data-share {p} {bs} {x} d q (whole l n e) =
     shared-as (e ∙ q)
-    (shared-one
+    (one-shared
     (record {
-      sound = data-sound (flagsOf d) (dataFields d ++ p) (omega arith);
-      beside = not-alone (framed 0 (flagsOf d) (dataFields d ++ p)) (λ z. omega (arith, z)) (λ z. omega (arith, z)) (λ z. omega (arith, z));
+      sound = data-sound (dataFlags d) (dataFields d ++ p) (omega arith);
+      beside = not-alone (framed 0 (dataFlags d) (dataFields d ++ p)) (λ z. omega (arith, z)) (λ z. omega (arith, z)) (λ z. omega (arith, z));
     }))
 
 data-shares : (area : List ℕ) (ps : List Place) (is : List ℕ) → All (λ (i : ℕ). sizeAt ps i ≤ 536) is → Shared (joined (map (λ (i : ℕ). chunkBytes area (getD ps i noPlace) i) is))
 data-shares area ps [] w = shared-none
 data-shares area ps (i ∷ is) w =
     let p = getD ps i noPlace in
-    shared-both (data-share (dataOf (p .chunk)) refl (chunk-carried area p i (w .0))) (data-shares area ps is (w .1))
+    shared-both (data-share (dataSent (p .chunk)) refl (chunk-carried area p i (w .0))) (data-shares area ps is (w .1))
 
 bundling-passes : {area out exit : List ℕ} {f : Chosen} {n : ℕ} → Bundling area f out n exit → Passing longestSent out n exit
 bundling-passes (nothing e d) = untouched e d
@@ -140,16 +140,16 @@ items-joined (c ∷ cs) s at w e =
     let more : map (itemAt s) (walk s (at + size (drop at s))) ≡ cs = items-joined cs s (at + size (drop at s)) (w .1) (joined-next c cs s at (w .0) e) in
     ap (λ (l : List ℕ). map (itemAt s) l) (walk-on s at (joined-within c cs s at (w .0) e)) ∙ (λ i. one i ∷ more i)
 
-some-whole : {p bs : List ℕ} (d : Data) → bs ≡ framed 0 (flagsOf d) (dataFields d ++ p) → (x : List ℕ) (cs : List (List ℕ)) → Carried 512 p bs x → All Whole (someOf cs) → All Whole (someOf (x ∷ cs))
+some-whole : {p bs : List ℕ} (d : Data) → bs ≡ framed 0 (dataFlags d) (dataFields d ++ p) → (x : List ℕ) (cs : List (List ℕ)) → Carried 512 p bs x → All Whole (someOf cs) → All Whole (someOf (x ∷ cs))
 some-whole d q [] cs c w = w
 some-whole d q (b ∷ x) cs (none e) w = absurd (omega (arith, ap length e))
-some-whole {p} d q (b ∷ x) cs (whole l n e) w = (subst Whole (sym (e ∙ q)) (data-sound (flagsOf d) (dataFields d ++ p) (omega arith) .whole), w)
+some-whole {p} d q (b ∷ x) cs (whole l n e) w = (subst Whole (sym (e ∙ q)) (data-sound (dataFlags d) (dataFields d ++ p) (omega arith) .whole), w)
 
 data-whole : (area : List ℕ) (ps : List Place) (is : List ℕ) → All (λ (i : ℕ). sizeAt ps i ≤ 536) is → All Whole (someOf (map (λ (i : ℕ). chunkBytes area (getD ps i noPlace) i) is))
 data-whole area ps [] w = tt
 data-whole area ps (i ∷ is) w =
     let p = getD ps i noPlace in
-    some-whole (dataOf (p .chunk)) refl (chunkBytes area p i) (map (λ (j : ℕ). chunkBytes area (getD ps j noPlace) j) is) (chunk-carried area p i (w .0)) (data-whole area ps is (w .1))
+    some-whole (dataSent (p .chunk)) refl (chunkBytes area p i) (map (λ (j : ℕ). chunkBytes area (getD ps j noPlace) j) is) (chunk-carried area p i (w .0)) (data-whole area ps is (w .1))
 
 bundling-reads : {area out exit : List ℕ} {f : Chosen} {n : ℕ} → Bundling area f out n exit → 0 < n → chunksIn (take n exit) ≡ someOf (chosenChunks area f)
 bundling-reads (nothing e d) h = absurd (omega arith)
@@ -157,7 +157,7 @@ bundling-reads {area} {out} {exit} {f} {n} (bundle m each some l w) h =
     let cs : List (List ℕ) = chosenChunks area f in
     let v = shared-packed (data-shares area (f .sending .places) (take (f .count) (f .places)) each) in
     let s : length (joined cs) ≤ 1460 = omega (arith, l) in
-    let k : n ≡ 12 + length (joined cs) = w .count ∙ sym (counts (w .header) (joined cs) out v s some m) in
+    let k : n ≡ 12 + length (joined cs) = w .count ∙ sym (seal-counts (w .header) (joined cs) out v s some m) in
     let b : drop 12 (take n exit) ≡ joined cs = (λ i. drop 12 (take (k i) (w .bytes i))) ∙ reads-back (w .header) (joined cs) out v s some m in
     items-joined (someOf cs) (take n exit) 12 (data-whole area (f .sending .places) (take (f .count) (f .places)) each) (b ∙ sym (joined-some cs))
 
@@ -165,33 +165,33 @@ bundling-reads {area} {out} {exit} {f} {n} (bundle m each some l w) h =
 
 module _ (a : Association) (out : List ℕ) where
   -- what a plan sends
-  abbrev pub Passes : Plan → Type 0
-  Passes p = Passing longestSent out (answerOf p out .length) (outOf p out)
+  abbrev pub PlanPasses : Plan → Type 0
+  PlanPasses p = Passing longestSent out (answerOf p out .length) (planOut p out)
 
-  pub associate-passes : (tag : ℕ) (tsn : Tsn) (port streams : ℕ) → Passes (associating a tag tsn port streams out)
+  pub associate-passes : (tag : ℕ) (tsn : Tsn) (port streams : ℕ) → PlanPasses (associating a tag tsn port streams out)
   associate-passes tag tsn port streams = carried-passes (associate-goes a out tag tsn port streams)
 
   -- T1 and T2
-  pub expiry-passes : Arrays a → (call : Call) → Passes (expiring a call out)
+  pub expiry-passes : Arrays a → (call : Call) → PlanPasses (expiring a call out)
   expiry-passes w call = carried-passes (expiry-goes a out w call)
 
-  pub shutdown-passes-on : Passes (shutting a out)
+  pub shutdown-passes-on : PlanPasses (shutting a out)
   shutdown-passes-on = carried-passes (shutdown-goes a out)
 
-  pub aborting-passes : (why : Reason) → Passes (aborting a why out)
+  pub aborting-passes : (why : Reason) → PlanPasses (aborting a why out)
   aborting-passes why = told-passes (abort-goes a out why)
 
-  pub stream-passes : (stream : StreamId) → Passes (tellingStream a stream out)
+  pub stream-passes : (stream : StreamId) → PlanPasses (tellingStream a stream out)
   stream-passes stream = told-passes (stream-goes a out stream)
 
-  pub stale-passes : (port tag late : ℕ) → Passes (tellingStale a port tag late out)
+  pub stale-passes : (port tag late : ℕ) → PlanPasses (tellingStale a port tag late out)
   stale-passes port tag late = told-passes (stale-goes a out port tag late)
 
   -- a value of eight bytes, as the call's type has it
-  pub beating-passes : (value : List ℕ) → length value ≡ 8 → Passes (beating a value out)
+  pub beating-passes : (value : List ℕ) → length value ≡ 8 → PlanPasses (beating a value out)
   beating-passes value l = carried-passes (heartbeat-goes a out value l)
 
-  pub acknowledging-passes : Arrays a → Passing longestSent out (acknowledged a out .length) (acknowledgedOut a out)
+  pub acknowledging-passes : Arrays a → Passing longestSent out (acknowledgedCall a out .length) (acknowledgedOut a out)
   acknowledging-passes w = carried-passes (sack-goes a out w)
 
   pub transmit-passes : (area : List ℕ) → Passing longestSent out (transmitted a area out .length) (transmittedOut a area out)
@@ -199,14 +199,14 @@ module _ (a : Association) (out : List ℕ) where
 
   -- the walk over a packet of DATA gives the chunks of the places chosen, each with its payload, in the order of choice
   pub transmit-reads : (area : List ℕ) → 0 < transmitted a area out .length
-      → chunksIn (take (transmitted a area out .length) (transmittedOut a area out)) ≡ someOf (chosenChunks area (filled railSizes rail (a .sending)))
+      → chunksIn (take (transmitted a area out .length) (transmittedOut a area out)) ≡ someOf (chosenChunks area (packetFilled railSizes rail (a .sending)))
   transmit-reads area h = bundling-reads (transmit-goes a area out) h
 
 -- ---- any event
 
-pub event-leaves : (a : Association) → Arrays a → (v : Event) (b : Buffers) → Leaves v (b .out) (happened a v b .ran .told .length) (happened a v b .out)
+pub event-leaves : (a : Association) → Arrays a → (v : Event) (b : Buffers) → OutputAfter v (b .out) (happened a v b .ran .told .length) (happened a v b .out)
 event-leaves a w v b =
-    each-event a b (λ (u : Event) (x : Left). Leaves u (b .out) (x .ran .told .length) (x .out))
+    each-event a b (λ (u : Event) (x : EventLeft). OutputAfter u (b .out) (x .ran .told .length) (x .out))
     (record {
       packet = λ l e. arrive-passes a (b .received) (b .input) l (b .cookie) e (b .out);
       associate = λ tag tsn port streams. associate-passes a (b .out) tag tsn port streams;
@@ -219,7 +219,7 @@ event-leaves a w v b =
       t3 = refl;
       shutdown = shutdown-passes-on a (b .out);
       abort = λ why. aborting-passes a (b .out) why;
-      error-stream = λ stream. any-keeps (Passes a (b .out)) a stream (b .out) (stream-passes a (b .out) (record { 0 = stream })) (carried-passes (refusing-goes a (b .out) Carries (strayNumber a (b .out))));
+      error-stream = λ stream. any-keeps (PlanPasses a (b .out)) a stream (b .out) (stream-passes a (b .out) (record { 0 = stream })) (carried-passes (refusing-goes a (b .out) Carries (strayNumber a (b .out))));
       error-stale = λ port tag late. stale-passes a (b .out) port tag late;
       heartbeat = λ x y. beating-passes a (b .out) (halves x y) (halves-long x y);
       sample = λ ms. refl;

@@ -14,11 +14,11 @@ use Rattle.octets.specs.BytesLaws.{zeros-long}
 use Rattle.octets.specs.WalkLaws.{over-end}
 use Rattle.chunks.specs.Frame.{framed, parameter, partFrom, bytesIn, weight}
 use Rattle.chunks.specs.FrameLaws.{framed-long}
-use Rattle.chunks.specs.Back.{framed-length, from-is}
-use Rattle.chunks.specs.Again.{Taken, two-again, four-again, join, data-again, sack-again}
-use Rattle.chunks.specs.RoundTrips.{init-back, point-back}
+use Rattle.chunks.specs.BackLaws.{framed-length, from-is}
+use Rattle.chunks.specs.AgainLaws.{SackTaken, two-again, four-again, join, data-again, sack-again}
+use Rattle.chunks.specs.ChunkRoundTripLaws.{init-back, point-back}
 use Rattle.chunks.specs.InitChunk.{initOf, initFields}
-use Rattle.chunks.specs.SackChunk.{sackOf, repeatOf, blocksIn, sackBytes}
+use Rattle.chunks.specs.SackChunk.{sackHeadOf, repeatOf, blocksIn, sackBytes}
 use Rattle.chunks.specs.SackLaws.{counts-are}
 use Rattle.chunks.specs.HeartbeatChunk.{heartbeatBytes}
 use Rattle.chunks.specs.ShutdownChunk.{pointOf, shutdownBytes}
@@ -29,10 +29,10 @@ use Rattle.chunks.specs.declared.sack.SackHead.{SackHead}
 use Rattle.parameters.specs.Parameter.{COOKIE, paramsOf, valueOf}
 use Rattle.parameters.specs.Report.{gatherOne, gatherAll, ROOM, initAckBytes}
 use Rattle.parameters.specs.ReportLaws.{Collected, collected, init-ack-is}
-use Rattle.parameters.specs.Filling.{ack-cookie-bytes}
-use Rattle.parameters.specs.Padding.{params-from}
+use Rattle.parameters.specs.FillingLaws.{ack-cookie-bytes}
+use Rattle.parameters.specs.ParameterPaddingLaws.{params-from}
 use Rattle.packets.specs.Shape.{least}
-use Rattle.packets.specs.ShapeLaws.{accepted, least-four, leasts, counts-fill}
+use Rattle.packets.specs.ShapeLaws.{not-ill-accepted, least-four, leasts, counts-fill}
 use Rattle.round_trips.specs.RoundTrips.{valueIn, reflectedIn, Clean, WrittenClean, chunkIn, repeatsFrom, sackIn, AcceptedAgain}
 
 first-two : (s : List ℕ) → 2 ≤ length s → u8 s 0 ∷ u8 s 1 ∷ [] ≡ take 2 s
@@ -53,7 +53,7 @@ written-clean k f g v w o h =
       octets = o;
       type = refl;
       flags = h;
-      accepted = accepted s (w .fit);
+      accepted = not-ill-accepted s (w .fit);
       room = omega (arith, e, framed-long k f v);
       padding = rw e p;
     }
@@ -161,23 +161,23 @@ repeats-get s i (suc n) (suc j) ts h =
     let z : i + 1 + j ≡ i + suc j = omega arith in
     repeats-get s (i + 1) n j ts (omega arith) ∙ ap (repeatOf s) z
 
-module _ (s : List ℕ) (c : Clean 3 1 s) (all : blocksIn rail s .count ≡ sackOf s .blocks) (h : sackOf s .blocks ≤ 64) (g : sackOf s .repeats ≤ 16) where
+module _ (s : List ℕ) (c : Clean 3 1 s) (all : blocksIn rail s .count ≡ sackHeadOf s .blocks) (h : sackHeadOf s .blocks ≤ 64) (g : sackHeadOf s .repeats ≤ 16) where
   abbrev headed : ℕ → SackHead
-  headed b = record { point = sackOf s .point; window = sackOf s .window; blocks = b; repeats = sackOf s .repeats }
+  headed b = record { point = sackHeadOf s .point; window = sackHeadOf s .window; blocks = b; repeats = sackHeadOf s .repeats }
 
-  taken : Taken s (sackIn s)
+  taken : SackTaken s (sackIn s)
   taken = record {
     head = ap headed all;
     blocks = refl;
     repeats = λ i l.
         let z : 0 + i ≡ i = omega arith in
-        repeats-get s 0 (sackOf s .repeats) i (replicate (16 - sackOf s .repeats) (record { 0 = 0 })) l ∙ ap (repeatOf s) z;
+        repeats-get s 0 (sackHeadOf s .repeats) i (replicate (16 - sackHeadOf s .repeats) (record { 0 = 0 })) l ∙ ap (repeatOf s) z;
   }
 
   counts-again : sackBytes rail (sackIn s) ≡ chunkIn s
   counts-again =
       let e : u16 s 2 ≡ 16 + 4 * (u16 s 12 + u16 s 14) = counts-fill s (c .accepted) (c .type) in
-      let n : u16 s 2 ≡ 16 + 4 * (blocksIn rail s .count + sackOf s .repeats) = omega (arith, all, counts-are s .0, counts-are s .1) in
+      let n : u16 s 2 ≡ 16 + 4 * (blocksIn rail s .count + sackHeadOf s .repeats) = omega (arith, all, counts-are s .0, counts-are s .1) in
       let z : u16 s 2 ≡ up4 (u16 s 2) = omega arith in
       sack-again s (c .octets) (sackIn s) taken (c .type) (no-flag c) (omega (arith, all, h)) g n (c .accepted .within) ∙ ap (λ (j : ℕ). take j s) z
 

@@ -5,3 +5,4 @@ pub mod WrittenLaws
 pub mod AgainLaws
 pub mod PaddingLaws
 pub mod PacketLaws
+pub mod BothWaysLaws

@@ -6,16 +6,16 @@ use native.Mathlib.Omega.{arith}
 use lib.ListN.{length, take, drop}
 use lib.Seq.{take-at, drop-at, drop-drop}
 use Rattle.scans.specs.Each.{All, all-map}
-use Rattle.octets.specs.Walk.{size, walk, itemAt, joined, places, Whole}
-use Rattle.octets.specs.Tiling.{joined-size, joined-next, walk-joined}
-use Rattle.chunks.specs.Back.{Back}
+use Rattle.octets.specs.Walk.{size, walk, itemAt, joined, itemPlaces, Whole}
+use Rattle.octets.specs.TilingLaws.{joined-size, joined-next, walk-joined}
+use Rattle.chunks.specs.BackLaws.{Back}
 use Rattle.packets.specs.Header.{sealBytes}
 use Rattle.packets.specs.HeaderLaws.{header-back, seal-rest}
-use Rattle.packets.specs.Body.{Sound}
+use Rattle.packets.specs.Body.{ChunkSound}
 use Rattle.packets.specs.BodyLaws.{written-passes}
 use Rattle.round_trips.specs.RoundTrips.{ReadThere, PacketRead, PacketBack}
 
-items-joined : (cs : List (List ℕ)) (s : List ℕ) (at : ℕ) → All Whole cs → drop at s ≡ joined cs → map (itemAt s) (places at cs) ≡ cs
+items-joined : (cs : List (List ℕ)) (s : List ℕ) (at : ℕ) → All Whole cs → drop at s ≡ joined cs → map (itemAt s) (itemPlaces at cs) ≡ cs
 items-joined [] s at w e = refl
 items-joined (c ∷ cs) s at w e =
     let z : size (drop at s) ≡ length c = joined-size c cs s at (w .0) e in
@@ -37,7 +37,7 @@ packet-back h n out cs w t l m r e =
     let s : List ℕ = take n (sealBytes h n out) in
     let d : drop 12 s ≡ joined cs = seal-rest h n out (omega arith) r ∙ e in
     let v : All Whole cs = all-map (λ c x. x .whole) cs w in
-    let p : walk s 12 ≡ places 12 cs = walk-joined cs s 12 v d in
+    let p : walk s 12 ≡ itemPlaces 12 cs = walk-joined cs s 12 v d in
     record {
       passes = written-passes h n out cs w t l m r e;
       header = header-back h n out (omega arith) r;

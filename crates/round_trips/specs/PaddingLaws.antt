@@ -12,19 +12,19 @@ use Rattle.octets.specs.Bytes.{u8, u16, up4}
 use Rattle.octets.specs.BytesLaws.{u16-append}
 use Rattle.octets.specs.Walk.{size, walk}
 use Rattle.octets.specs.WalkLaws.{size-is, size-least, walk-all, walk-end, walk-on}
-use Rattle.chunks.specs.Frame.{ended, partFrom, bytesIn}
-use Rattle.chunks.specs.Back.{ended-is, from-is}
+use Rattle.chunks.specs.Frame.{chunkEnd, partFrom, bytesIn}
+use Rattle.chunks.specs.BackLaws.{ended-is, from-is}
 use Rattle.chunks.specs.Kind.{kindOf}
-use Rattle.chunks.specs.Following.{data-append, point-append, sack-append, block-append, repeat-append, blocks-append}
-use Rattle.parameters.specs.Padding.{Alike}
-use Rattle.parameters.specs.Following.{part-append, following-alike, stale-alike}
+use Rattle.chunks.specs.FollowingLaws.{data-append, point-append, sack-append, block-append, repeat-append, blocks-append}
+use Rattle.parameters.specs.ParameterPaddingLaws.{InitAlike}
+use Rattle.parameters.specs.ParametersFollowingLaws.{part-append, following-alike, stale-alike}
 use Rattle.packets.specs.Shape.{least, alone, ill, shapeNumber}
-use Rattle.packets.specs.ShapeLaws.{Accepted, accepted, not-ill, shape-sound, shape-together, shape-passes, least-four, leasts, counts-fill, accepted-append, accepted-front, alone-append}
-use Rattle.packets.specs.BodyLaws.{initial}
-use Rattle.packets.specs.Padding.{initial-long}
+use Rattle.packets.specs.ShapeLaws.{Accepted, not-ill-accepted, not-ill, shape-sound, shape-together, shape-passes, least-four, leasts, counts-fill, accepted-append, accepted-front, alone-append}
+use Rattle.packets.specs.BodyLaws.{isInitial}
+use Rattle.packets.specs.PacketPaddingLaws.{initial-long}
 use Rattle.round_trips.specs.RoundTrips.{own, ReadAlike, PaddingIgnored, ButPadding, PacketAlike, PacketPadding}
 
-alike-both : {c s t : List ℕ} → Alike c s → Alike c t → Alike s t
+alike-both : {c s t : List ℕ} → InitAlike c s → InitAlike c t → InitAlike s t
 alike-both x y = record {
   fields = y .fields ∙ sym (x .fields);
   each = y .each ∙ sym (x .each);
@@ -58,10 +58,10 @@ module _ (c : List ℕ) (a : Accepted c) (e : u16 c 2 ≡ length c) where
     flags-same : u8 (c ++ r) 1 ≡ u8 c 1
     flags-same = List·getD-append c r 0 1 (omega (arith, four))
 
-    ended-same : ended (c ++ r) ≡ length c
+    ended-same : chunkEnd (c ++ r) ≡ length c
     ended-same = ended-is (c ++ r) (length c) said within
 
-    bytes-same : take (ended (c ++ r)) (c ++ r) ≡ c
+    bytes-same : take (chunkEnd (c ++ r)) (c ++ r) ≡ c
     bytes-same = ap (λ (n : ℕ). take n (c ++ r)) ended-same ∙ take-at c r (length c) refl
 
     part-same : (k : ℕ) → k ≤ length c → partFrom k (c ++ r) ≡ record { at = k; len = length c - k }
@@ -84,7 +84,7 @@ module _ (c : List ℕ) (a : Accepted c) (e : u16 c 2 ≡ length c) where
         let l : 16 ≤ length c = long 0 16 (sym (kind-same r) ∙ k) (ap (λ (x : List ℕ). getD x 0 0) leasts) in
         data-append c q l ∙ sym (data-append c r l);
     of-init = λ k.
-        let l : 20 ≤ length c = omega (arith, initial-long c a (ap initial (sym (kind-same r)) ∙ k), e) in
+        let l : 20 ≤ length c = omega (arith, initial-long c a (ap isInitial (sym (kind-same r)) ∙ k), e) in
         alike-both (following-alike c r l e) (following-alike c q l e);
     of-sack = λ k.
         let n : u16 c 2 ≡ 16 + 4 * (u16 c 12 + u16 c 14) = counts-fill c a (sym (kind-same r) ∙ k) in
@@ -168,7 +168,7 @@ module _ (s t : List ℕ) (z : shapeNumber s ≡ 0) (b : ButPadding s t) where
   Unpadded k = own (drop k t) ≡ own (drop k s)
 
   fit : All Passing (walk s 12)
-  fit = all-map (λ k e. accepted (drop k s) e) (walk s 12) (shape-sound s z)
+  fit = all-map (λ k e. not-ill-accepted (drop k s) e) (walk s 12) (shape-sound s z)
 
   places-same : walk t 12 ≡ walk s 12
   places-same =

@@ -1,7 +1,7 @@
 -- Each promise leaves one outcome: two results, and two contents of a lent buffer, that a contract allows are equal. Assumes nothing.
 use mathlib.Core.Path.{_≡_, sym, ap, _∙_}
 use denote.Ref.{now}
-use Rattle.rows.specs.Rows.{Rowed}
+use Rattle.rows.specs.TableRows.{Rowed}
 use Rattle.rows.proofs.stepped.Stepped.accepted.Reads as accepted-reads
 use Rattle.rows.proofs.stepped.Stepped.answering.Reads as answering-reads
 use Rattle.rows.proofs.stepped.Stepped.owing.Reads as owing-reads

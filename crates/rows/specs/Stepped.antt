@@ -4,13 +4,13 @@ use mathlib.Core.Bool.{true}
 use mathlib.Core.List.{List}
 use Rattle.octets.specs.Writing.{wroteCount}
 use Rattle.steps.specs.Verdict.{Step}
-use Rattle.flat.specs.Shown.{headOf}
+use Rattle.flat.specs.Shown.{associationHead}
 use Rattle.rows.specs.declared.stepped.Stepped.{Stepped}
 
 -- a step with so many bytes written of its reply
 abbrev pub steppedWith : ℕ → Step → Stepped
 steppedWith n d = record {
-  head = headOf (d .association);
+  head = associationHead (d .association);
   fate = d .fate;
   named = d .named;
   event = d .event;

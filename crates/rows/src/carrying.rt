@@ -13,11 +13,11 @@ ghost use mathlib.Core.Path.{_≡_};
 ghost use mathlib.Core.List.{[]};
 ghost use Rattle.numbers.specs.Profile.{rail};
 ghost use Rattle.octets.specs.Writing.{wroteBytes};
-ghost use Rattle.reception.specs.Reception.{seen};
+ghost use Rattle.reception.specs.Reception.{receivingShown};
 ghost use Rattle.steps.specs.Carrying.{dataRead, shutdownOwed, shutdownAcked, areaIn, sackRead, isLast, echoHeartbeat, clearTries};
 ghost use Rattle.flat.specs.Shown.{bare};
 ghost use Rattle.rows.specs.Stepped.{steppedWith, steppedIn};
-ghost use Rattle.rows.specs.Rows.{heardData, heldHeard, arrivalWith, heldBy, areaBy, readDataBy, readLateDataBy, heardSack, placesSacked, answerWith, readSackBy, readSackPendingBy, readSackReceivedBy};
+ghost use Rattle.rows.specs.TableRows.{heardData, heldHeard, arrivalWith, heldBy, areaBy, readDataBy, readLateDataBy, sackHeard, placesSacked, answerWith, readSackBy, readSackPendingBy, readSackReceivedBy};
 
 // The receiver's answer to a DATA chunk.
 pub fn hear_data(
@@ -28,9 +28,9 @@ pub fn hear_data(
     area: &mut [u8],
     s: &[u8],
 ) -> Arrived
-    ensures { λ r. ⌜ (r ≡ heardData (seen rail keeping (now (held .entry)) (now («next_in» .entry))) streams (now (s .entry)))
-        × (now (held .exit) ≡ heldHeard (seen rail keeping (now (held .entry)) (now («next_in» .entry))) streams (now (held .entry)) (now (s .entry)))
-        × (now (area .exit) ≡ areaIn (seen rail keeping (now (held .entry)) (now («next_in» .entry))) streams (now (area .entry)) (now (s .entry))) ⌝ }
+    ensures { λ r. ⌜ (r ≡ heardData (receivingShown rail keeping (now (held .entry)) (now («next_in» .entry))) streams (now (s .entry)))
+        × (now (held .exit) ≡ heldHeard (receivingShown rail keeping (now (held .entry)) (now («next_in» .entry))) streams (now (held .entry)) (now (s .entry)))
+        × (now (area .exit) ≡ areaIn (receivingShown rail keeping (now (held .entry)) (now («next_in» .entry))) streams (now (area .entry)) (now (s .entry))) ⌝ }
 {
     let c = carrying::chunk_of(s);
     let p = chunks::data::payload(s);
@@ -111,7 +111,7 @@ pub fn read_late_data(
 
 // The sender's answer to a SACK.
 pub fn hear_sack(sender: Sender, places: &mut [u32; 1024], s: &[u8]) -> Acked
-    ensures { λ r. ⌜ (r ≡ heardSack sender (now (places .entry)) (now (s .entry))) × (now (places .exit) ≡ placesSacked sender (now (places .entry)) (now (s .entry))) ⌝ }
+    ensures { λ r. ⌜ (r ≡ sackHeard sender (now (places .entry)) (now (s .entry))) × (now (places .exit) ≡ placesSacked sender (now (places .entry)) (now (s .entry))) ⌝ }
 {
     let h = chunks::sack::read_sack(s);
     let b = carrying::blocks_of(s);

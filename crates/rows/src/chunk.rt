@@ -12,7 +12,7 @@ use steps::Beside;
 use steps::Event;
 use steps::Named;
 ghost use mathlib.Core.Path.{_≡_};
-ghost use Rattle.rows.specs.Rows.{rowedOf, rowed};
+ghost use Rattle.rows.specs.TableRows.{rowedOf, rowed};
 
 // The chunk at the head of `s`; its reply goes to the head of `space`.
 pub fn step(

@@ -16,7 +16,7 @@ ghost use Rattle.states.specs.declared.state.State.the-variants.{ShutdownAckSen
 ghost use Rattle.steps.specs.Closing.{becomeClosed, readError, reflectComplete, sendComplete, becomeComplete};
 ghost use Rattle.flat.specs.Shown.{bare};
 ghost use Rattle.rows.specs.Stepped.{steppedWith, steppedIn};
-ghost use Rattle.rows.specs.Rows.{heardPoint, placesShut, readShutdownBy, answerShutdownBy};
+ghost use Rattle.rows.specs.TableRows.{heardPoint, placesShut, readShutdownBy, answerShutdownBy};
 
 // An ABORT: closed at once, and the rest of the packet is unread.
 pub fn become_closed(head: Head) -> Stepped

@@ -21,11 +21,11 @@ ghost use Prim.Native.Nat.{_≤_};
 ghost use lib.ListN.{length, replicate};
 ghost use Rattle.octets.specs.Writing.{wroteBytes};
 ghost use Rattle.steps.specs.declared.meeting.Action.the-variants.{Restart};
-ghost use Rattle.steps.specs.Opening.{answerInit, kept as keptOf, echoing, echoedBack, takeInitAck, established};
-ghost use Rattle.steps.specs.Meeting.{offered, repeatAck, starts, withPeerTag, stays, acts, readEcho};
-ghost use Rattle.flat.specs.Shown.{cookieOf, bare, headOf};
+ghost use Rattle.steps.specs.Opening.{answerInit, keptCookie, echoing, echoedBack, takeInitAck, established};
+ghost use Rattle.steps.specs.Meeting.{offered, repeatAck, startsAnew, withPeerTag, stays, acts, readEcho};
+ghost use Rattle.flat.specs.Shown.{cookieShown, bare, associationHead};
 ghost use Rattle.rows.specs.Stepped.{steppedIn};
-ghost use Rattle.rows.specs.Rows.{isTaken, isStarting, clearedIf, keptIf};
+ghost use Rattle.rows.specs.TableRows.{isTaken, isStarting, clearedIf, keptIf};
 
 // An INIT, with what our INIT ACK says of us.
 fn answer_with(head: Head, lent: Lent, cookie: &[u8], s: &[u8], space: &mut [u8]) -> Stepped
@@ -81,7 +81,7 @@ pub fn repeat_ack(head: Head, s: &[u8], space: &mut [u8]) -> Stepped
 // The cookie, for T1's resends, with zeros behind it; the answer is its length.
 fn keep(kept: &mut [u8; 256], cookie: &[u8]) -> u16
     requires { ⌜ length (now cookie) ≤ 256 ⌝ }
-    ensures { λ r. ⌜ (r ≡ length (now (cookie .entry))) × (now (kept .exit) ≡ keptOf (now (cookie .entry)) .bytes) ⌝ }
+    ensures { λ r. ⌜ (r ≡ length (now (cookie .entry))) × (now (kept .exit) ≡ keptCookie (now (cookie .entry)) .bytes) ⌝ }
 {
     flat::fresh::clear_cookie(kept);
     octets::put_all(kept, 0, cookie);
@@ -90,7 +90,7 @@ fn keep(kept: &mut [u8; 256], cookie: &[u8]) -> u16
 
 // The head once the INIT ACK is taken in.
 fn echoing(head: Head, v: Init, cookie_len: u16) -> Head
-    ensures { λ r. ⌜ r ≡ headOf (echoing (bare head) v (cookieOf «cookie_len» [])) ⌝ }
+    ensures { λ r. ⌜ r ≡ associationHead (echoing (bare head) v (cookieShown «cookie_len» [])) ⌝ }
 {
     let theirs = v.tsn;
     let keeping = Keeping::fresh(theirs);
@@ -123,7 +123,7 @@ fn echo_back(
     ensures { λ r. ⌜ (r ≡ steppedIn (now (space .entry)) (echoedBack (length (now (space .entry))) (bare head) v (now (cookie .entry)) (now (s .entry))))
         × (now (held .exit) ≡ replicate 512 0)
         × (now («next_in» .exit) ≡ replicate 128 0)
-        × (now (kept .exit) ≡ keptOf (now (cookie .entry)) .bytes)
+        × (now (kept .exit) ≡ keptCookie (now (cookie .entry)) .bytes)
         × (now (space .exit) ≡ wroteBytes (now (space .entry)) (echoedBack (length (now (space .entry))) (bare head) v (now (cookie .entry)) (now (s .entry)) .reply)) ⌝ }
 {
     tables::held::clear(held);
@@ -176,7 +176,7 @@ pub fn take_init_ack(
 }
 
 fn established(head: Head, source: u16, m: Made) -> Head
-    ensures { λ r. ⌜ r ≡ headOf (established (bare head) source m) ⌝ }
+    ensures { λ r. ⌜ r ≡ associationHead (established (bare head) source m) ⌝ }
 {
     let before = head.ends;
     let ends = Ends {
@@ -221,7 +221,7 @@ fn clear(
 
 // The peer's tag alone changes.
 fn retagged(mut head: Head, tag: u32) -> Head
-    ensures { λ r. ⌜ r ≡ headOf (withPeerTag (bare head) tag) ⌝ }
+    ensures { λ r. ⌜ r ≡ associationHead (withPeerTag (bare head) tag) ⌝ }
 {
     let mut ends = head.ends;
     ends.peer_tag = tag;
@@ -271,11 +271,11 @@ fn act(
     space: &mut [u8],
 ) -> Stepped
     ensures { λ r. ⌜ (r ≡ steppedIn (now (space .entry)) (acts (length (now (space .entry))) (bare head) source m action))
-        × (now (held .exit) ≡ clearedIf (starts action (head .state)) 512 (now (held .entry)))
-        × (now («next_in» .exit) ≡ clearedIf (starts action (head .state)) 128 (now («next_in» .entry)))
-        × (now (places .exit) ≡ clearedIf (starts action (head .state)) 1024 (now (places .entry)))
-        × (now («next_out» .exit) ≡ clearedIf (starts action (head .state)) 128 (now («next_out» .entry)))
-        × (now (kept .exit) ≡ clearedIf (starts action (head .state)) 256 (now (kept .entry)))
+        × (now (held .exit) ≡ clearedIf (startsAnew action (head .state)) 512 (now (held .entry)))
+        × (now («next_in» .exit) ≡ clearedIf (startsAnew action (head .state)) 128 (now («next_in» .entry)))
+        × (now (places .exit) ≡ clearedIf (startsAnew action (head .state)) 1024 (now (places .entry)))
+        × (now («next_out» .exit) ≡ clearedIf (startsAnew action (head .state)) 128 (now («next_out» .entry)))
+        × (now (kept .exit) ≡ clearedIf (startsAnew action (head .state)) 256 (now (kept .entry)))
         × (now (space .exit) ≡ wroteBytes (now (space .entry)) (acts (length (now (space .entry))) (bare head) source m action .reply)) ⌝ }
 {
     let state = head.state;

@@ -15,14 +15,14 @@ use Rattle.scans.specs.Scan.{pick, either, Folding}
 use Rattle.scans.specs.Upto.{anyUpto, upto-start, upto-one, upto-end}
 use Rattle.scans.specs.Each.{clash, after-so, pick-self}
 use Rattle.places.specs.declared.place.Place.{Place}
-use Rattle.places.specs.Places.{hasStatus, isSent, weightOf, flightOf, offsetOf}
-use Rattle.places.specs.Laws.{flight-flying, flight-other, status-sent, unsent}
+use Rattle.places.specs.Places.{hasStatus, isSent, weightOf, flightOf, placeOffset}
+use Rattle.places.specs.PlacesLaws.{flight-flying, flight-other, status-sent, unsent}
 use Rattle.sending.specs.Sending.{noPlace}
-use Rattle.sending.specs.Bounds.{isOdd, keyOf, spotOf}
-use Rattle.sending.specs.BoundsLaws.{spot-none, noting}
-use Rattle.sending.specs.Survey.{Surveyed, Surveying, survey-start, survey-free, survey-more, survey-end}
-use Rattle.tables.specs.Place.{placesOf, placeAt}
-use Rattle.tables.specs.PlaceLaws.{places-long}
+use Rattle.sending.specs.SendingBounds.{isPlaceOdd, keyOf, spotOf}
+use Rattle.sending.specs.SendingBoundsLaws.{spot-none, noting}
+use Rattle.sending.specs.SurveyLaws.{Surveyed, Surveying, survey-start, survey-free, survey-more, survey-end}
+use Rattle.tables.specs.PlaceWords.{placesOf, placeAt}
+use Rattle.tables.specs.PlaceWordsLaws.{places-long}
 use Rattle.sender.specs.Seen.{isBlank, blankFor}
 
 -- one, and one more
@@ -58,8 +58,8 @@ blank-eight P ws i e t = go (ltb 120 i) refl (sym e ∙ t)
 blank-free : (p : Place) → isBlank p ≡ true → (p .status ≡ 0) × (p .misses ≡ 0)
 blank-free p e = let f = after-so (eqb (p .status) 0) (eqb (p .misses) 0) e in (eqb-true (p .status) 0 (f .0), eqb-true (p .misses) 0 (f .1))
 
-blank-even : (P : Profile) (p : Place) → isBlank p ≡ true → isOdd P p ≡ false
-unfolding isOdd
+blank-even : (P : Profile) (p : Place) → isBlank p ≡ true → isPlaceOdd P p ≡ false
+unfolding isPlaceOdd
 blank-even P p e = let f = blank-free p e in rw (f .0, f .1)
 
 -- the pass goes over them
@@ -70,7 +70,7 @@ survey-blank P ws {acked} {oldest} {i} {f} {o} {s} {t} {a} {b} zero w l e =
 survey-blank P ws {acked} {oldest} {i} {f} {o} {s} {t} {a} {b} (suc n) w l e =
     let q = after-so (isBlank (placeAt P ws i)) (blankFor P ws (i + 1) n) e in
     let z : i + 1 + n ≡ i + suc n = omega arith in
-    let r : o ≡ either o (isOdd P (placeAt P ws i)) = sym (ap (either o) (blank-even P (placeAt P ws i) (q .0)) ∙ pick-self o) in
+    let r : o ≡ either o (isPlaceOdd P (placeAt P ws i)) = sym (ap (either o) (blank-even P (placeAt P ws i) (q .0)) ∙ pick-self o) in
     subst (λ (k : ℕ). Surveying P acked oldest (placesOf P ws) k f o s t a b) z
     (survey-blank P ws n (survey-free w (omega arith) (blank-free (placeAt P ws i) (q .0) .0) r) (omega arith) (q .1))
 
@@ -112,7 +112,7 @@ flying-flight p e = sym (flight-flying p (eq-eqb (p .status) 2 e))
 flying-sent : (p : Place) → p .status ≡ 2 → isSent p ≡ true
 flying-sent p e = status-sent p (omega arith) (omega arith)
 
-sent-key : (acked : Tsn) (oldest : ℕ) (p : Place) → isSent p ≡ true → offsetOf acked p ≡ keyOf true acked oldest p
+sent-key : (acked : Tsn) (oldest : ℕ) (p : Place) → isSent p ≡ true → placeOffset acked p ≡ keyOf true acked oldest p
 unfolding keyOf
 sent-key acked oldest p e = rw e
 
@@ -148,9 +148,9 @@ unordered {P} {acked} {oldest} {ps} {i} {f} {o} {s} {t} {a} {b} w = record {
 }
 
 module _ {P : Profile} {acked : Tsn} {oldest : ℕ} {ps : List Place} {i flight : ℕ} {odd : Bool} {sent waiting : ℕ} {numbers orders : List Bool}
-    (w : Surveying P acked oldest ps i flight odd sent waiting numbers orders) (h : i < P .places) (p : Place) (e : p ≡ getD ps i noPlace) {o : Bool} (eo : o ≡ either odd (isOdd P p)) where
-  as-read : o ≡ either odd (isOdd P (getD ps i noPlace))
-  as-read = eo ∙ ap (λ (q : Place). either odd (isOdd P q)) e
+    (w : Surveying P acked oldest ps i flight odd sent waiting numbers orders) (h : i < P .places) (p : Place) (e : p ≡ getD ps i noPlace) {o : Bool} (eo : o ≡ either odd (isPlaceOdd P p)) where
+  as-read : o ≡ either odd (isPlaceOdd P (getD ps i noPlace))
+  as-read = eo ∙ ap (λ (q : Place). either odd (isPlaceOdd P q)) e
 
   -- it does not wait
   sends : (p .status ≡ 1 → ⊥) → {f : ℕ} → f ≡ flightOf p → f ≤ 65551 → {s : Bool} → s ≡ isSent p → {j : ℕ} → j ≡ spotOf P (keyOf true acked oldest p)
@@ -160,7 +160,7 @@ module _ {P : Profile} {acked : Tsn} {oldest : ℕ} {ps : List Place} {i flight 
       let k : P .places ≡ spotOf P (keyOf false acked oldest (getD ps i noPlace)) = sym (ap (spotOf P) (ap (keyOf false acked oldest) (sym e) ∙ other-key acked oldest p n) ∙ spot-none P 0 (omega arith)) in
       rw z at (unordered {b = orders} (survey-more w h (ef ∙ ap flightOf e) lf as-read (es ∙ ap isSent e) {t = false} (sym (ap (hasStatus 1) (sym e) ∙ ne-eqb (p .status) 1 n)) (ej ∙ ap (λ (q : Place). spotOf P (keyOf true acked oldest q)) e) k))
 
-  pub survey-flying : p .status ≡ 2 → {f : ℕ} → f ≡ weightOf p → f ≤ 65551 → {j : ℕ} → j ≡ spotOf P (offsetOf acked p)
+  pub survey-flying : p .status ≡ 2 → {f : ℕ} → f ≡ weightOf p → f ≤ 65551 → {j : ℕ} → j ≡ spotOf P (placeOffset acked p)
       → Surveying P acked oldest ps (i + 1) (flight + f) o (sent + 1) waiting (set numbers j true) orders
   survey-flying s ef lf ej =
       sends (λ q. omega arith) (ef ∙ flying-flight p s) lf {s = true} (sym (flying-sent p s)) (ej ∙ ap (spotOf P) (sent-key acked oldest p (flying-sent p s)))

@@ -7,13 +7,13 @@ use Rattle.numbers.specs.Profile.{Profile}
 use Rattle.scans.specs.Scan.{pick}
 use Rattle.places.specs.declared.place.Place.{Place}
 use Rattle.sending.specs.declared.sending.Sending.{Sending}
-use Rattle.tables.specs.Place.{placesOf, placeAt}
+use Rattle.tables.specs.PlaceWords.{placesOf, placeAt}
 use Rattle.tables.specs.Ssns.{ssnsOf}
 use Rattle.sender.specs.declared.Sender.{Sender}
 
 -- head, words of the places, next SSNs
-abbrev pub seen : Profile → Sender → List ℕ → List ℕ → Sending
-seen P h ws ns = record {
+abbrev pub sendingShown : Profile → Sender → List ℕ → List ℕ → Sending
+sendingShown P h ws ns = record {
   acked = h .acked;
   «next_tsn» = h .«next_tsn»;
   advertised = h .advertised;
@@ -25,8 +25,8 @@ seen P h ws ns = record {
 }
 
 -- the head of a sending side
-abbrev pub headOf : Sending → Sender
-headOf s = record { acked = s .acked; «next_tsn» = s .«next_tsn»; advertised = s .advertised; oldest = s .oldest; path = s .path; mode = s .mode }
+abbrev pub senderHead : Sending → Sender
+senderHead s = record { acked = s .acked; «next_tsn» = s .«next_tsn»; advertised = s .advertised; oldest = s .oldest; path = s .path; mode = s .mode }
 
 -- a place that is free and has no misses
 abbrev pub isBlank : Place → Bool

@@ -15,11 +15,11 @@ ghost use lib.Dec.{eqb, ltb};
 ghost use Rattle.scans.specs.Scan.{pick};
 ghost use Rattle.path.specs.Sizes.{railSizes, sizesOf};
 ghost use Rattle.numbers.specs.Profile.{rail};
-ghost use Rattle.sending.specs.Sending.{fresh, roomOf, sampled, doubled, heard};
-ghost use Rattle.sending.specs.Bounds.{hasGap, isBounded, isWithin};
-ghost use Rattle.sending.specs.Survey.{Surveyed};
-ghost use Rattle.tables.specs.Place.{placesOf, placeAt};
-ghost use Rattle.sender.specs.Seen.{seen, headOf, isBlank, blankFor};
+ghost use Rattle.sending.specs.Sending.{freshSending, sentAbovePoint, sendingSampled, sendingBackedOff, sendingHeard};
+ghost use Rattle.sending.specs.SendingBounds.{hasGap, isBounded, isSendingWithin};
+ghost use Rattle.sending.specs.SurveyLaws.{Surveyed};
+ghost use Rattle.tables.specs.PlaceWords.{placesOf, placeAt};
+ghost use Rattle.sender.specs.Seen.{sendingShown, senderHead, isBlank, blankFor};
 
 // Our point, the TSN that is next, the window last advertised, the order of the chunk that waits longest, the path, and the book: 0 RFC 9260,
 // 1 RFC 4960.
@@ -35,7 +35,7 @@ pub struct Sender {
 impl Sender {
     // Nothing waits, and nothing was sent from `start` on.
     pub fn fresh(start: Tsn, advertised: u32, mode: u8) -> Sender
-        ensures { λ r. ⌜ r ≡ headOf (fresh (sizesOf mode) rail start advertised mode) ⌝ }
+        ensures { λ r. ⌜ r ≡ senderHead (freshSending (sizesOf mode) rail start advertised mode) ⌝ }
     {
         let point = start.after(4294967295);
         let path = Path::fresh(mode);
@@ -51,7 +51,7 @@ impl Sender {
 
     // How many TSNs above our point were sent.
     pub fn room(self) -> u32
-        ensures { λ r. ⌜ r ≡ roomOf (seen rail self [] []) ⌝ }
+        ensures { λ r. ⌜ r ≡ sentAbovePoint (sendingShown rail self [] []) ⌝ }
     {
         let d = numbers::keeping::ahead_of(self.acked, self.next_tsn);
         if d < 1 {
@@ -62,7 +62,7 @@ impl Sender {
 
     // A round trip of so many milliseconds was measured.
     pub fn sampled(mut self, sample: u32) -> Sender
-        ensures { λ r. ⌜ r ≡ headOf (sampled railSizes (seen rail self [] []) sample) ⌝ }
+        ensures { λ r. ⌜ r ≡ senderHead (sendingSampled railSizes (sendingShown rail self [] []) sample) ⌝ }
     {
         let p = self.path;
         let q = p.sampled(sample);
@@ -72,7 +72,7 @@ impl Sender {
 
     // T1 or T2 expired: RTO doubled.
     pub fn doubled(mut self) -> Sender
-        ensures { λ r. ⌜ r ≡ headOf (doubled railSizes (seen rail self [] [])) ⌝ }
+        ensures { λ r. ⌜ r ≡ senderHead (sendingBackedOff railSizes (sendingShown rail self [] [])) ⌝ }
     {
         let p = self.path;
         let q = p.doubled();
@@ -82,7 +82,7 @@ impl Sender {
 
     // A HEARTBEAT ACK: T3's tries begin anew.
     pub fn heard(mut self) -> Sender
-        ensures { λ r. ⌜ r ≡ headOf (heard (seen rail self [] [])) ⌝ }
+        ensures { λ r. ⌜ r ≡ senderHead (sendingHeard (sendingShown rail self [] [])) ⌝ }
     {
         let p = self.path;
         let q = p.heard();
@@ -225,7 +225,7 @@ fn is_successive(seen: &[bool; bounds::SPOTS], many: usize, n: u32) -> bool
 
 // Whether path and places are within their bounds, which both books have alike. Where every place is free nothing is noted.
 fn is_bounded(s: Sender, t: &[u32; 1024]) -> bool
-    ensures { λ r. ⌜ ((ns : List ℕ) → r ≡ isBounded railSizes rail (seen rail s (now (t .entry)) ns)) ⌝ }
+    ensures { λ r. ⌜ ((ns : List ℕ) → r ≡ isBounded railSizes rail (sendingShown rail s (now (t .entry)) ns)) ⌝ }
 {
     let p = s.path;
     if p.is_within() {
@@ -257,7 +257,7 @@ fn is_bounded(s: Sender, t: &[u32; 1024]) -> bool
 
 // Whether the sending side is within its bounds, whatever the next SSNs: its mode too is one that there is.
 pub fn is_within(s: Sender, t: &[u32; 1024]) -> bool
-    ensures { λ r. ⌜ ((ns : List ℕ) → r ≡ isWithin railSizes rail (seen rail s (now (t .entry)) ns)) ⌝ }
+    ensures { λ r. ⌜ ((ns : List ℕ) → r ≡ isSendingWithin railSizes rail (sendingShown rail s (now (t .entry)) ns)) ⌝ }
 {
     if BookPath::MODE < s.mode {
         return false;

@@ -19,27 +19,27 @@ use Rattle.places.specs.Places.{being}
 use Rattle.sending.specs.declared.sending.Sending.{Sending}
 use Rattle.sending.specs.declared.choosing.Chosen.{Chosen}
 use Rattle.sending.specs.Sending.{noPlace}
-use Rattle.sending.specs.Choose.{put, again, first, flying, sent, going, filling, begun, filled}
-use Rattle.sending.specs.ChooseLaws.{Ready, going-ready}
+use Rattle.sending.specs.Choose.{put, again, firstSent, flying, sent, going, filling, fillBegun, packetFilled}
+use Rattle.sending.specs.ChooseLaws.{PlaceReady, going-ready}
 
 -- the place that was chosen as the k-th
 abbrev pub chosenAt : Chosen → ℕ → ℕ
 chosenAt f k = getD (f .places) k 0
 
 -- of the places of s, f marks those that it chose as sent, and no other
-pub record Marks (s : Sending) (f : Chosen) : Type 0 where
-  pub ready : (k : ℕ) → k < f .count → Ready (getD (s .places) (chosenAt f k) noPlace)
+pub record PlacesMarked (s : Sending) (f : Chosen) : Type 0 where
+  pub ready : (k : ℕ) → k < f .count → PlaceReady (getD (s .places) (chosenAt f k) noPlace)
   pub sent : (k : ℕ) → k < f .count → getD (f .sending .places) (chosenAt f k) noPlace .status ≡ 2
   pub others : (j : ℕ) → ((k : ℕ) → k < f .count → chosenAt f k ≡ j → ⊥) → getD (f .sending .places) j noPlace ≡ getD (s .places) j noPlace
 
 -- ---- one place
 
-within : (ps : List Place) (i : ℕ) → Ready (getD ps i noPlace) → i < length ps
+within : (ps : List Place) (i : ℕ) → PlaceReady (getD ps i noPlace) → i < length ps
 within [] i r = ⊎-elim (λ (e : _≡_ {A = ℕ} 0 3). absurd (omega (arith, e))) (λ (e : _≡_ {A = ℕ} 0 1). absurd (omega (arith, e))) r
 within (p ∷ ps) zero r = omega arith
 within (p ∷ ps) (suc i) r = omega (arith, within ps i r)
 
-not-sent : (p : Place) → Ready p → p .status ≡ 2 → ⊥
+not-sent : (p : Place) → PlaceReady p → p .status ≡ 2 → ⊥
 not-sent p r e = ⊎-elim (λ (q : p .status ≡ 3). absurd (omega (arith, q, e))) (λ (q : p .status ≡ 1). absurd (omega (arith, q, e))) r
 
 -- the place i outstanding, and every other as it was
@@ -51,7 +51,7 @@ set-sends : (ps : List Place) (i : ℕ) (q : Place) → i < length ps → q .sta
 set-sends ps i q l e = record { one = ap (λ (p : Place). p .status) (getD-set-same ps i q noPlace l) ∙ e; rest = λ j n. getD-set-other ps i j q noPlace n }
 
 sent-sends : (P : Profile) (s : Sending) (i : ℕ) → i < length (s .places) → Sends (s .places) (sent P s i (getD (s .places) i noPlace) .places) i
-unfolding sent again first put
+unfolding sent again firstSent put
 sent-sends P s i l =
     pick-keeps (λ (r : Sending). Sends (s .places) (r .places) i) (eqb (getD (s .places) i noPlace .status) 3) _ _
     (set-sends (s .places) i (being (getD (s .places) i noPlace) 2) l refl)
@@ -62,14 +62,14 @@ sent-sends P s i l =
 -- with room in the list for m more
 record Marking (s : Sending) (m : ℕ) (f : Chosen) : Type 0 where
   pub room : f .count + m ≡ length (f .places)
-  pub marks : Marks s f
+  pub marks : PlacesMarked s f
 
 step-marks : (P : Profile) (s : Sending) (m : ℕ) (f : Chosen) → going f .go ≡ true → Marking s (suc m) f → Marking s m (filling P f (going f .place))
 unfolding filling
 step-marks P s m f g w =
     let i : ℕ = going f .place in
     let ps : List Place = f .sending .places in
-    let r : Ready (getD ps i noPlace) = going-ready f g in
+    let r : PlaceReady (getD ps i noPlace) = going-ready f g in
     let v : Sends ps (sent P (f .sending) i (getD ps i noPlace) .places) i = sent-sends P (f .sending) i (within ps i r) in
     let l : f .count < length (f .places) = omega (arith, w .room) in
     let last : getD (set (f .places) (f .count) i) (f .count) 0 ≡ i = getD-set-same (f .places) (f .count) i 0 l in
@@ -78,7 +78,7 @@ step-marks P s m f g w =
     record {
       room = omega (arith, w .room, length-set (f .places) (f .count) i);
       marks = record {
-        ready = λ k h. by k h (λ (x : ℕ). Ready (getD (s .places) x noPlace)) early last (λ q. w .marks .ready k q) (subst Ready was r);
+        ready = λ k h. by k h (λ (x : ℕ). PlaceReady (getD (s .places) x noPlace)) early last (λ q. w .marks .ready k q) (subst PlaceReady was r);
         sent = λ k h. by k h (λ (x : ℕ). getD (sent P (f .sending) i (getD ps i noPlace) .places) x noPlace .status ≡ 2) early last (λ q. still v (chosenAt f k) (w .marks .sent k q)) (v .one);
         others = λ j n. v .rest j (λ e. n (f .count) (omega arith) (last ∙ sym e)) ∙ w .marks .others j (λ k h e. n k (omega (arith, h)) (early k h ∙ e));
       };
@@ -110,14 +110,14 @@ run-down I Q go step k q (suc n) f h = at (go f) refl (λ e. run-down I Q go ste
     at true e r = r e
     at false e r = q (suc n) f h
 
-begun-marks : (z : Sizes) (s : Sending) → Marking s (z .bundled) (begun z s)
-unfolding begun
+begun-marks : (z : Sizes) (s : Sending) → Marking s (z .bundled) (fillBegun z s)
+unfolding fillBegun
 begun-marks z s = record {
   room = omega (arith, length-replicate {A = ℕ} (z .bundled) 0);
   marks = record { ready = λ k h. absurd (omega (arith, h)); sent = λ k h. absurd (omega (arith, h)); others = λ j n. refl };
 }
 
 -- whatever the record
-pub filled-marks : (z : Sizes) (P : Profile) (s : Sending) → Marks s (filled z P s)
-unfolding filled
-filled-marks z P s = run-down (Marking s) (Marks s) (λ f. going f .go) (λ f. filling P f (going f .place)) (step-marks P s) (λ m f w. w .marks) (z .bundled) (begun z s) (begun-marks z s)
+pub filled-marks : (z : Sizes) (P : Profile) (s : Sending) → PlacesMarked s (packetFilled z P s)
+unfolding packetFilled
+filled-marks z P s = run-down (Marking s) (PlacesMarked s) (λ f. going f .go) (λ f. filling P f (going f .place)) (step-marks P s) (λ m f w. w .marks) (z .bundled) (fillBegun z s) (begun-marks z s)

@@ -25,8 +25,8 @@ use Rattle.steps.specs.Verdict.{Step}
 use Rattle.steps.specs.declared.lent.Made.{Made}
 use Rattle.steps.specs.declared.meeting.Action.{Action}
 use Rattle.steps.specs.declared.meeting.Action.the-variants.{Restart, Retag, Late, Again, Outside}
-use Rattle.steps.specs.Opening.{isPoor, isOdd, isPoorLent, answerInit, established, echoing, echoedBack, takeInitAck}
-use Rattle.steps.specs.Meeting.{offered, repeatAck, actionOf, starts, withPeerTag, stays, acts, readEcho}
+use Rattle.steps.specs.Opening.{isPoor, isCookieOdd, isPoorLent, answerInit, established, echoing, echoedBack, takeInitAck}
+use Rattle.steps.specs.Meeting.{offered, repeatAck, actionOf, startsAnew, withPeerTag, stays, acts, readEcho}
 use Rattle.steps.specs.Carrying.{isKept, arrivalOf, dataRead, readData, readLateData, areaIn, areaData, heardBy, heardSack, isLast, readSack, readSackPending, readSackReceived, echoHeartbeat, clearTries}
 use Rattle.steps.specs.Closing.{readError, heardShutdown, readShutdown, answerShutdown}
 use Rattle.steps.specs.Unknown.{passUnknown, tellUnknown}
@@ -50,13 +50,13 @@ module _ (room : ℕ) (a : Association) (b : Beside) (cookie s : List ℕ) where
   -- a restart keeps to the book of the life before it
   acts-booked : (m : Made) (x : Action) → Booked (acts room a (b .source) m x)
   unfolding acts established
-  acts-booked m x = either (starts x (a .state)) _ _ (fresh-mode _ _ _ _ _) (stays-booked m x)
+  acts-booked m x = either (startsAnew x (a .state)) _ _ (fresh-mode _ _ _ _ _) (stays-booked m x)
 
   echo-booked : (e : Echoed) → Booked (readEcho room a e (b .source) s)
   unfolding readEcho
-  echo-booked (Good m) = either (isOdd (partFrom 4 s .len)) _ _ refl (acts-booked m (actionOf (a .state) (a .ends) m))
-  echo-booked (Stale m) = either (isOdd (partFrom 4 s .len)) _ _ refl refl
-  echo-booked Bad = either (isOdd (partFrom 4 s .len)) _ _ refl refl
+  echo-booked (Good m) = either (isCookieOdd (partFrom 4 s .len)) _ _ refl (acts-booked m (actionOf (a .state) (a .ends) m))
+  echo-booked (Stale m) = either (isCookieOdd (partFrom 4 s .len)) _ _ refl refl
+  echo-booked Bad = either (isCookieOdd (partFrom 4 s .len)) _ _ refl refl
 
   sack-booked : heardSack a s .sending .mode ≡ a .sending .mode
   unfolding heardBy
@@ -82,7 +82,7 @@ module _ (room : ℕ) (a : Association) (b : Beside) (cookie s : List ℕ) where
   unfolding answerInit repeatAck takeInitAck echoedBack echoing dataRead readData readLateData readSack readSackPending readSackReceived echoHeartbeat clearTries readError readShutdown answerShutdown
   row-booked AnswerInit = either (isPoorLent (offered a (b .lent)) (length cookie)) _ _ refl (either (isPoor (initOf s)) _ _ refl (either (isThere NAME s) _ _ refl refl))
   row-booked RepeatAck = either (isPoor (initOf s)) _ _ refl refl
-  row-booked TakeInitAck = either (isPoor (initOf s)) _ _ refl (either (isOdd (valueOf COOKIE 4 s .len)) _ _ refl (either (isThere NAME s) _ _ refl refl))
+  row-booked TakeInitAck = either (isPoor (initOf s)) _ _ refl (either (isCookieOdd (valueOf COOKIE 4 s .len)) _ _ refl (either (isThere NAME s) _ _ refl refl))
   row-booked ReadEcho = echo-booked (b .echoed)
   row-booked ReadLateData = either (isKept (arrivalOf a s .verdict)) _ _ refl refl
   row-booked ReadSackPending = either (isLast (heardSack a s)) _ _ sack-booked sack-booked

@@ -6,6 +6,7 @@ use lib.Dec.{eqb}
 use Rattle.scans.specs.Scan.{pick}
 use Rattle.numbers.specs.declared.circle.Tsn.{Tsn}
 use Rattle.octets.specs.Writing.{bothFitting}
+use Rattle.chunks.specs.Types.{cookieAckType, errorType, cookieShuttingCode}
 use Rattle.chunks.specs.Frame.{framed, partFrom}
 use Rattle.chunks.specs.Cause.{caused}
 use Rattle.chunks.specs.InitChunk.{initOf}
@@ -25,8 +26,8 @@ use Rattle.steps.specs.declared.meeting.Action.the-variants.{Restart, Re
 use Rattle.steps.specs.declared.verdict.Event.{Event}
 use Rattle.steps.specs.declared.verdict.Event.the-variants.{NoEvent, Up, Restarted, Retagged}
 use Rattle.steps.specs.declared.verdict.Named.the-variants.{NoCall, ErrorStale}
-use Rattle.steps.specs.Opening.{isPoor, isOdd, established}
-use Rattle.steps.specs.Verdict.{Step, accepted, refused, ending}
+use Rattle.steps.specs.Opening.{isPoor, isCookieOdd, established}
+use Rattle.steps.specs.Verdict.{Step, accepted, refused, leavingUnread}
 
 -- ---- INIT
 
@@ -71,12 +72,12 @@ actionOf s e m =
 -- "a good echo starts from a fresh record only where it restarts (A) or enters ESTABLISHED" (02, T-08), in the order of the states. In CLOSED there is no
 -- association, so every good echo starts one (section 5.1.5); in SHUTDOWN-ACK-SENT a restart is refused (5.2.4 A); B and D enter ESTABLISHED only from
 -- where an association is being opened, and revive nothing that the host has closed
-abbrev pub starts : Action → State → Bool
-starts Restart = by true true true true true true true false
-starts Retag = by true true true false false false false false
-starts Again = by true true true false false false false false
-starts Late = by true false false false false false false false
-starts Outside = by true false false false false false false false
+abbrev pub startsAnew : Action → State → Bool
+startsAnew Restart = by true true true true true true true false
+startsAnew Retag = by true true true false false false false false
+startsAnew Again = by true true true false false false false false
+startsAnew Late = by true false false false false false false false
+startsAnew Outside = by true false false false false false false false
 
 -- "the delivery of a restart notice" (02, T-08)
 abbrev pub startedAs : Action → State → Event
@@ -105,32 +106,32 @@ withPeerTag a tag = record {
 }
 
 abbrev pub cookieAckBytes : List ℕ
-cookieAckBytes = framed 11 0 []
+cookieAckBytes = framed cookieAckType 0 []
 
 -- ERROR with cause 10, "Cookie Received While Shutting Down" (section 3.3.10.10)
 abbrev pub shuttingBytes : List ℕ
-shuttingBytes = framed 9 0 (caused 10 [])
+shuttingBytes = framed errorType 0 (caused cookieShuttingCode [])
 
 -- where it does not start: what was received stays. What is not acted on leaves the rest of the packet unread, whose tag is not ours; "a case outside A to D
 -- keeps 7" (02, T-08)
 abbrev pub stays : ℕ → Association → Made → Action → Step
-stays room a m Restart = ending (accepted a NoEvent (bothFitting room shutdownAckBytes shuttingBytes))
+stays room a m Restart = leavingUnread (accepted a NoEvent (bothFitting room shutdownAckBytes shuttingBytes))
 stays room a m Retag = accepted (withPeerTag a (m .«peer_tag»)) Retagged cookieAckBytes
 stays room a m Again = accepted a NoEvent cookieAckBytes
-stays room a m Late = ending (accepted a NoEvent [])
-stays room a m Outside = ending (refused a 7 NoCall)
+stays room a m Late = leavingUnread (accepted a NoEvent [])
+stays room a m Outside = leavingUnread (refused a 7 NoCall)
 
 unfoldable pub acts : ℕ → Association → ℕ → Made → Action → Step
 acts room a source m x =
-    pick (starts x (a .state)) (accepted (established a source m) (startedAs x (a .state)) cookieAckBytes) (stays room a m x)
+    pick (startsAnew x (a .state)) (accepted (established a source m) (startedAs x (a .state)) cookieAckBytes) (stays room a m x)
 
 -- 27: "echoed cookie bad or stale"
 abbrev pub readEchoed : ℕ → Association → ℕ → Echoed → Step
 readEchoed room a source (Good m) = acts room a source m (actionOf (a .state) (a .ends) m)
-readEchoed room a source (Stale m) = ending (refused a 27 ErrorStale)
-readEchoed room a source Bad = ending (refused a 27 NoCall)
+readEchoed room a source (Stale m) = leavingUnread (refused a 27 ErrorStale)
+readEchoed room a source Bad = leavingUnread (refused a 27 NoCall)
 
 -- a COOKIE ECHO, first in its packet; refused, it leaves the rest of the packet unread
 unfoldable pub readEcho : ℕ → Association → Echoed → ℕ → List ℕ → Step
 readEcho room a e source s =
-    pick (isOdd (partFrom 4 s .len)) (ending (refused a 8 NoCall)) (readEchoed room a source e)
+    pick (isCookieOdd (partFrom 4 s .len)) (leavingUnread (refused a 8 NoCall)) (readEchoed room a source e)

@@ -16,7 +16,7 @@ use Rattle.chunks.specs.declared.kind.Kind.the-variants as kinds
 use Rattle.chunks.specs.Kind.{kindOf}
 use Rattle.chunks.specs.InitChunk.{initOf}
 use Rattle.parameters.specs.Parameter.{isThere, NAME}
-use Rattle.delivery.specs.Receiving.{fresh}
+use Rattle.delivery.specs.Receiving.{freshReceiving}
 use Rattle.states.specs.declared.state.State.{State}
 use Rattle.states.specs.declared.rows.Met.{Met}
 use Rattle.states.specs.Calls.{knowsPeer}
@@ -34,24 +34,24 @@ use Rattle.steps.specs.declared.lent.Echoed.{Echoed}
 use Rattle.steps.specs.declared.lent.Echoed.the-variants.{Stale, Good}
 use Rattle.steps.specs.declared.meeting.Action.{Action}
 use Rattle.steps.specs.declared.meeting.Action.the-variants.{Restart, Retag, Late, Again, Outside}
-use Rattle.steps.specs.Verdict.{Step, numberOf}
+use Rattle.steps.specs.Verdict.{Step, fateNumber}
 use Rattle.steps.specs.Lent.{isMade, heeded}
 use Rattle.steps.specs.Opening.{isPoor, isPoorLent, answerInit, madeEnds, established}
-use Rattle.steps.specs.Meeting.{offered, repeatAck, isUntied, isTied, actionOf, starts, withPeerTag, acts}
+use Rattle.steps.specs.Meeting.{offered, repeatAck, isUntied, isTied, actionOf, startsAnew, withPeerTag, acts}
 use Rattle.steps.specs.Steps.{rowStep, metBy, stepOf}
-use Rattle.steps.specs.Table12.{Mark, tagMark, peerMark, tieMark, marks, table, lookedUp, found}
+use Rattle.steps.specs.Table12.{Mark, tagMark, peerMark, tieMark, marks, table12, lookedUp, tagsFound}
 
 -- ---- the table
 
 -- the nested tests say what the RFC's own picture says, for every record and every cookie
-pub table-12 : (s : State) (e : Ends) (m : Made) → lookedUp table (found s e m) ≡ actionOf s e m
+pub table-12 : (s : State) (e : Ends) (m : Made) → lookedUp table12 (tagsFound s e m) ≡ actionOf s e m
 unfolding actionOf
 table-12 s e m =
     go (eqb (m .«my_tag») (e .«my_tag»)) (knowsPeer s) (eqb (m .«peer_tag») (e .«peer_tag»))
     (eqb (m .«my_tie») 0) (eqb (m .«my_tie») (e .«my_tag»)) (eqb (m .«peer_tie») 0) (eqb (m .«peer_tie») (e .«peer_tag»))
   where
     go : (mine known theirs noTie tie noPeerTie peerTie : Bool)
-        → lookedUp table (marks (tagMark mine) (peerMark known theirs) (tieMark noTie tie) (tieMark noPeerTie peerTie))
+        → lookedUp table12 (marks (tagMark mine) (peerMark known theirs) (tieMark noTie tie) (tieMark noPeerTie peerTie))
         ≡ pick mine (pick known (pick theirs Again Retag) Retag)
         (pick known (pick theirs (pick (pick noTie noPeerTie false) Late Outside) (pick (pick (pick noTie false tie) (pick noPeerTie false peerTie) false) Restart Outside)) Outside)
     go true true true a b c d = refl
@@ -117,13 +117,13 @@ restart-tag s e m = go (eqb (m .«my_tag») (e .«my_tag»)) (knowsPeer s) (eqb 
 
 module _ (room : ℕ) (a : Association) (source : ℕ) (m : Made) where
   -- where a good echo starts, nothing of the record is left but our port and the book that we keep to
-  pub start-fresh : (x : Action) → starts x (a .state) ≡ true
+  pub start-fresh : (x : Action) → startsAnew x (a .state) ≡ true
       → acts room a source m x .association ≡ started Established (madeEnds m (a .ends .«local_port») source) (m .«my_tsn») (m .window) (m .«peer_tsn») (a .sending .mode)
   unfolding acts established
   start-fresh x q = rw q refl
 
   -- so after a restart all that was received is gone
-  pub restart-fresh : starts Restart (a .state) ≡ true → acts room a source m Restart .association .receiving ≡ fresh (ring (2 ^ 32)) rail (m .«peer_tsn»)
+  pub restart-fresh : startsAnew Restart (a .state) ≡ true → acts room a source m Restart .association .receiving ≡ freshReceiving (ring (2 ^ 32)) rail (m .«peer_tsn»)
   restart-fresh q = ap (λ (b : Association). b .receiving) (start-fresh Restart q)
 
   -- elsewhere what was received stays: B changes the peer's tag, all else nothing
@@ -134,7 +134,7 @@ module _ (room : ℕ) (a : Association) (source : ℕ) (m : Made) where
   stayed Late = a
   stayed Outside = a
 
-  pub echo-stays : (x : Action) → starts x (a .state) ≡ false → acts room a source m x .association ≡ stayed x
+  pub echo-stays : (x : Action) → startsAnew x (a .state) ≡ false → acts room a source m x .association ≡ stayed x
   unfolding acts
   echo-stays Restart q = rw q refl
   echo-stays Retag q = rw q refl
@@ -146,7 +146,7 @@ module _ (room : ℕ) (a : Association) (source : ℕ) (m : Made) where
 
 module _ (room : ℕ) (a : Association) (cookie s : List ℕ) where
   abbrev Met7 : Step → Type 0
-  Met7 x = numberOf (x .fate) ≡ 7
+  Met7 x = fateNumber (x .fate) ≡ 7
 
   -- it is answered, or refused 8, and leaves the record
   abbrev Answered : Step → Type 0
@@ -174,6 +174,6 @@ module _ (room : ℕ) (a : Association) (cookie s : List ℕ) where
       (answered l) (λ n. answered l) (λ n. answered l) (answered l) (answered l) (λ n. answered l) (answered l) (λ n. repeated) st)
 
   -- "INIT is no longer answered 7 in any state" (02, T-08), and no INIT changes a record
-  pub init-never-7 : (b : Beside) → kindOf (u8 s 0) ≡ kinds.Init → (numberOf (stepOf room a b cookie s .fate) ≡ 7 → ⊥) × (stepOf room a b cookie s .association ≡ a)
+  pub init-never-7 : (b : Beside) → kindOf (u8 s 0) ≡ kinds.Init → (fateNumber (stepOf room a b cookie s .fate) ≡ 7 → ⊥) × (stepOf room a b cookie s .association ≡ a)
   unfolding stepOf
   init-never-7 b k = rw k (row-answered b (metBy a b) (a .state))

@@ -23,8 +23,8 @@ use Rattle.steps.specs.declared.meeting.Action.the-variants.{Restart, Re
 use Rattle.steps.specs.declared.lent.Echoed.{Echoed}
 use Rattle.steps.specs.declared.lent.Echoed.the-variants.{Bad, Stale, Good}
 use Rattle.steps.specs.Verdict.{Step}
-use Rattle.steps.specs.Opening.{isPoor, isOdd, isPoorLent, answerInit, established, echoing, echoedBack, takeInitAck}
-use Rattle.steps.specs.Meeting.{offered, repeatAck, actionOf, starts, withPeerTag, stays, acts, readEcho}
+use Rattle.steps.specs.Opening.{isPoor, isCookieOdd, isPoorLent, answerInit, established, echoing, echoedBack, takeInitAck}
+use Rattle.steps.specs.Meeting.{offered, repeatAck, actionOf, startsAnew, withPeerTag, stays, acts, readEcho}
 use Rattle.steps.specs.Carrying.{isKept, arrivalOf, dataRead, readData, readLateData, heardSack, isLast, readSack, readSackPending, readSackReceived, echoHeartbeat, clearTries}
 use Rattle.steps.specs.Closing.{readError, heardShutdown, readShutdown, answerShutdown}
 use Rattle.steps.specs.Unknown.{passUnknown, tellUnknown}
@@ -47,13 +47,13 @@ module _ (room : ℕ) (a : Association) (b : Beside) (cookie s : List ℕ) where
 
   acts-ported : (m : Made) (x : Action) → Ported (acts room a (b .source) m x)
   unfolding acts established
-  acts-ported m x = either (starts x (a .state)) _ _ refl (stays-ported m x)
+  acts-ported m x = either (startsAnew x (a .state)) _ _ refl (stays-ported m x)
 
   echo-ported : (e : Echoed) → Ported (readEcho room a e (b .source) s)
   unfolding readEcho
-  echo-ported (Good m) = either (isOdd (partFrom 4 s .len)) _ _ refl (acts-ported m (actionOf (a .state) (a .ends) m))
-  echo-ported (Stale m) = either (isOdd (partFrom 4 s .len)) _ _ refl refl
-  echo-ported Bad = either (isOdd (partFrom 4 s .len)) _ _ refl refl
+  echo-ported (Good m) = either (isCookieOdd (partFrom 4 s .len)) _ _ refl (acts-ported m (actionOf (a .state) (a .ends) m))
+  echo-ported (Stale m) = either (isCookieOdd (partFrom 4 s .len)) _ _ refl refl
+  echo-ported Bad = either (isCookieOdd (partFrom 4 s .len)) _ _ refl refl
 
   pass-ported : (h : Handling) → Ported (passUnknown a h)
   pass-ported Stop = refl
@@ -70,7 +70,7 @@ module _ (room : ℕ) (a : Association) (b : Beside) (cookie s : List ℕ) where
   row-ported : (r : Row) → Ported (rowStep room a b cookie s r)
   unfolding answerInit repeatAck takeInitAck echoedBack echoing dataRead readData readLateData readSack readSackPending readSackReceived echoHeartbeat clearTries readError readShutdown answerShutdown
   row-ported AnswerInit = either (isPoorLent (offered a (b .lent)) (length cookie)) _ _ refl (either (isPoor (initOf s)) _ _ refl (either (isThere NAME s) _ _ refl refl))
-  row-ported TakeInitAck = either (isPoor (initOf s)) _ _ refl (either (isOdd (valueOf COOKIE 4 s .len)) _ _ refl (either (isThere NAME s) _ _ refl refl))
+  row-ported TakeInitAck = either (isPoor (initOf s)) _ _ refl (either (isCookieOdd (valueOf COOKIE 4 s .len)) _ _ refl (either (isThere NAME s) _ _ refl refl))
   row-ported RepeatAck = either (isPoor (initOf s)) _ _ refl refl
   row-ported ReadEcho = echo-ported (b .echoed)
   row-ported ReadLateData = either (isKept (arrivalOf a s .verdict)) _ _ refl refl

@@ -36,25 +36,25 @@ fits o-mark o-mark = true
 fits o-mark a-mark = false
 
 -- Local Tag, Peer's Tag, Local-Tie-Tag, Peer's-Tie-Tag
-pub record Marks : Type 0 where
+pub record TagMarks : Type 0 where
   pub local : Mark
   pub peer : Mark
   pub localTie : Mark
   pub peerTie : Mark
 
-abbrev pub marks : Mark → Mark → Mark → Mark → Marks
+abbrev pub marks : Mark → Mark → Mark → Mark → TagMarks
 marks l p t u = record { local = l; peer = p; localTie = t; peerTie = u }
 
 pub record Line : Type 0 where
-  pub when : Marks
+  pub when : TagMarks
   pub action : Action
 
 abbrev line : Mark → Mark → Mark → Mark → Action → Line
 line l p t u x = record { when = marks l p t u; action = x }
 
 -- (A), (B), (B), (C), (D)
-abbrev pub table : List Line
-table =
+abbrev pub table12 : List Line
+table12 =
     line x-mark x-mark m-mark m-mark Restart
     ∷ line m-mark x-mark a-mark a-mark Retag
     ∷ line m-mark o-mark a-mark a-mark Retag
@@ -62,14 +62,14 @@ table =
     ∷ line m-mark m-mark a-mark a-mark Again
     ∷ []
 
-abbrev pub isMet : Marks → Marks → Bool
+abbrev pub isMet : TagMarks → TagMarks → Bool
 isMet row found =
     pick (fits (row .local) (found .local))
     (pick (fits (row .peer) (found .peer))
     (pick (fits (row .localTie) (found .localTie)) (fits (row .peerTie) (found .peerTie)) false) false) false
 
 -- the first line that is met, or "any case not shown"
-abbrev pub lookedUp : List Line → Marks → Action
+abbrev pub lookedUp : List Line → TagMarks → Action
 lookedUp [] found = Outside
 lookedUp (row ∷ rows) found = pick (isMet (row .when) found) (row .action) (lookedUp rows found)
 
@@ -83,7 +83,7 @@ peerMark known matches = pick known (tagMark matches) o-mark
 abbrev pub tieMark : Bool → Bool → Mark
 tieMark none matches = pick none o-mark (tagMark matches)
 
-abbrev pub found : State → Ends → Made → Marks
-found s e m =
+abbrev pub tagsFound : State → Ends → Made → TagMarks
+tagsFound s e m =
     marks (tagMark (eqb (m .«my_tag») (e .«my_tag»))) (peerMark (knowsPeer s) (eqb (m .«peer_tag») (e .«peer_tag»)))
     (tieMark (eqb (m .«my_tie») 0) (eqb (m .«my_tie») (e .«my_tag»))) (tieMark (eqb (m .«peer_tie») 0) (eqb (m .«peer_tie») (e .«peer_tag»)))

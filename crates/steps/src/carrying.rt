@@ -8,10 +8,10 @@ use numbers::Blocks;
 use numbers::StreamId;
 use numbers::Tsn;
 ghost use mathlib.Core.Path.{_≡_};
-ghost use Rattle.steps.specs.Carrying.{chunkOf, isKept, fateOf, callOf, toldData, blocksOf, sackCall, toldSack};
+ghost use Rattle.steps.specs.Carrying.{dataArriving, isKept, fateOf, callOf, toldData, chunkBlocks, sackCall, toldSack};
 
 pub fn chunk_of(s: &[u8]) -> Chunk
-    ensures { λ r. ⌜ r ≡ chunkOf (now (s .entry)) ⌝ }
+    ensures { λ r. ⌜ r ≡ dataArriving (now (s .entry)) ⌝ }
 {
     let d = chunks::data::read_data(s);
     let tsn = d.tsn;
@@ -91,7 +91,7 @@ pub fn tell_data(v: Verdict, s: &[u8]) -> Told
 
 // The blocks of a SACK, with the count that it gives: more than 64 are never all valid.
 pub fn blocks_of(s: &[u8]) -> Blocks
-    ensures { λ r. ⌜ r ≡ blocksOf (now (s .entry)) ⌝ }
+    ensures { λ r. ⌜ r ≡ chunkBlocks (now (s .entry)) ⌝ }
 {
     let h = chunks::sack::read_sack(s);
     let b = chunks::sack::read_blocks(s);

@@ -6,7 +6,7 @@ use association::Ends;
 use numbers::Tsn;
 use states::State;
 ghost use mathlib.Core.Path.{_≡_};
-ghost use Rattle.steps.specs.Meeting.{asSent, asNew, offer, isTie, isTied, isUntied, actionOf, starts, startedAs};
+ghost use Rattle.steps.specs.Meeting.{asSent, asNew, offer, isTie, isTied, isUntied, actionOf, startsAnew, startedAs};
 ghost use Rattle.steps.specs.declared.meeting.Action.the-variants as actions;
 
 // What table 12 says to do: A, B, C and D, or a case that it does not show.
@@ -114,7 +114,7 @@ pub fn action_of(state: State, ends: Ends, m: Made) -> Action
 }
 
 fn restart_starts(state: State) -> bool
-    ensures { λ r. ⌜ r ≡ starts actions.Restart state ⌝ }
+    ensures { λ r. ⌜ r ≡ startsAnew actions.Restart state ⌝ }
 {
     match state {
         State::Closed => true,
@@ -130,7 +130,7 @@ fn restart_starts(state: State) -> bool
 
 // Where no association is established yet.
 fn is_opening(state: State) -> bool
-    ensures { λ r. ⌜ r ≡ starts actions.Again state ⌝ }
+    ensures { λ r. ⌜ r ≡ startsAnew actions.Again state ⌝ }
 {
     match state {
         State::Closed => true,
@@ -146,7 +146,7 @@ fn is_opening(state: State) -> bool
 
 // Whether a good echo starts from a fresh record.
 pub fn starts(action: Action, state: State) -> bool
-    ensures { λ r. ⌜ r ≡ starts action state ⌝ }
+    ensures { λ r. ⌜ r ≡ startsAnew action state ⌝ }
 {
     match action {
         Action::Restart => restart_starts(state),

@@ -1,10 +1,11 @@
 -- The tables of a record as words that are lent: what the words show, and what a place that is put leaves.
-pub mod Words
-pub mod Open
-pub mod Held
-pub mod HeldLaws
+-- To read: HeldWords, Ssns, PlaceWords, PlaceStates. The rest are laws.
+pub mod WordsLaws
+pub mod OpenLaws
+pub mod HeldWords
+pub mod HeldWordsLaws
 pub mod Ssns
-pub mod Zeros
-pub mod Place
-pub mod PlaceLaws
+pub mod ZerosLaws
+pub mod PlaceWords
+pub mod PlaceWordsLaws
 pub mod PlaceStates

@@ -9,8 +9,8 @@ use Rattle.numbers.specs.Profile.{Profile}
 use Rattle.scans.specs.Scan.{pick, Mapping, map-more, map-end}
 use Rattle.places.specs.declared.place.Place.{Place}
 use Rattle.places.specs.PassLaws.{Restated}
-use Rattle.tables.specs.Place.{placeIn, placesOf, vacant, placeAt, statePut}
-use Rattle.tables.specs.PlaceLaws.{place-small, places-long, place-in, state-other, state-put, state-long, put-same}
+use Rattle.tables.specs.PlaceWords.{placeIn, placesOf, vacant, placeAt, statePut}
+use Rattle.tables.specs.PlaceWordsLaws.{place-small, places-long, place-in, state-other, state-put, state-long, put-same}
 
 -- the place i: one that `idle` names stays, each other has the state that f gives it
 abbrev pub stateOne : Profile → (Place → Bool) → (Place → Place) → List ℕ → ℕ → List ℕ

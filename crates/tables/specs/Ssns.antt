@@ -14,7 +14,7 @@ use Rattle.numbers.specs.declared.circle.Ssn.{Ssn}
 use Rattle.numbers.specs.Circle.{ssn0}
 use Rattle.numbers.specs.Profile.{Profile}
 use Rattle.scans.specs.Scan.{pick}
-use Rattle.tables.specs.Words.{shownFrom, shown-long, shown-at, shown-touched}
+use Rattle.tables.specs.WordsLaws.{shownFrom, shown-long, shown-at, shown-touched}
 
 -- the SSN of the stream i; a word past the end counts as 0
 abbrev pub ssnAt : List ℕ → ℕ → Ssn

@@ -11,14 +11,14 @@ ghost use lib.Dec.{eqb};
 ghost use mir.Val.{boolByte as bit};
 ghost use Rattle.numbers.specs.Profile.{rail};
 ghost use Rattle.holding.specs.Held.{noHeld, holds};
-ghost use Rattle.tables.specs.Held.{heldOf, decoded, lastOf, heldPut, heldFreed};
+ghost use Rattle.tables.specs.HeldWords.{heldOf, heldDecoded, lastWord, heldPut, heldFreed};
 
 // The words of all places.
-pub const WORDS: usize = 512;
+pub const WORDS: usize = Rail::HELD_WORDS;
 
 // A place from its words.
 fn decode(tsn: u32, number: u32, ppid: u32, last: u32) -> Held
-    ensures { λ h. ⌜ h ≡ decoded tsn number ppid last ⌝ }
+    ensures { λ h. ⌜ h ≡ heldDecoded tsn number ppid last ⌝ }
 {
     Held {
         used: last % 2 == 1,
@@ -103,7 +103,7 @@ fn flag(b: bool) -> u32
 
 // Stream, length and flags of a place as a word.
 fn last_of(h: Held) -> u32
-    ensures { λ w. ⌜ w ≡ lastOf h ⌝ }
+    ensures { λ w. ⌜ w ≡ lastWord h ⌝ }
 {
     let u = flag(h.used);
     let b = flag(h.begin);

@@ -10,14 +10,14 @@ ghost use Prim.Native.Nat.{_≤_, _%_};
 ghost use lib.ListN.{replicate};
 ghost use mir.Val.{boolByte as bit};
 ghost use Rattle.numbers.specs.Profile.{rail};
-ghost use Rattle.tables.specs.Place.{decoded, shapeOf, stateOf, placeAt, placePut, statePut};
+ghost use Rattle.tables.specs.PlaceWords.{placeDecoded, shapeOf, stateWord, placeAt, placePut, statePut};
 
 // The words of all places.
-pub const WORDS: usize = 1024;
+pub const WORDS: usize = Rail::PLACE_WORDS;
 
 // A place from its words.
 fn decode(tsn: u32, order: u32, number: u32, ppid: u32, shape: u32, state: u32) -> Place
-    ensures { λ p. ⌜ p ≡ decoded tsn order number ppid shape state ⌝ }
+    ensures { λ p. ⌜ p ≡ placeDecoded tsn order number ppid shape state ⌝ }
 {
     let chunk = Chunk {
         tsn: Tsn(tsn),
@@ -86,7 +86,7 @@ fn shape_of(c: Chunk) -> u32
 
 // A place's misses and status as a word.
 fn state_of(p: Place) -> u32
-    ensures { λ w. ⌜ w ≡ stateOf p ⌝ }
+    ensures { λ w. ⌜ w ≡ stateWord p ⌝ }
 {
     p.misses as u32 * 256 + p.status as u32
 }

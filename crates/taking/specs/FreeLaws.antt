@@ -13,12 +13,12 @@ use Rattle.numbers.specs.Profile.{Profile}
 use Rattle.scans.specs.Scan.{pick, Counting, count-yes}
 use Rattle.scans.specs.Each.{clash, fails-behind}
 use Rattle.holding.specs.declared.held.Held.{Held}
-use Rattle.holding.specs.Held.{noHeld, isFree}
+use Rattle.holding.specs.Held.{noHeld, isHeldFree}
 use Rattle.holding.specs.declared.message.Best.{Best}
 use Rattle.holding.specs.Message.{isLeftEnd, isExpected}
 use Rattle.holding.specs.MessageLaws.{isBetter, Choosing, choose-worse}
-use Rattle.holding.specs.TableLaws.{opens-is, better-is, free-not-better}
-use Rattle.taking.specs.Taking.{freeFor}
+use Rattle.holding.specs.HoldingTableLaws.{opens-is, better-message-is, free-not-better}
+use Rattle.taking.specs.TakeWords.{freeFor}
 
 -- one, and one more
 pub free-two : (hs : List Held) (i : ℕ) {a b : Bool} → a ≡ getD hs i noHeld .used → b ≡ getD hs (i + 1) noHeld .used → pick a false (not b) ≡ freeFor hs i 2
@@ -74,17 +74,17 @@ over-free Inv hs (suc n) i e f w =
     subst Inv z (over-free Inv hs n (i + 1) (q .1) (λ k a b u v. f k (omega arith) (omega arith) u v) (f i (omega arith) (omega arith) (q .0) w))
 
 -- they are all counted
-pub count-free : (hs : List Held) {m i c : ℕ} → Counting isFree hs m i c → i + 8 ≤ m → freeFor hs i 8 ≡ true → Counting isFree hs m (i + 8) (c + 8)
+pub count-free : (hs : List Held) {m i c : ℕ} → Counting isHeldFree hs m i c → i + 8 ≤ m → freeFor hs i 8 ≡ true → Counting isHeldFree hs m (i + 8) (c + 8)
 count-free hs {m} {i} {c} w l e =
     let z : c ≡ c + (i - i) = omega arith in
     let y : c + (i + 8 - i) ≡ c + 8 = omega arith in
-    subst (λ (x : ℕ). Counting isFree hs m (i + 8) x) y
-    (over-free (λ (k : ℕ). Counting isFree hs m k (c + (k - i))) hs 8 i e step (subst (λ (x : ℕ). Counting isFree hs m i x) z w))
+    subst (λ (x : ℕ). Counting isHeldFree hs m (i + 8) x) y
+    (over-free (λ (k : ℕ). Counting isHeldFree hs m k (c + (k - i))) hs 8 i e step (subst (λ (x : ℕ). Counting isHeldFree hs m i x) z w))
   where
-    step : (k : ℕ) → i ≤ k → k < i + 8 → getD hs k noHeld .used ≡ false → Counting isFree hs m k (c + (k - i)) → Counting isFree hs m (k + 1) (c + (k + 1 - i))
+    step : (k : ℕ) → i ≤ k → k < i + 8 → getD hs k noHeld .used ≡ false → Counting isHeldFree hs m k (c + (k - i)) → Counting isHeldFree hs m (k + 1) (c + (k + 1 - i))
     step k a b u v =
         let z : c + (k - i) + 1 ≡ c + (k + 1 - i) = omega arith in
-        subst (λ (x : ℕ). Counting isFree hs m (k + 1) x) z (count-yes v noHeld (omega arith) (ap not u))
+        subst (λ (x : ℕ). Counting isHeldFree hs m (k + 1) x) z (count-yes v noHeld (omega arith) (ap not u))
 
 -- none of them is the first chunk of a message
 pub choose-free : (N : Numberings) (P : Profile) (hs : List Held) (next : List Ssn) (point : ℕ) {m i : ℕ} {best : Best} → Choosing N P hs next point m i best → i + 8 ≤ m
@@ -95,4 +95,4 @@ choose-free N P hs next point {m} {i} {best} w l e =
 
 -- nor is a chunk whose message is not the next expected
 pub late-not-better : (N : Numberings) (P : Profile) (next : List Ssn) (point : ℕ) (best : Best) (h : Held) → isExpected (N .ssn) P next h ≡ false → isBetter N P next point best h ≡ false
-late-not-better N P next point best h e = rw (better-is N P next point best h, opens-is (N .ssn) P next h, fails-behind (isLeftEnd h) e)
+late-not-better N P next point best h e = rw (better-message-is N P next point best h, opens-is (N .ssn) P next h, fails-behind (isLeftEnd h) e)

@@ -14,13 +14,13 @@ ghost use Rattle.numbers.specs.Profile.{rail};
 ghost use mathlib.Core.Bool.{false};
 ghost use lib.Dec.{ltb};
 ghost use Rattle.scans.specs.Scan.{count, pick};
-ghost use Rattle.holding.specs.Held.{noHeld, isFree};
+ghost use Rattle.holding.specs.Held.{noHeld, isHeldFree};
 ghost use Rattle.holding.specs.Message.{continues, follow, isExpected, opens, chosen, isOne};
-ghost use Rattle.holding.specs.MessageLaws.{bestOf, isBetter, tried};
-ghost use Rattle.tables.specs.Held.{heldOf};
+ghost use Rattle.holding.specs.MessageLaws.{bestOfChoice, isBetter, triedRun};
+ghost use Rattle.tables.specs.HeldWords.{heldOf};
 ghost use Rattle.tables.specs.Ssns.{ssnsOf};
-ghost use Rattle.taking.specs.Taking.{freeFor};
-ghost use Rattle.taking.specs.TakingLaws.{Noted};
+ghost use Rattle.taking.specs.TakeWords.{freeFor};
+ghost use Rattle.taking.specs.TakeWordsLaws.{Noted};
 
 // Whether the two places from i on are free.
 fn are_two_free(words: &[u32; held::WORDS], i: usize) -> bool
@@ -59,7 +59,7 @@ pub fn are_free(words: &[u32; held::WORDS], i: usize) -> bool
 
 // How many places are free.
 pub fn free_places(words: &[u32; held::WORDS]) -> usize
-    ensures { λ n. ⌜ (n ≡ count isFree (heldOf rail (now (words .entry)))) × (n ≤ 128) ⌝ }
+    ensures { λ n. ⌜ (n ≡ count isHeldFree (heldOf rail (now (words .entry)))) × (n ≤ 128) ⌝ }
 {
     let mut n: usize = 0;
     let mut i: usize = 0;
@@ -179,7 +179,7 @@ fn try_at(
     at: &mut [u8; Rail::PLACES],
 ) -> Best
     requires { ⌜ (place < 128) × (length (now at) ≡ 128) ⌝ }
-    ensures { λ b. ⌜ (b ≡ tried (ring (2 ^ 32)) rail (heldOf rail (now (words .entry))) (point .0) best place h) × (length (now (at .exit)) ≡ 128) ⌝ }
+    ensures { λ b. ⌜ (b ≡ triedRun (ring (2 ^ 32)) rail (heldOf rail (now (words .entry))) (point .0) best place h) × (length (now (at .exit)) ≡ 128) ⌝ }
 {
     let n = gather(words, place, h, at);
     if n < 1 {
@@ -201,7 +201,7 @@ pub(crate) fn choose_by(
     at: &mut [u8; Rail::PLACES],
 ) -> Best
     requires { ⌜ length (now at) ≡ 128 ⌝ }
-    ensures { λ b. ⌜ (b ≡ bestOf (chosen circles rail (heldOf rail (now (words .entry))) (ssnsOf rail (now (next .entry))) (point .0))) × (length (now (at .exit)) ≡ 128) ⌝ }
+    ensures { λ b. ⌜ (b ≡ bestOfChoice (chosen circles rail (heldOf rail (now (words .entry))) (ssnsOf rail (now (next .entry))) (point .0))) × (length (now (at .exit)) ≡ 128) ⌝ }
 {
     let mut best = Best {
         some: false,
@@ -233,7 +233,7 @@ pub(crate) fn choose_by(
 
 // The message that a take gives, if there is one.
 pub fn choose(words: &[u32; held::WORDS], next: &[u16; Rail::STREAMS], point: Tsn) -> Best
-    ensures { λ b. ⌜ b ≡ bestOf (chosen circles rail (heldOf rail (now (words .entry))) (ssnsOf rail (now (next .entry))) (point .0)) ⌝ }
+    ensures { λ b. ⌜ b ≡ bestOfChoice (chosen circles rail (heldOf rail (now (words .entry))) (ssnsOf rail (now (next .entry))) (point .0)) ⌝ }
 {
     let mut at = [0u8; Rail::PLACES];
     choose_by(words, next, point, &mut at)

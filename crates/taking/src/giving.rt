@@ -14,10 +14,10 @@ ghost use Rattle.numbers.specs.Numbering.{ring, circles};
 ghost use Rattle.numbers.specs.Profile.{rail};
 ghost use Rattle.octets.specs.Bytes.{laid};
 ghost use Rattle.holding.specs.Taking.{lengthOf, payloadAt, copied, took, written};
-ghost use Rattle.tables.specs.Held.{heldOf};
+ghost use Rattle.tables.specs.HeldWords.{heldOf};
 ghost use Rattle.tables.specs.Ssns.{ssnsOf};
-ghost use Rattle.taking.specs.Taking.{wordsEmptied, ssnsAdvanced, wordsTaken, ssnsTaken};
-ghost use Rattle.taking.specs.TakingLaws.{Listed};
+ghost use Rattle.taking.specs.TakeWords.{wordsEmptied, ssnsAdvanced, wordsTaken, ssnsTaken};
+ghost use Rattle.taking.specs.TakeWordsLaws.{Listed};
 
 // The place that an entry of a list is.
 fn place_of(entry: u8) -> usize

@@ -1,7 +1,7 @@
 use borrow.Author.Needs.{needs}
 use borrow.Author.Tests.{eq-eqb, ne-eqb}
-use Rattle.sending.specs.TableLaws.{judged-is}
-use Rattle.tables.specs.Open.{by}
+use Rattle.sending.specs.SendingTableLaws.{judged-is}
+use Rattle.tables.specs.OpenLaws.{by-law}
 use Rattle.acks.proofs.judge.Statement.{statement}
 use Rattle.acks.proofs.judge.Tie as tie
 use Rattle.acks.proofs.judge.Reads as reads
@@ -21,7 +21,7 @@ judge-blocks-requires c κs = search needs
 
 -- src/lib.rt:36:9
 returns : tie.Need-returns
-returns c = by (judged-is _ _) (rw (eq-eqb _ _ (c .before .if1 .taken), ← c .before .before .before .before .room .ensures) (c .judge-blocks .ensures))
+returns c = by-law (judged-is _ _) (rw (eq-eqb _ _ (c .before .if1 .taken), ← c .before .before .before .before .room .ensures) (c .judge-blocks .ensures))
 
 -- src/lib.rt:38:9
 judge-requires : tie.Need-judge-requires
@@ -33,7 +33,7 @@ judge-by-requires c κs = search needs
 
 -- src/lib.rt:28:1
 returns-2 : tie.Need-returns-2
-returns-2 c = by (judged-is _ _) (rw (ne-eqb _ _ (c .before .before .if1 .left), ← c .before .before .before .before .before .room .ensures, ← c .before .judge .ensures) (c .judge-by .ensures))
+returns-2 c = by-law (judged-is _ _) (rw (ne-eqb _ _ (c .before .before .if1 .left), ← c .before .before .before .before .before .room .ensures, ← c .before .judge .ensures) (c .judge-by .ensures))
 
 pub judge-spec : {M : Type 1} → statement M
 judge-spec =

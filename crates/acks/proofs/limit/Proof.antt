@@ -1,7 +1,7 @@
 use borrow.Author.Needs.{needs}
 use borrow.Author.Tests.{lt-ltb, le-ltb}
-use Rattle.sending.specs.TableLaws.{limit-is}
-use Rattle.tables.specs.Open.{by}
+use Rattle.sending.specs.SendingTableLaws.{limit-is}
+use Rattle.tables.specs.OpenLaws.{by-law}
 use Rattle.acks.proofs.limit.Statement.{statement}
 use Rattle.acks.proofs.limit.Tie as tie
 use Rattle.acks.proofs.limit.Reads as reads
@@ -15,7 +15,7 @@ ahead-of-requires c κs = search needs
 
 -- src/lib.rt:50:13
 returns : tie.Need-returns
-returns c = by (limit-is _ _ _) (rw (c .before .before .if1 .taken, ← c .before .ahead-of .ensures, lt-ltb _ _ (c .if2 .taken)))
+returns c = by-law (limit-is _ _ _) (rw (c .before .before .if1 .taken, ← c .before .ahead-of .ensures, lt-ltb _ _ (c .if2 .taken)))
 
 -- src/lib.rt:53:13
 top-requires : tie.Need-top-requires
@@ -35,11 +35,11 @@ add-result c = search needs
 
 -- src/lib.rt:54:9
 returns-2 : tie.Need-returns-2
-returns-2 c = by (limit-is _ _ _) (rw (c .before .before .before .before .if1 .taken, ← c .before .before .before .ahead-of .ensures, le-ltb _ _ (c .before .before .if2 .left), c .top .ensures))
+returns-2 c = by-law (limit-is _ _ _) (rw (c .before .before .before .before .if1 .taken, ← c .before .before .before .ahead-of .ensures, le-ltb _ _ (c .before .before .if2 .left), c .top .ensures))
 
 -- src/lib.rt:43:1
 returns-3 : tie.Need-returns-3
-returns-3 c = by (limit-is _ _ _) (rw (c .if1 .left))
+returns-3 c = by-law (limit-is _ _ _) (rw (c .if1 .left))
 
 pub limit-spec : {M : Type 1} → statement M
 limit-spec =

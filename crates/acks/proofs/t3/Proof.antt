@@ -1,5 +1,5 @@
 use borrow.Author.Needs.{needs}
-use Rattle.path.specs.Laws.{same-over}
+use Rattle.path.specs.PathLaws.{same-over}
 use Rattle.acks.specs.Acks.{expiredHead, expiredWords}
 use Rattle.acks.proofs.t3.Statement.{statement}
 use Rattle.acks.proofs.t3.Tie as tie

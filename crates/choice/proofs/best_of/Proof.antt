@@ -4,11 +4,11 @@ use Prim.Native.Nat.{_-_, _<_}
 use mathlib.Core.Path.{refl, ap, _∙_}
 use Rattle.scans.specs.Scan.{Folding, fold-more, fold-end}
 use Rattle.numbers.specs.Profile.{rail}
-use Rattle.sending.specs.Choose.{better}
-use Rattle.sending.specs.TableLaws.{best-is}
-use Rattle.tables.specs.Open.{by}
-use Rattle.tables.specs.Place.{placesOf, vacant}
-use Rattle.tables.specs.PlaceLaws.{places-long}
+use Rattle.sending.specs.Choose.{betterPlace}
+use Rattle.sending.specs.SendingTableLaws.{best-is}
+use Rattle.tables.specs.OpenLaws.{by-law}
+use Rattle.tables.specs.PlaceWords.{placesOf, vacant}
+use Rattle.tables.specs.PlaceWordsLaws.{places-long}
 use Rattle.choice.proofs.best_of.Statement.{statement}
 use Rattle.choice.proofs.best_of.Tie as tie
 use Rattle.choice.proofs.best_of.Reads as reads
@@ -17,7 +17,7 @@ use Rattle.tables.proofs.place.place_at.Reads as place-at-reads
 use Rattle.choice.proofs.better.Reads as better-reads
 
 abbrev Inv-loop : tie.InvT-loop
-Inv-loop t acked oldest b₀ i₀ b i = Folding (better acked oldest) b₀ (placesOf rail t) 128 i b × (b .place < 128)
+Inv-loop t acked oldest b₀ i₀ b i = Folding (betterPlace acked oldest) b₀ (placesOf rail t) 128 i b × (b .place < 128)
 
 abbrev μ-loop : tie.MeasureT-loop
 μ-loop t acked oldest b₀ i₀ b i = 128 - i
@@ -44,11 +44,11 @@ loop-less c = search needs
 
 -- src/lib.rt:38:5
 loop-again : tie.Need-loop-again Inv-loop μ-loop
-loop-again c = (fold-more (c .before .before .before .loop .inv .0) vacant _ (c .before .before .loop-test .taken) (c .better .ensures .0 ∙ ap (better (c .before .before .before .before .args .acked) (c .before .before .before .before .args .oldest) (c .before .before .before .loop .b) (c .before .before .before .loop .i)) (c .before .place-at .ensures)), c .better .ensures .1)
+loop-again c = (fold-more (c .before .before .before .loop .inv .0) vacant _ (c .before .before .loop-test .taken) (c .better .ensures .0 ∙ ap (betterPlace (c .before .before .before .before .args .acked) (c .before .before .before .before .args .oldest) (c .before .before .before .loop .b) (c .before .before .before .loop .i)) (c .before .place-at .ensures)), c .better .ensures .1)
 
 -- src/lib.rt:30:1
 returns : tie.Need-returns Inv-loop μ-loop
-returns c = (by (best-is _ _ _) (fold-end (c .before .loop .inv .0) (c .loop-test .left)), c .before .loop .inv .1)
+returns c = (by-law (best-is _ _ _) (fold-end (c .before .loop .inv .0) (c .loop-test .left)), c .before .loop .inv .1)
 
 pub best-of-spec : {M : Type 1} → statement M
 best-of-spec =

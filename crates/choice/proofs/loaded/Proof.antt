@@ -2,7 +2,7 @@ use borrow.Author.Needs.{needs}
 use native.Mathlib.Omega.{arith}
 use Prim.Native.Nat.{_-_}
 use mathlib.Core.Path.{_∙_}
-use Rattle.sending.specs.TableLaws.{tsn-is}
+use Rattle.sending.specs.SendingTableLaws.{tsn-is}
 use Rattle.choice.specs.Fill.{loadAfter}
 use Rattle.choice.proofs.loaded.Statement.{statement}
 use Rattle.choice.proofs.loaded.Tie as tie

@@ -4,7 +4,7 @@ use native.Mathlib.Omega.{arith}
 use lib.ListN.{length}
 use Rattle.numbers.specs.Profile.{rail}
 use Rattle.holding.specs.Held.{asHeld}
-use Rattle.reception.specs.ReceptionLaws.{Fitting, fresh-seen, words-arrived, words-taken, words-sacked}
+use Rattle.reception.specs.ReceptionLaws.{Fitting, fresh-receiving-shown, words-arrived, words-taken, words-sacked}
 use borrow.Author.Needs.{needs}
 use Rattle.incoming.proofs.take.Statement.{statement}
 use Rattle.incoming.proofs.take.Tie as tie

@@ -10,15 +10,15 @@ use Rattle.numbers.specs.Profile.{rail}
 use Rattle.scans.specs.Upto.{larger, Topping, top-start, top-more, top-end}
 use Rattle.scans.specs.Scan.{either, Counting, count-start, count-yes, count-no, count-end, Summing, sum-start, sum-more, sum-end, Asking, ask-more, ask-end}
 use Rattle.places.specs.declared.place.Place.{Place}
-use Rattle.places.specs.Places.{hasStatus, isOutstanding, flightOf, payloadOf, lastOf, marked, missed, reaches}
-use Rattle.places.specs.Sack.{settled, newlyBytes, newlyOffset}
+use Rattle.places.specs.Places.{hasStatus, isOutstanding, flightOf, windowPayload, outstandingOffset, markedForResend, missed, reachesThree}
+use Rattle.places.specs.Sack.{placeSettled, newlyBytes, newlyOffset}
 use Rattle.places.specs.PassLaws.{taken-newly, taken-highest, tallied-is, empty-is, total-over, free-idle, free-light, free-last, free-bytes, free-offset, free-missed, free-reaches}
-use Rattle.tables.specs.Open.{by}
-use Rattle.tables.specs.Place.{placesOf, placeAt, vacant}
-use Rattle.tables.specs.PlaceLaws.{places-long}
+use Rattle.tables.specs.OpenLaws.{by-law}
+use Rattle.tables.specs.PlaceWords.{placesOf, placeAt, vacant}
+use Rattle.tables.specs.PlaceWordsLaws.{places-long}
 use Rattle.tables.specs.PlaceStates.{Stating, state-start, state-next, state-more, state-skip, state-end}
-use Rattle.marks.specs.Skip.{sum-skip, top-skip, ask-skip}
-use Rattle.marks.specs.Marking.{never, missing-by}
+use Rattle.marks.specs.SkipLaws.{sum-skip, top-skip, ask-skip}
+use Rattle.marks.specs.MarkingLaws.{never, missing-by}
 use Rattle.marks.proofs.having.Statement.{statement}
 use Rattle.marks.proofs.having.Tie as tie
 use Rattle.marks.proofs.having.Reads as reads

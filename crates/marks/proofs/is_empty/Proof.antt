@@ -1,5 +1,5 @@
 use Rattle.places.specs.PassLaws.{empty-is}
-use Rattle.tables.specs.Open.{by}
+use Rattle.tables.specs.OpenLaws.{by-law}
 use borrow.Author.Needs.{needs}
 use Rattle.marks.proofs.is_empty.Statement.{statement}
 use Rattle.marks.proofs.is_empty.Tie as tie
@@ -13,7 +13,7 @@ having-requires c κs = search needs
 
 -- src/lib.rt:117:1
 returns : tie.Need-returns
-returns c = by (empty-is _) (rw (c .having .ensures .0))
+returns c = by-law (empty-is _) (rw (c .having .ensures .0))
 
 pub is-empty-spec : {M : Type 1} → statement M
 is-empty-spec = tie.close (tie.spec having-requires returns)

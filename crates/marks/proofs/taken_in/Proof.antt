@@ -10,14 +10,14 @@ use Rattle.numbers.specs.Profile.{rail}
 use Rattle.scans.specs.Upto.{larger, Topping, top-start, top-more, top-end}
 use Rattle.scans.specs.Scan.{either, Summing, sum-start, sum-more, sum-end, Asking, ask-more, ask-end}
 use Rattle.places.specs.declared.place.Place.{Place}
-use Rattle.places.specs.Places.{hasStatus, isOutstanding, flightOf, lastOf, missed, reaches}
-use Rattle.places.specs.Sack.{settled, newlyBytes, newlyOffset}
+use Rattle.places.specs.Places.{hasStatus, isOutstanding, flightOf, outstandingOffset, missed, reachesThree}
+use Rattle.places.specs.Sack.{placeSettled, newlyBytes, newlyOffset}
 use Rattle.places.specs.PassLaws.{taken-newly, taken-highest, free-idle, free-light, free-last, free-bytes, free-offset, free-missed, free-reaches, same-bytes, same-offset, unmissed, unreached}
-use Rattle.tables.specs.Place.{placesOf, vacant}
-use Rattle.tables.specs.PlaceLaws.{places-long}
+use Rattle.tables.specs.PlaceWords.{placesOf, vacant}
+use Rattle.tables.specs.PlaceWordsLaws.{places-long}
 use Rattle.tables.specs.PlaceStates.{Stating, state-start, state-next, state-more, state-skip, state-end}
-use Rattle.marks.specs.Skip.{sum-skip, top-skip, ask-skip}
-use Rattle.marks.specs.Marking.{missing-by}
+use Rattle.marks.specs.SkipLaws.{sum-skip, top-skip, ask-skip}
+use Rattle.marks.specs.MarkingLaws.{missing-by}
 use Rattle.marks.proofs.taken_in.Statement.{statement}
 use Rattle.marks.proofs.taken_in.Tie as tie
 use Rattle.marks.proofs.taken_in.Reads as reads
@@ -31,7 +31,7 @@ use Rattle.tables.proofs.place.put_state.Reads as put-state-reads
 use Rattle.tables.proofs.place.status_at.Reads as status-at-reads
 
 abbrev Inv-loop : tie.InvT-loop
-Inv-loop k t₀ from newly₀ highest₀ i₀ t newly highest i = Stating rail (hasStatus 0) (settled k) t₀ i t × Summing (λ p. newlyBytes p (settled k p)) 65551 (placesOf rail t₀) 128 i newly × Topping (λ p. newlyOffset from p (settled k p)) (placesOf rail t₀) 128 i highest
+Inv-loop k t₀ from newly₀ highest₀ i₀ t newly highest i = Stating rail (hasStatus 0) (placeSettled k) t₀ i t × Summing (λ p. newlyBytes p (placeSettled k p)) 65551 (placesOf rail t₀) 128 i newly × Topping (λ p. newlyOffset from p (placeSettled k p)) (placesOf rail t₀) 128 i highest
 
 abbrev μ-loop : tie.MeasureT-loop
 μ-loop k t₀ from newly₀ highest₀ i₀ t newly highest i = 128 - i
@@ -78,7 +78,7 @@ loop-less-2 c = search needs
 
 -- src/lib.rt:42:5
 loop-again-2 : tie.Need-loop-again-2 Inv-loop μ-loop
-loop-again-2 c = let w = c .before .before .before .before .before .before .before .before .before .before .before .before .loop .inv in let h = c .before .before .before .before .before .before .before .before .before .before .before .loop-test .taken in let e = c .before .before .before .before .before .before .place-at .ensures in let f = e ∙ state-next (w .0) h in let s = c .before .before .before .before .before .settled .ensures in let u = c .before .before .if2 .taken in (state-more (w .0) h (ap (λ (s : ℕ). eqb s 0) (sym (c .before .before .before .before .before .before .before .before .before .status-at .ensures)) ∙ ne-eqb _ _ (c .before .before .before .before .before .before .before .before .if1 .left)) (s ∙ ap (settled (c .before .before .before .before .before .before .before .before .before .before .before .before .before .args .k)) e) (c .put-state .ensures), sum-skip (w .1) vacant h (rw f at (rw s at (same-bytes (c .before .before .before .before .before .before .place-at .result) (c .before .before .before .before .before .settled .result) u))), top-skip (w .2) vacant h (rw f at (rw s at (same-offset (c .before .before .before .before .before .before .place-at .result) (c .before .before .before .before .before .settled .result) u (c .before .before .before .before .before .before .before .before .before .before .before .before .before .args .from)))))
+loop-again-2 c = let w = c .before .before .before .before .before .before .before .before .before .before .before .before .loop .inv in let h = c .before .before .before .before .before .before .before .before .before .before .before .loop-test .taken in let e = c .before .before .before .before .before .before .place-at .ensures in let f = e ∙ state-next (w .0) h in let s = c .before .before .before .before .before .settled .ensures in let u = c .before .before .if2 .taken in (state-more (w .0) h (ap (λ (s : ℕ). eqb s 0) (sym (c .before .before .before .before .before .before .before .before .before .status-at .ensures)) ∙ ne-eqb _ _ (c .before .before .before .before .before .before .before .before .if1 .left)) (s ∙ ap (placeSettled (c .before .before .before .before .before .before .before .before .before .before .before .before .before .args .k)) e) (c .put-state .ensures), sum-skip (w .1) vacant h (rw f at (rw s at (same-bytes (c .before .before .before .before .before .before .place-at .result) (c .before .before .before .before .before .settled .result) u))), top-skip (w .2) vacant h (rw f at (rw s at (same-offset (c .before .before .before .before .before .before .place-at .result) (c .before .before .before .before .before .settled .result) u (c .before .before .before .before .before .before .before .before .before .before .before .before .before .args .from)))))
 
 -- src/lib.rt:52:26
 newly-bytes-requires : tie.Need-newly-bytes-requires Inv-loop μ-loop
@@ -110,7 +110,7 @@ loop-less-3 c = search needs
 
 -- src/lib.rt:42:5
 loop-again-3 : tie.Need-loop-again-3 Inv-loop μ-loop
-loop-again-3 c = let w = c .before .before .before .before .before .before .before .before .before .before .before .before .before .before .before .loop .inv in let h = c .before .before .before .before .before .before .before .before .before .before .before .before .before .before .loop-test .taken in let e = c .before .before .before .before .before .before .before .before .before .place-at .ensures in let f = e ∙ state-next (w .0) h in let s = c .before .before .before .before .before .before .before .before .settled .ensures in (state-more (w .0) h (ap (λ (s : ℕ). eqb s 0) (sym (c .before .before .before .before .before .before .before .before .before .before .before .before .status-at .ensures)) ∙ ne-eqb _ _ (c .before .before .before .before .before .before .before .before .before .before .before .if1 .left)) (s ∙ ap (settled (c .before .before .before .before .before .before .before .before .before .before .before .before .before .before .before .before .args .k)) e) (c .put-state2 .ensures), sum-more (w .1) vacant _ h (rw f at (rw s at (c .before .before .before .before .newly-bytes .ensures .0))) (c .before .before .before .before .newly-bytes .ensures .1), top-more (w .2) vacant _ h (rw f at (rw (c .before .before .before .newly-offset .ensures, s) at (c .before .before .greater .ensures))))
+loop-again-3 c = let w = c .before .before .before .before .before .before .before .before .before .before .before .before .before .before .before .loop .inv in let h = c .before .before .before .before .before .before .before .before .before .before .before .before .before .before .loop-test .taken in let e = c .before .before .before .before .before .before .before .before .before .place-at .ensures in let f = e ∙ state-next (w .0) h in let s = c .before .before .before .before .before .before .before .before .settled .ensures in (state-more (w .0) h (ap (λ (s : ℕ). eqb s 0) (sym (c .before .before .before .before .before .before .before .before .before .before .before .before .status-at .ensures)) ∙ ne-eqb _ _ (c .before .before .before .before .before .before .before .before .before .before .before .if1 .left)) (s ∙ ap (placeSettled (c .before .before .before .before .before .before .before .before .before .before .before .before .before .before .before .before .args .k)) e) (c .put-state2 .ensures), sum-more (w .1) vacant _ h (rw f at (rw s at (c .before .before .before .before .newly-bytes .ensures .0))) (c .before .before .before .before .newly-bytes .ensures .1), top-more (w .2) vacant _ h (rw f at (rw (c .before .before .before .newly-offset .ensures, s) at (c .before .before .greater .ensures))))
 
 -- src/lib.rt:35:1
 returns : tie.Need-returns Inv-loop μ-loop

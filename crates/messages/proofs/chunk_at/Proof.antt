@@ -1,7 +1,7 @@
 use borrow.Author.Needs.{needs}
 use Prim.Native.Nat.{_-_}
-use Rattle.sending.specs.TableLaws.{chunk-is}
-use Rattle.tables.specs.Open.{by}
+use Rattle.sending.specs.SendingTableLaws.{chunk-is}
+use Rattle.tables.specs.OpenLaws.{by-law}
 use Rattle.messages.proofs.chunk_at.Statement.{statement}
 use Rattle.messages.proofs.chunk_at.Tie as tie
 
@@ -18,7 +18,7 @@ add-t11 : tie.Need-add-t11
 add-t11 c = search needs
 
 returns : tie.Need-returns
-returns c = by (chunk-is _ _ _ _) (rw (c .before .wrapping-add-u32 .ensures, c .before .before .part-len .ensures))
+returns c = by-law (chunk-is _ _ _ _) (rw (c .before .wrapping-add-u32 .ensures, c .before .before .part-len .ensures))
 
 pub chunk-at-spec : {M : Type 1} → statement M
 chunk-at-spec =

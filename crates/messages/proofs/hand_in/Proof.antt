@@ -2,7 +2,7 @@ use Rattle.numbers.specs.Profile.{rail}
 use borrow.Author.Needs.{needs}
 use Prim.Native.Nat.{_-_}
 use mathlib.Core.Path.{refl, sym, _∙_}
-use Rattle.messages.specs.Messages.{refused-19, refused-20, refused-none, handing-by, words-kept, words-laid, area-kept, area-laid}
+use Rattle.messages.specs.MessageWords.{refused-19, refused-20, refused-none, handing-by, words-kept, words-laid, area-kept, area-laid}
 use Rattle.messages.proofs.hand_in.Statement.{statement}
 use Rattle.messages.proofs.hand_in.Tie as tie
 use Rattle.messages.proofs.hand_in.Reads as reads

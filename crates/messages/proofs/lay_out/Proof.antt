@@ -6,13 +6,13 @@ use mathlib.Core.Path.{_≡_, refl, sym, ap, _∙_}
 use Rattle.numbers.specs.Profile.{rail}
 use Rattle.scans.specs.Scan.{Folding, fold-more, fold-end}
 use Rattle.octets.specs.BytesLaws.{length-laid}
-use Rattle.sending.specs.HandIn.{takes, stored, Storing}
+use Rattle.sending.specs.HandIn.{takes, chunkStored, Storing}
 use Rattle.sending.specs.HandInLaws.{takes-so}
-use Rattle.sending.specs.TableLaws.{stored-is}
-use Rattle.tables.specs.Open.{by}
-use Rattle.tables.specs.Place.{placesOf, vacant}
-use Rattle.tables.specs.PlaceLaws.{places-long}
-use Rattle.messages.specs.Messages.{LayingOut, lay-start, lay-next, lay-more, lay-keep, lay-end}
+use Rattle.sending.specs.SendingTableLaws.{stored-is}
+use Rattle.tables.specs.OpenLaws.{by-law}
+use Rattle.tables.specs.PlaceWords.{placesOf, vacant}
+use Rattle.tables.specs.PlaceWordsLaws.{places-long}
+use Rattle.messages.specs.MessageWords.{LayingOut, lay-start, lay-next, lay-more, lay-keep, lay-end}
 use Rattle.messages.proofs.lay_out.Statement.{statement}
 use Rattle.messages.proofs.lay_out.Tie as tie
 use Rattle.messages.proofs.lay_out.Reads as reads
@@ -24,7 +24,7 @@ use Rattle.sending.proofs.cutting.takes.Reads as takes-reads
 use Rattle.messages.proofs.waiting_at.Reads as waiting-at-reads
 
 abbrev Inv-loop : tie.InvT-loop
-Inv-loop t₀ area₀ message m n k₀ i₀ t area k i = LayingOut rail m n t₀ i k t × Folding (stored rail n message) (record { chunk = 0; area = area₀ }) (placesOf rail t₀) 128 i (record { chunk = k; area = area }) × (length area ≡ length area₀) × (k ≤ n)
+Inv-loop t₀ area₀ message m n k₀ i₀ t area k i = LayingOut rail m n t₀ i k t × Folding (chunkStored rail n message) (record { chunk = 0; area = area₀ }) (placesOf rail t₀) 128 i (record { chunk = k; area = area }) × (length area ≡ length area₀) × (k ≤ n)
 
 abbrev μ-loop : tie.MeasureT-loop
 μ-loop t₀ area₀ message m n k₀ i₀ t area k i = 128 - i
@@ -87,7 +87,7 @@ same-length c = c .before .loop .inv .2
 
 -- src/lib.rt:47:1
 returns : tie.Need-returns Inv-loop μ-loop
-returns c = (lay-end (c .before .loop .inv .0) (c .loop-test .left), by (stored-is _ _ _ _ _) (ap (λ (s : Storing). s .area) (fold-end (c .before .loop .inv .1) (c .loop-test .left))))
+returns c = (lay-end (c .before .loop .inv .0) (c .loop-test .left), by-law (stored-is _ _ _ _ _) (ap (λ (s : Storing). s .area) (fold-end (c .before .loop .inv .1) (c .loop-test .left))))
 
 pub lay-out-spec : {M : Type 1} → statement M
 lay-out-spec =

@@ -8,8 +8,8 @@ use mathlib.Core.Path.{sym, subst}
 use Rattle.numbers.specs.Profile.{rail}
 use Rattle.scans.specs.Scan.{Counting, count-bit, bit-within, count-end}
 use Rattle.places.specs.Places.{hasStatus}
-use Rattle.tables.specs.Place.{placesOf, vacant}
-use Rattle.tables.specs.PlaceLaws.{places-long}
+use Rattle.tables.specs.PlaceWords.{placesOf, vacant}
+use Rattle.tables.specs.PlaceWordsLaws.{places-long}
 use Rattle.messages.proofs.room_of.Statement.{statement}
 use Rattle.messages.proofs.room_of.Tie as tie
 use Rattle.messages.proofs.room_of.Reads as reads

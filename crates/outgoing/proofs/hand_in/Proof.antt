@@ -3,7 +3,7 @@ use Prim.Native.Nat.{_*_, _≤_, _<_}
 use native.Mathlib.Omega.{arith}
 use lib.ListN.{length}
 use Rattle.numbers.specs.Profile.{rail}
-use Rattle.messages.specs.MessagesLaws.{handed-shows, area-shows}
+use Rattle.messages.specs.MessageWordsLaws.{handed-shows, area-shows}
 use borrow.Author.Needs.{needs}
 use Rattle.outgoing.proofs.hand_in.Statement.{statement}
 use Rattle.outgoing.proofs.hand_in.Tie as tie

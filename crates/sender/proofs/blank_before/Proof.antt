@@ -5,9 +5,9 @@ use mathlib.Core.Path.{_≡_, refl, ap}
 use native.Mathlib.Omega.{arith}
 use Rattle.numbers.specs.Profile.{rail}
 use Rattle.scans.specs.Upto.{Trying, try-start, try-yes, try-no, try-end}
-use Rattle.sending.specs.Bounds.{isGap}
-use Rattle.sending.specs.TableLaws.{gap-is}
-use Rattle.tables.specs.Open.{by}
+use Rattle.sending.specs.SendingBounds.{isGap}
+use Rattle.sending.specs.SendingTableLaws.{gap-is}
+use Rattle.tables.specs.OpenLaws.{by-law}
 use Rattle.sender.specs.Seen.{blankFor}
 use Rattle.sender.specs.BlankLaws.{blank-eight, blank-more}
 use Rattle.sender.proofs.blank_before.Statement.{statement}

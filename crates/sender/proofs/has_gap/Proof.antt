@@ -1,8 +1,8 @@
 use borrow.Author.Needs.{needs}
 use Prim.Native.Nat.{_-_}
-use Rattle.sending.specs.Bounds.{isGap}
-use Rattle.sending.specs.TableLaws.{gap-is}
-use Rattle.tables.specs.Open.{by}
+use Rattle.sending.specs.SendingBounds.{isGap}
+use Rattle.sending.specs.SendingTableLaws.{gap-is}
+use Rattle.tables.specs.OpenLaws.{by-law}
 use Rattle.sender.specs.BlankLaws.{Gapping, gap-start, gap-more, gap-end}
 use Rattle.sender.proofs.has_gap.Statement.{statement}
 use Rattle.sender.proofs.has_gap.Tie as tie
@@ -42,7 +42,7 @@ loop-again c = gap-more (c .before .before .before .loop .inv) (c .before .befor
 
 -- src/lib.rt:198:1
 returns : tie.Need-returns Inv-loop μ-loop
-returns c = by (gap-is _ _) (gap-end (c .before .loop .inv) (c .loop-test .left))
+returns c = by-law (gap-is _ _) (gap-end (c .before .loop .inv) (c .loop-test .left))
 
 pub has-gap-spec : {M : Type 1} → statement M
 has-gap-spec =

@@ -7,9 +7,9 @@ use mir.Facts.{fits-le, fits-lit}
 use Rattle.numbers.specs.Profile.{rail}
 use Rattle.scans.specs.Scan.{either, bit-within}
 use Rattle.places.specs.declared.place.Place.{Place}
-use Rattle.sending.specs.Bounds.{isOdd, spotOf}
-use Rattle.sending.specs.Survey.{Surveying, survey-free, survey-end}
-use Rattle.tables.specs.Place.{placesOf}
+use Rattle.sending.specs.SendingBounds.{isPlaceOdd, spotOf}
+use Rattle.sending.specs.SurveyLaws.{Surveying, survey-free, survey-end}
+use Rattle.tables.specs.PlaceWords.{placesOf}
 use Rattle.sender.specs.BlankLaws.{blank-eight, survey-blank, survey-first, survey-flying, survey-apart, survey-waiting-one}
 use Rattle.sender.proofs.survey_of.Statement.{statement}
 use Rattle.sender.proofs.survey_of.Tie as tie
@@ -112,7 +112,7 @@ loop-less-3 c = search needs
 
 -- src/lib.rt:166:5
 loop-again-3 : tie.Need-loop-again-3 Inv-loop μ-loop
-loop-again-3 c = let e = c .before .before .before .before .before .before .before .place-at .ensures in survey-free (c .before .before .before .before .before .before .before .before .before .loop .inv) (c .before .before .before .before .before .before .before .before .loop-test .taken) (ap (λ (p : Place). p .status) (sym e) ∙ c .before .if3 .taken) (c .or-odd2 .ensures ∙ ap (λ (p : Place). either (c .before .before .before .before .before .before .before .before .before .loop .v .odd) (isOdd rail p)) e)
+loop-again-3 c = let e = c .before .before .before .before .before .before .before .place-at .ensures in survey-free (c .before .before .before .before .before .before .before .before .before .loop .inv) (c .before .before .before .before .before .before .before .before .loop-test .taken) (ap (λ (p : Place). p .status) (sym e) ∙ c .before .if3 .taken) (c .or-odd2 .ensures ∙ ap (λ (p : Place). either (c .before .before .before .before .before .before .before .before .before .loop .v .odd) (isPlaceOdd rail p)) e)
 
 -- src/lib.rt:181:21
 or-odd-requires-3 : tie.Need-or-odd-requires-3 Inv-loop μ-loop

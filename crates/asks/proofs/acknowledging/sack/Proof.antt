@@ -3,11 +3,11 @@ use mathlib.Core.List.{[]}
 use borrow.Author.Tests.{ne-eqb}
 use Rattle.states.specs.declared.call.Call.the-variants.{Acknowledge}
 use Rattle.calls.specs.AnswerLaws.{roomy}
-use Rattle.calls.specs.Acknowledging.{acknowledged, acknowledgedOut}
+use Rattle.calls.specs.Acknowledging.{acknowledgedCall, acknowledgedOut}
 use Rattle.calls.specs.AcknowledgingLaws.{sack-done}
 use Rattle.flat.specs.declared.head.Head.{Head}
 use Rattle.flat.specs.Shown.{shown}
-use Rattle.asks.specs.AcknowledgingLaws.{sacked-in}
+use Rattle.asks.specs.TableAcknowledgingLaws.{sacked-in}
 use borrow.Author.Needs.{needs}
 use Rattle.asks.proofs.acknowledging.sack.Statement.{statement}
 use Rattle.asks.proofs.acknowledging.sack.Tie as tie
@@ -37,7 +37,7 @@ no-sack-requires : tie.Need-no-sack-requires
 no-sack-requires c κs = search needs
 
 returns-2 : tie.Need-returns-2
-unfolding acknowledged acknowledgedOut
+unfolding acknowledgedCall acknowledgedOut
 returns-2 c = λ ns ms cs. (rw (← c .before .before .bar .ensures ns ms cs, ne-eqb _ _ (c .before .if1 .left), c .no-sack .ensures), rw (← c .before .before .bar .ensures ns ms cs, ne-eqb _ _ (c .before .if1 .left)))
 
 pub sack-spec : {M : Type 1} → statement M

@@ -3,7 +3,7 @@ use Rattle.states.specs.declared.call.Call.the-variants.{Abort}
 use Rattle.calls.specs.AnswerLaws.{roomy, done-refused, done-so}
 use Rattle.calls.specs.Closing.{aborting}
 use Rattle.flat.specs.Shown.{shown}
-use Rattle.asks.specs.AnswerLaws.{refused-in}
+use Rattle.asks.specs.TableAnswerLaws.{refused-in}
 use borrow.Author.Needs.{needs}
 use Rattle.asks.proofs.closing.abort.Statement.{statement}
 use Rattle.asks.proofs.closing.abort.Tie as tie

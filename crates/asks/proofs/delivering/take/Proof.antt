@@ -1,6 +1,6 @@
 use Rattle.flat.specs.Shown.{shown}
 use mathlib.Core.Path.{refl}
-use Rattle.asks.specs.MessagesLaws.{takes-on, takes-short, takes-unsound, delivery-by, delivery-refused}
+use Rattle.asks.specs.TableMessagesLaws.{takes-on, takes-short, takes-unsound, delivery-by, delivery-refused}
 use borrow.Author.Needs.{needs}
 use Rattle.asks.proofs.delivering.take.Statement.{statement}
 use Rattle.asks.proofs.delivering.take.Tie as tie

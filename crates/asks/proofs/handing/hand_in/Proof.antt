@@ -1,4 +1,4 @@
-use Rattle.asks.specs.MessagesLaws.{handover-by, handover-refused}
+use Rattle.asks.specs.TableMessagesLaws.{handover-by, handover-refused}
 use borrow.Author.Needs.{needs}
 use Rattle.asks.proofs.handing.hand_in.Statement.{statement}
 use Rattle.asks.proofs.handing.hand_in.Tie as tie

@@ -4,7 +4,7 @@ use Rattle.association.specs.Bounds.{earlier}
 use Rattle.association.specs.BoundsLaws.{earlier-none}
 use Rattle.calls.specs.AnswerLaws.{roomy}
 use Rattle.flat.specs.Shown.{shown}
-use Rattle.asks.specs.OpeningLaws.{opening-done, opening-refused}
+use Rattle.asks.specs.TableOpeningLaws.{opening-done, opening-refused}
 use borrow.Author.Needs.{needs}
 use Rattle.asks.proofs.opening.associate.Statement.{statement}
 use Rattle.asks.proofs.opening.associate.Tie as tie

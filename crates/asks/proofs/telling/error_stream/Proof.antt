@@ -1,7 +1,7 @@
 use mathlib.Core.List.{[]}
 use Rattle.calls.specs.AnswerLaws.{roomy, done-sent, done-refused, done-so}
 use Rattle.flat.specs.Shown.{shown}
-use Rattle.asks.specs.AnswerLaws.{refused-in, told-in}
+use Rattle.asks.specs.TableAnswerLaws.{refused-in, told-in}
 use mathlib.Core.Path.{refl}
 use Rattle.states.specs.declared.call.Call.the-variants.{Acknowledge}
 use Rattle.calls.specs.PacketLaws.{sent-as}

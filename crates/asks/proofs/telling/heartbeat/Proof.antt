@@ -1,7 +1,7 @@
 use mathlib.Core.List.{[]}
 use Rattle.calls.specs.AnswerLaws.{roomy, done-sent, done-refused, done-so}
 use Rattle.flat.specs.Shown.{shown}
-use Rattle.asks.specs.AnswerLaws.{refused-in, told-in}
+use Rattle.asks.specs.TableAnswerLaws.{refused-in, told-in}
 use Rattle.states.specs.declared.call.Call.the-variants.{Heartbeat}
 use Rattle.calls.specs.Telling.{beating}
 use borrow.Author.Needs.{needs}

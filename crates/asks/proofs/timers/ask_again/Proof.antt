@@ -1,5 +1,5 @@
 use Rattle.calls.specs.AnswerLaws.{done-quiet, done-sent}
-use Rattle.asks.specs.AnswerLaws.{told-in}
+use Rattle.asks.specs.TableAnswerLaws.{told-in}
 use borrow.Author.Needs.{needs}
 use Rattle.asks.proofs.timers.ask_again.Statement.{statement}
 use Rattle.asks.proofs.timers.ask_again.Tie as tie

@@ -1,4 +1,4 @@
-use Rattle.calls.specs.Timers.{backedOff}
+use Rattle.calls.specs.Timers.{associationBackedOff}
 use borrow.Author.Needs.{needs}
 use Rattle.asks.proofs.timers.backed_off.Statement.{statement}
 use Rattle.asks.proofs.timers.backed_off.Tie as tie
@@ -7,7 +7,7 @@ doubled-requires : tie.Need-doubled-requires
 doubled-requires c κs = search needs
 
 returns : tie.Need-returns
-unfolding backedOff
+unfolding associationBackedOff
 returns c = rw (c .doubled .ensures)
 
 pub backed-off-spec : {M : Type 1} → statement M

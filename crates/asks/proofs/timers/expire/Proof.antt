@@ -2,7 +2,7 @@ use mathlib.Core.List.{[]}
 use Rattle.calls.specs.AnswerLaws.{roomy, done-refused, done-so}
 use Rattle.calls.specs.Timers.{expiring}
 use Rattle.flat.specs.Shown.{shown}
-use Rattle.asks.specs.AnswerLaws.{refused-in}
+use Rattle.asks.specs.TableAnswerLaws.{refused-in}
 use borrow.Author.Needs.{needs}
 use Rattle.asks.proofs.timers.expire.Statement.{statement}
 use Rattle.asks.proofs.timers.expire.Tie as tie

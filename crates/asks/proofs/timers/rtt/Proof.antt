@@ -1,7 +1,7 @@
 use Rattle.calls.specs.AnswerLaws.{told-as, kept-quiet, kept-refused, kept-so}
 use Rattle.calls.specs.Timers.{sampling}
 use Rattle.flat.specs.Shown.{shown}
-use Rattle.asks.specs.AnswerLaws.{refused-in, told-in, sampled-in}
+use Rattle.asks.specs.TableAnswerLaws.{refused-in, told-in, sampled-in}
 use borrow.Author.Needs.{needs}
 use Rattle.asks.proofs.timers.rtt.Statement.{statement}
 use Rattle.asks.proofs.timers.rtt.Tie as tie

@@ -1,8 +1,8 @@
 use mathlib.Core.Path.{ap, _∙_}
 use borrow.Author.Tests.{eq-eqb, ne-eqb}
 use Rattle.flat.specs.declared.head.Head.{Head}
-use Rattle.asks.specs.Answer.{toldWith}
-use Rattle.asks.specs.TimersLaws.{lapse-by, lapse-refused}
+use Rattle.asks.specs.TableAnswer.{toldWith}
+use Rattle.asks.specs.TableTimersLaws.{lapse-by, lapse-refused}
 use borrow.Author.Needs.{needs}
 use Rattle.asks.proofs.timers.t3.Statement.{statement}
 use Rattle.asks.proofs.timers.t3.Tie as tie

@@ -1,7 +1,7 @@
 use Rattle.calls.specs.AnswerLaws.{done-over}
 use Rattle.calls.specs.Timers.{triedTo}
 use Rattle.flat.specs.Shown.{shown}
-use Rattle.asks.specs.AnswerLaws.{over-in, backed-in}
+use Rattle.asks.specs.TableAnswerLaws.{over-in, backed-in}
 use borrow.Author.Needs.{needs}
 use Rattle.asks.proofs.timers.try_again.Statement.{statement}
 use Rattle.asks.proofs.timers.try_again.Tie as tie

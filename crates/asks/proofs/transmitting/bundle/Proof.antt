@@ -6,14 +6,14 @@ use borrow.Author.Tests.{le-ltb}
 use lib.ListN.{length}
 use Rattle.scans.specs.Scan.{Folding, fold-more, fold-end}
 use Rattle.numbers.specs.Profile.{rail}
-use Rattle.tables.specs.Place.{placesOf}
-use Rattle.calls.specs.Transmit.{turned, bundled}
-use Rattle.asks.specs.TransmitLaws.{turned-at}
+use Rattle.tables.specs.PlaceWords.{placesOf}
+use Rattle.calls.specs.Transmit.{addedChosen, bundled}
+use Rattle.asks.specs.TableTransmitLaws.{turned-at}
 use Rattle.asks.proofs.transmitting.bundle.Statement.{statement}
 use Rattle.asks.proofs.transmitting.bundle.Tie as tie
 
 abbrev Inv-loop : tie.InvT-loop
-Inv-loop places area out₀ chosen count at₀ k₀ out at k = Folding (turned area count (placesOf rail places)) (record { at = 12; out = out₀ }) chosen 26 k (record { at = at; out = out }) × (at ≤ length out) × (length out ≡ length out₀) × (at ≤ 12 + 65532 * k)
+Inv-loop places area out₀ chosen count at₀ k₀ out at k = Folding (addedChosen area count (placesOf rail places)) (record { at = 12; out = out₀ }) chosen 26 k (record { at = at; out = out }) × (at ≤ length out) × (length out ≡ length out₀) × (at ≤ 12 + 65532 * k)
 
 abbrev μ-loop : tie.MeasureT-loop
 μ-loop places area out₀ chosen count at₀ k₀ out at k = 26 - k

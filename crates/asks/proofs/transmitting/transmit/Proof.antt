@@ -5,7 +5,7 @@ use Rattle.states.specs.declared.call.Call.the-variants.{Transmit}
 use Rattle.calls.specs.Answer.{barred}
 use Rattle.calls.specs.TransmitLaws.{both-roomy}
 use Rattle.flat.specs.Shown.{shown}
-use Rattle.asks.specs.TransmitLaws.{dispatch-by, dispatch-refused}
+use Rattle.asks.specs.TableTransmitLaws.{dispatch-by, dispatch-refused}
 use borrow.Author.Needs.{needs}
 use Rattle.asks.proofs.transmitting.transmit.Statement.{statement}
 use Rattle.asks.proofs.transmitting.transmit.Tie as tie

@@ -3,12 +3,12 @@ use mathlib.Core.Path.{refl}
 use borrow.Author.Needs.{needs}
 use Rattle.kept.specs.FlagsLaws.{Putting, put-more, put-end}
 use Rattle.scans.specs.Scan.{long-mapped}
-use Rattle.face.specs.Acknowledging.{numberOf}
+use Rattle.face.specs.FaceAcknowledging.{tsnNumber}
 use Rattle.face.proofs.acknowledging.numbers_of.Statement.{statement}
 use Rattle.face.proofs.acknowledging.numbers_of.Tie as tie
 
 abbrev Inv-loop : tie.InvT-loop
-Inv-loop tsns numbers₀ i₀ numbers i = Putting numberOf tsns numbers₀ 16 i numbers
+Inv-loop tsns numbers₀ i₀ numbers i = Putting tsnNumber tsns numbers₀ 16 i numbers
 
 abbrev μ-loop : tie.MeasureT-loop
 μ-loop tsns numbers₀ i₀ numbers i = 16 - i

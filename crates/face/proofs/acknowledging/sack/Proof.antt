@@ -1,7 +1,7 @@
 use mathlib.Core.Path.{refl}
 use borrow.Author.Needs.{needs}
-use Rattle.face.specs.AcknowledgingLaws.{acknowledges}
-use Rattle.face.specs.LeftLaws.{is-not}
+use Rattle.face.specs.FaceAcknowledgingLaws.{face-acknowledges}
+use Rattle.face.specs.FaceLeftLaws.{is-not}
 use Rattle.face.proofs.acknowledging.sack.Statement.{statement}
 use Rattle.face.proofs.acknowledging.sack.Tie as tie
 
@@ -24,7 +24,7 @@ same-length : tie.Need-same-length
 same-length c = search needs
 
 returns : tie.Need-returns
-returns c = λ ns ms cs. rw (← c .before .before .before .before .before .before .before .before .before .before .before .unpack .ensures) (acknowledges _ (c .before .before .before .before .before .before .before .before .before .before .before .before .before .is-named .ensures) (c .before .before .before .before .before .before .before .before .before .before .before .before .if1 .taken) (c .said .ensures) _ ns _ ms cs _ (c .before .before .list .ensures _) (c .before .before .before .before .before .before .before .before .before .sack .ensures ns ms cs))
+returns c = λ ns ms cs. rw (← c .before .before .before .before .before .before .before .before .before .before .before .unpack .ensures) (face-acknowledges _ (c .before .before .before .before .before .before .before .before .before .before .before .before .before .is-named .ensures) (c .before .before .before .before .before .before .before .before .before .before .before .before .if1 .taken) (c .said .ensures) _ ns _ ms cs _ (c .before .before .list .ensures _) (c .before .before .before .before .before .before .before .before .before .sack .ensures ns ms cs))
 
 returns-2 : tie.Need-returns-2
 returns-2 c = λ ns ms cs. is-not _ (c .before .before .before .before .before .is-named .ensures) _ (c .before .before .before .before .if1 .left) refl

@@ -1,7 +1,7 @@
 use mathlib.Core.Path.{refl}
 use borrow.Author.Needs.{needs}
-use Rattle.face.specs.LeftLaws.{tells, is-not, serves}
-use Rattle.face.specs.Arrival.{afterLeft}
+use Rattle.face.specs.FaceLeftLaws.{tells, is-not, serves}
+use Rattle.face.specs.FaceArrival.{afterLeft}
 use Rattle.face.proofs.arrival.arrive.Statement.{statement}
 use Rattle.face.proofs.arrival.arrive.Tie as tie
 

@@ -1,7 +1,7 @@
 use mathlib.Core.Path.{refl}
 use borrow.Author.Needs.{needs}
-use Rattle.face.specs.LeftLaws.{tells, is-not, serves}
-use Rattle.face.specs.Messages.{deliveryLeft}
+use Rattle.face.specs.FaceLeftLaws.{tells, is-not, serves}
+use Rattle.face.specs.FaceMessages.{deliveryLeft}
 use Rattle.face.proofs.delivering.take.Statement.{statement}
 use Rattle.face.proofs.delivering.take.Tie as tie
 

@@ -1,7 +1,7 @@
 use mathlib.Core.Path.{refl}
 use borrow.Author.Needs.{needs}
-use Rattle.face.specs.LeftLaws.{tells, is-not, serves}
-use Rattle.face.specs.Messages.{handoverLeft}
+use Rattle.face.specs.FaceLeftLaws.{tells, is-not, serves}
+use Rattle.face.specs.FaceMessages.{handoverLeft}
 use Rattle.face.proofs.handing.hand_in.Statement.{statement}
 use Rattle.face.proofs.handing.hand_in.Tie as tie
 

@@ -1,7 +1,7 @@
 use mathlib.Core.Path.{refl}
 use borrow.Author.Needs.{needs}
-use Rattle.face.specs.AnswerLaws.{answers-alone}
-use Rattle.face.specs.LeftLaws.{is-not}
+use Rattle.face.specs.FaceAnswerLaws.{answers-alone}
+use Rattle.face.specs.FaceLeftLaws.{is-not}
 use Rattle.face.proofs.timers.rtt.Statement.{statement}
 use Rattle.face.proofs.timers.rtt.Tie as tie
 

@@ -1,7 +1,7 @@
 use mathlib.Core.Path.{refl}
 use borrow.Author.Needs.{needs}
-use Rattle.face.specs.AnswerLaws.{answers}
-use Rattle.face.specs.LeftLaws.{is-not}
+use Rattle.face.specs.FaceAnswerLaws.{face-answers}
+use Rattle.face.specs.FaceLeftLaws.{is-not}
 use Rattle.face.proofs.timers.t2.Statement.{statement}
 use Rattle.face.proofs.timers.t2.Tie as tie
 
@@ -21,7 +21,7 @@ same-length : tie.Need-same-length
 same-length c = search needs
 
 returns : tie.Need-returns
-returns c = λ ns ms. rw (← c .before .before .before .before .before .before .unpack .ensures) (answers _ (c .before .before .before .before .before .before .before .before .is-named .ensures) (c .before .before .before .before .before .before .before .if1 .taken) (c .tell .ensures) _ ns _ ms _ (c .before .before .before .before .t2 .ensures ns ms))
+returns c = λ ns ms. rw (← c .before .before .before .before .before .before .unpack .ensures) (face-answers _ (c .before .before .before .before .before .before .before .before .is-named .ensures) (c .before .before .before .before .before .before .before .if1 .taken) (c .tell .ensures) _ ns _ ms _ (c .before .before .before .before .t2 .ensures ns ms))
 
 returns-2 : tie.Need-returns-2
 returns-2 c = λ ns ms. is-not _ (c .before .before .is-named .ensures) _ (c .before .if1 .left) refl

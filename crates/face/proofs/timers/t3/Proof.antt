@@ -1,7 +1,7 @@
 use mathlib.Core.Path.{refl}
 use borrow.Author.Needs.{needs}
-use Rattle.face.specs.LeftLaws.{tells, is-not, serves}
-use Rattle.face.specs.Answer.{lapseLeft}
+use Rattle.face.specs.FaceLeftLaws.{tells, is-not, serves}
+use Rattle.face.specs.FaceAnswer.{lapseLeft}
 use Rattle.face.proofs.timers.t3.Statement.{statement}
 use Rattle.face.proofs.timers.t3.Tie as tie
 

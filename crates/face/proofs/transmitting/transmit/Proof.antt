@@ -1,7 +1,7 @@
 use mathlib.Core.Path.{refl}
 use borrow.Author.Needs.{needs}
-use Rattle.face.specs.LeftLaws.{tells, is-not, serves}
-use Rattle.face.specs.Transmit.{dispatchLeft}
+use Rattle.face.specs.FaceLeftLaws.{tells, is-not, serves}
+use Rattle.face.specs.FaceTransmit.{dispatchLeft}
 use Rattle.face.proofs.transmitting.transmit.Statement.{statement}
 use Rattle.face.proofs.transmitting.transmit.Tie as tie
 

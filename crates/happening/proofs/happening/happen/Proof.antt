@@ -3,8 +3,8 @@ use mathlib.Core.Path.{refl}
 use mathlib.Core.List.{[], _∷_}
 use mir.Syntax.{w8, w32}
 use denote.Builtin.{Array, u32}
-use Rattle.lending.specs.Walk.{Valued, Outcome}
-use Rattle.lending.specs.Lent.{uint, struct, outcome, by-value, shared, lent, lent-one, others, lent-meets}
+use Rattle.lending.specs.LentWalk.{Valued, Outcome}
+use Rattle.lending.specs.Lent.{uint, struct, outcome, by-value, shared, lentSlice, lent-one, others, lent-meets}
 use Rattle.flat.proofs.head.Association
 use Rattle.flat.proofs.head.Association.Laws as Association′
 use Rattle.happening.proofs.told.Ran
@@ -31,6 +31,6 @@ pub happen-spec : {M : Type 1} → stated.statement M
 unfolding body.routine
 happen-spec 𝓤 H 𝓜 𝓖 𝓡 =
     lent-meets ended (others (f.signature .params)) (f.ended .kept .1)
-    (by-value (uint w8), (shared 1 tt w32, (lent 2 tt w8, (lent 3 tt w8, (lent-one 4 tt (Array u32 tt 1460), (shared 5 tt w8, (shared 6 tt w8, (lent 7 tt w8, tt))))))))
+    (by-value (uint w8), (shared 1 tt w32, (lentSlice 2 tt w8, (lentSlice 3 tt w8, (lent-one 4 tt (Array u32 tt 1460), (shared 5 tt w8, (shared 6 tt w8, (lentSlice 7 tt w8, tt))))))))
     𝓤 H 𝓜 𝓖 𝓡 (λ κs a. f.clauses 𝓤 H (𝓖 .A) (𝓜 .mem) (𝓡 .run) κs a .ensures tt) body.env key.name step-def.name body.function (body.unfolded 𝓤 H 𝓜 𝓡) refl step-def.routine body.calls-happening·running·run-coded
     (λ κs qs a vss. step-thm.met 𝓤 H 𝓜 𝓖 𝓡 ((κs .1, qs .1, tt, (a .0 .now, a .1), (kept .val (a .0 .now) ∷ [], vss)), tt))

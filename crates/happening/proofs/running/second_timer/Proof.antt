@@ -1,6 +1,6 @@
 use borrow.Author.Needs.{needs}
-use Rattle.happening.specs.HappeningLaws.{goes}
-use Rattle.happening.specs.Happening.{lent}
+use Rattle.happening.specs.TableHappeningLaws.{goes-as-planned}
+use Rattle.happening.specs.TableHappening.{lentTableBuffers}
 use Rattle.happening.proofs.running.second_timer.Statement.{statement}
 use Rattle.happening.proofs.running.second_timer.Tie as tie
 
@@ -17,7 +17,7 @@ same-length : tie.Need-same-length
 same-length c = search needs
 
 returns : tie.Need-returns
-returns c = λ received sent verdicts input cookie. (goes (c .before .before .before .before .before .before .before .before .before .before .before .before .before .before .before .args .a) (lent received sent verdicts input cookie _) (c .before .of-answered .ensures) (c .with-head .ensures) (c .before .before .before .before .before .t2 .ensures (c .before .before .before .before .before .before .before .before .before .before .before .before .before .before .before .args .a .«next_in») (c .before .before .before .before .before .before .before .before .before .before .before .before .before .before .before .args .a .«next_out»)))
+returns c = λ received sent verdicts input cookie. (goes-as-planned (c .before .before .before .before .before .before .before .before .before .before .before .before .before .before .before .args .a) (lentTableBuffers received sent verdicts input cookie _) (c .before .of-answered .ensures) (c .with-head .ensures) (c .before .before .before .before .before .t2 .ensures (c .before .before .before .before .before .before .before .before .before .before .before .before .before .before .before .args .a .«next_in») (c .before .before .before .before .before .before .before .before .before .before .before .before .before .before .before .args .a .«next_out»)))
 
 pub second-timer-spec : {M : Type 1} → statement M
 second-timer-spec =

@@ -5,7 +5,7 @@ use lib.ListN.{length}
 use Rattle.numbers.specs.Numbering.{ring}
 use Rattle.numbers.specs.Profile.{rail}
 use Rattle.holding.specs.Held.{asHeld}
-use Rattle.reception.specs.ReceptionLaws.{Fitting, fresh-seen, words-arrived, words-taken, words-sacked}
+use Rattle.reception.specs.ReceptionLaws.{Fitting, fresh-receiving-shown, words-arrived, words-taken, words-sacked}
 use borrow.Author.Needs.{needs}
 use Rattle.incoming.proofs.Incoming.fresh.Statement.{statement}
 use Rattle.incoming.proofs.Incoming.fresh.Tie as tie
@@ -19,7 +19,7 @@ fresh-requires c κs = search needs
 
 -- src/lib.rt:51:5
 returns : tie.Need-returns
-returns c = (rw (c .fresh .ensures), rw (c .fresh .ensures) (fresh-seen (ring (2 ^ 32)) rail _ 512 128))
+returns c = (rw (c .fresh .ensures), rw (c .fresh .ensures) (fresh-receiving-shown (ring (2 ^ 32)) rail _ 512 128))
 
 pub fresh-spec : {M : Type 1} → statement M
 fresh-spec = tie.close (tie.spec fresh-requires returns)

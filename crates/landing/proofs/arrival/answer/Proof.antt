@@ -1,6 +1,6 @@
 use mathlib.Core.Path.{sym, _∙_}
 use Rattle.arriving.specs.ArrivalLaws.{chunks-are, answer-silent, answer-sent}
-use Rattle.landing.specs.Walk.{bareWalked}
+use Rattle.landing.specs.TableWalk.{bareWalked}
 use borrow.Author.Needs.{needs}
 use Rattle.landing.proofs.arrival.answer.Statement.{statement}
 use Rattle.landing.proofs.arrival.answer.Tie as tie

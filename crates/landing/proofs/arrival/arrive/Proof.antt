@@ -1,4 +1,4 @@
-use Rattle.landing.specs.LandingLaws.{refused-lent, refused-packet, let-in}
+use Rattle.landing.specs.LandingLaws.{landed-refused-lent, landed-refused, landed-let-in}
 use borrow.Author.Needs.{needs}
 use Rattle.landing.proofs.arrival.arrive.Statement.{statement}
 use Rattle.landing.proofs.arrival.arrive.Tie as tie
@@ -20,7 +20,7 @@ refused-requires c κs = search needs
 
 -- src/arrival.rt:170:9
 returns : tie.Need-returns
-returns c = refused-lent _ (c .before .before .before .before .before .before .before .before .before .args .lent) (c .before .before .before .before .before .before .before .before .before .args .cookie .now) (c .before .before .before .before .before .before .before .before .before .args .echoed) (c .before .before .before .before .before .before .before .before .before .args .head) _ _ _ _ _ _ _ _ (c .before .before .check-lent .ensures) (c .before .if1 .taken) (c .refused .ensures)
+returns c = landed-refused-lent _ (c .before .before .before .before .before .before .before .before .before .args .lent) (c .before .before .before .before .before .before .before .before .before .args .cookie .now) (c .before .before .before .before .before .before .before .before .before .args .echoed) (c .before .before .before .before .before .before .before .before .before .args .head) _ _ _ _ _ _ _ _ (c .before .before .check-lent .ensures) (c .before .if1 .taken) (c .refused .ensures)
 
 -- src/arrival.rt:172:9
 heed-requires : tie.Need-heed-requires
@@ -36,7 +36,7 @@ refused-requires-2 c κs = search needs
 
 -- src/arrival.rt:175:9
 returns-2 : tie.Need-returns-2
-returns-2 c = refused-packet _ (c .before .before .before .before .before .before .before .before .before .before .before .before .args .lent) (c .before .before .before .before .before .before .before .before .before .before .before .before .args .cookie .now) (c .before .before .before .before .before .before .before .before .before .before .before .before .args .echoed) (c .before .before .before .before .before .before .before .before .before .before .before .before .args .head) _ _ _ _ _ _ _ _ (c .before .before .before .before .before .check-lent .ensures) (c .before .before .before .before .if1 .left) (c .before .before .before .heed .ensures) (c .before .before .check .ensures) (c .before .if2 .taken) (c .refused2 .ensures)
+returns-2 c = landed-refused _ (c .before .before .before .before .before .before .before .before .before .before .before .before .args .lent) (c .before .before .before .before .before .before .before .before .before .before .before .before .args .cookie .now) (c .before .before .before .before .before .before .before .before .before .before .before .before .args .echoed) (c .before .before .before .before .before .before .before .before .before .before .before .before .args .head) _ _ _ _ _ _ _ _ (c .before .before .before .before .before .check-lent .ensures) (c .before .before .before .before .if1 .left) (c .before .before .before .heed .ensures) (c .before .before .check .ensures) (c .before .if2 .taken) (c .refused2 .ensures)
 
 -- src/arrival.rt:177:5
 let-in-requires : tie.Need-let-in-requires
@@ -52,7 +52,7 @@ same-length-2 c = search needs
 
 -- src/arrival.rt:150:1
 returns-3 : tie.Need-returns-3
-returns-3 c = let-in _ (c .before .before .before .before .before .before .before .before .before .before .before .before .before .before .before .before .before .before .before .before .before .before .before .before .args .lent) (c .before .before .before .before .before .before .before .before .before .before .before .before .before .before .before .before .before .before .before .before .before .before .before .before .args .cookie .now) (c .before .before .before .before .before .before .before .before .before .before .before .before .before .before .before .before .before .before .before .before .before .before .before .before .args .echoed) (c .before .before .before .before .before .before .before .before .before .before .before .before .before .before .before .before .before .before .before .before .before .before .before .before .args .head) _ _ _ _ _ _ _ _ (c .before .before .before .before .before .before .before .before .before .before .before .before .before .before .before .before .before .check-lent .ensures) (c .before .before .before .before .before .before .before .before .before .before .before .before .before .before .before .before .if1 .left) (c .before .before .before .before .before .before .before .before .before .before .before .before .before .before .before .heed .ensures) (c .before .before .before .before .before .before .before .before .before .before .before .before .before .before .check .ensures) (c .before .before .before .before .before .before .before .before .before .before .before .before .before .if2 .left) (c .before .before .before .before .let-in .ensures)
+returns-3 c = landed-let-in _ (c .before .before .before .before .before .before .before .before .before .before .before .before .before .before .before .before .before .before .before .before .before .before .before .before .args .lent) (c .before .before .before .before .before .before .before .before .before .before .before .before .before .before .before .before .before .before .before .before .before .before .before .before .args .cookie .now) (c .before .before .before .before .before .before .before .before .before .before .before .before .before .before .before .before .before .before .before .before .before .before .before .before .args .echoed) (c .before .before .before .before .before .before .before .before .before .before .before .before .before .before .before .before .before .before .before .before .before .before .before .before .args .head) _ _ _ _ _ _ _ _ (c .before .before .before .before .before .before .before .before .before .before .before .before .before .before .before .before .before .check-lent .ensures) (c .before .before .before .before .before .before .before .before .before .before .before .before .before .before .before .before .if1 .left) (c .before .before .before .before .before .before .before .before .before .before .before .before .before .before .before .heed .ensures) (c .before .before .before .before .before .before .before .before .before .before .before .before .before .before .check .ensures) (c .before .before .before .before .before .before .before .before .before .before .before .before .before .if2 .left) (c .before .before .before .before .let-in .ensures)
 
 pub arrive-spec : {M : Type 1} → statement M
 arrive-spec =

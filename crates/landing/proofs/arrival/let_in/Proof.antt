@@ -1,5 +1,5 @@
-use Rattle.landing.specs.Landing.{passed}
-use Rattle.landing.specs.LandingLaws.{let-in-done}
+use Rattle.landing.specs.Landing.{packetWalkedOver}
+use Rattle.landing.specs.LandingLaws.{landed-in-done}
 use borrow.Author.Needs.{needs}
 use Rattle.landing.proofs.arrival.let_in.Statement.{statement}
 use Rattle.landing.proofs.arrival.let_in.Tie as tie
@@ -39,8 +39,8 @@ same-length-2 c = search needs
 
 -- src/arrival.rt:98:1
 returns : tie.Need-returns
-unfolding passed
-returns c = let-in-done (c .before .before .before .before .before .before .before .before .before .before .walk-over .result) _ _ _ _ _ _ _ _ _ _ (rw (← c .before .before .before .before .before .before .before .before .before .before .before .before .before .before .before .before .before .before .before .read-header .ensures) (c .before .before .before .before .before .before .before .before .before .before .walk-over .ensures .0)) (c .before .before .before .before .answer .ensures)
+unfolding packetWalkedOver
+returns c = landed-in-done (c .before .before .before .before .before .before .before .before .before .before .walk-over .result) _ _ _ _ _ _ _ _ _ _ (rw (← c .before .before .before .before .before .before .before .before .before .before .before .before .before .before .before .before .before .before .before .read-header .ensures) (c .before .before .before .before .before .before .before .before .before .before .walk-over .ensures .0)) (c .before .before .before .before .answer .ensures)
 
 pub let-in-spec : {M : Type 1} → statement M
 let-in-spec =

@@ -1,6 +1,6 @@
 use mathlib.Core.Path.{_∙_}
 use Rattle.arriving.specs.ReplyLaws.{closed-as}
-use Rattle.landing.specs.Walk.{bareWalked}
+use Rattle.landing.specs.TableWalk.{bareWalked}
 use borrow.Author.Needs.{needs}
 use Rattle.landing.proofs.reply.close_reply.Statement.{statement}
 use Rattle.landing.proofs.reply.close_reply.Tie as tie

@@ -1,6 +1,6 @@
 use mathlib.Core.Path.{sym, _∙_}
 use Rattle.arriving.specs.ReplyLaws.{not-ended, ended}
-use Rattle.landing.specs.Walk.{bareWalked}
+use Rattle.landing.specs.TableWalk.{bareWalked}
 use borrow.Author.Needs.{needs}
 use Rattle.landing.proofs.reply.end_reply.Statement.{statement}
 use Rattle.landing.proofs.reply.end_reply.Tie as tie

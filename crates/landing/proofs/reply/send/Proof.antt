@@ -1,4 +1,4 @@
-use Rattle.arriving.specs.Reply.{sentLength, sentOut}
+use Rattle.arriving.specs.Reply.{replyLength, sentOut}
 use Rattle.arriving.specs.ReplyLaws.{laid-none, chunkless, chunked}
 use borrow.Author.Needs.{needs}
 use Rattle.landing.proofs.reply.send.Statement.{statement}
@@ -10,7 +10,7 @@ use Rattle.packets.proofs.seal.Reads as seal-reads
 
 -- src/reply.rt:108:9
 returns : tie.Need-returns
-unfolding sentLength sentOut
+unfolding replyLength sentOut
 returns c = (rw (chunkless (c .if1 .taken)), rw (chunkless (c .if1 .taken), laid-none _ _ (c .if1 .taken)))
 
 -- src/reply.rt:110:5
@@ -31,7 +31,7 @@ same-length c = search needs
 
 -- src/reply.rt:102:1
 returns-2 : tie.Need-returns-2
-unfolding sentLength sentOut
+unfolding replyLength sentOut
 returns-2 c = (rw (chunked (c .before .before .before .before .before .before .before .before .if1 .left), ← c .before .before .before .before .before .before .put-all .ensures) (c .before .before .seal .ensures .0), rw (chunked (c .before .before .before .before .before .before .before .before .if1 .left), ← c .before .before .before .before .before .before .put-all .ensures) (c .before .before .seal .ensures .1))
 
 pub send-spec : {M : Type 1} → statement M

@@ -1,5 +1,5 @@
 use borrow.Author.Tests.{lt-ltb, le-ltb}
-use Rattle.tables.specs.HeldLaws.{four-stores}
+use Rattle.tables.specs.HeldWordsLaws.{four-stores}
 use Rattle.landing.specs.Verdicts.{countAfter, wordsNoted}
 use borrow.Author.Needs.{needs}
 use Rattle.landing.proofs.verdict.note.Statement.{statement}

@@ -1,7 +1,7 @@
 use mathlib.Core.Path.{ap}
 use native.Mathlib.Omega.{arith}
 use Rattle.landing.specs.declared.walk.Walk.{Walk}
-use Rattle.landing.specs.WalkLaws.{turn-unread, written-within, turn-read}
+use Rattle.landing.specs.TableWalkLaws.{table-turn-unread, table-written-within, table-turn-read}
 use borrow.Author.Needs.{needs}
 use Rattle.landing.proofs.walk.turn.Statement.{statement}
 use Rattle.landing.proofs.walk.turn.Tie as tie
@@ -23,7 +23,7 @@ note-requires c κs = search needs
 
 -- src/walk.rt:80:9
 returns : tie.Need-returns
-returns c = (turn-unread (c .before .before .before .before .before .before .before .before .args .at) (c .before .before .before .before .before .before .before .before .args .b) _ _ (c .before .before .before .before .before .before .before .before .args .w) _ _ _ _ _ _ _ _ (c .before .before .before .if1 .taken) (c .before .before .unread .ensures) (c .note .ensures .0) (c .note .ensures .1), omega (arith, c .before .before .before .before .before .before .before .before .pre))
+returns c = (table-turn-unread (c .before .before .before .before .before .before .before .before .args .at) (c .before .before .before .before .before .before .before .before .args .b) _ _ (c .before .before .before .before .before .before .before .before .args .w) _ _ _ _ _ _ _ _ (c .before .before .before .if1 .taken) (c .before .before .unread .ensures) (c .note .ensures .0) (c .note .ensures .1), omega (arith, c .before .before .before .before .before .before .before .before .pre))
 
 -- src/walk.rt:85:9
 step-requires : tie.Need-step-requires
@@ -39,7 +39,7 @@ note-requires-2 c κs = search needs
 
 -- src/walk.rt:90:5
 take-in-requires : tie.Need-take-in-requires
-take-in-requires c κs = written-within (c .before .before .before .before .before .before .before .before .before .before .before .before .before .before .before .before .before .before .before .before .before .args .at) (c .before .before .before .before .before .before .before .before .before .before .before .before .before .before .before .before .before .before .before .before .before .args .b) _ _ (c .before .before .before .before .before .before .before .before .before .before .before .before .before .before .before .before .before .before .before .before .before .args .w) _ _ _ _ _ _ (c .before .before .before .before .before .before .before .before .before .before .before .before .before .before .before .before .before .before .before .before .before .args .verdicts .now) _ (c .before .before .before .before .before .before .before .step .ensures) (c .before .before .before .before .before .before .before .before .before .before .before .before .before .before .before .before .before .before .before .before .before .pre)
+take-in-requires c κs = table-written-within (c .before .before .before .before .before .before .before .before .before .before .before .before .before .before .before .before .before .before .before .before .before .args .at) (c .before .before .before .before .before .before .before .before .before .before .before .before .before .before .before .before .before .before .before .before .before .args .b) _ _ (c .before .before .before .before .before .before .before .before .before .before .before .before .before .before .before .before .before .before .before .before .before .args .w) _ _ _ _ _ _ (c .before .before .before .before .before .before .before .before .before .before .before .before .before .before .before .before .before .before .before .before .before .args .verdicts .now) _ (c .before .before .before .before .before .before .before .step .ensures) (c .before .before .before .before .before .before .before .before .before .before .before .before .before .before .before .before .before .before .before .before .before .pre)
 
 -- src/walk.rt:57:1
 same-length : tie.Need-same-length
@@ -51,7 +51,7 @@ same-length-2 c = search needs
 
 -- src/walk.rt:57:1
 returns-2 : tie.Need-returns-2
-returns-2 c = (turn-read (c .before .before .before .before .before .before .before .before .before .before .before .before .before .before .before .before .before .before .before .before .before .before .args .at) (c .before .before .before .before .before .before .before .before .before .before .before .before .before .before .before .before .before .before .before .before .before .before .args .b) _ _ (c .before .before .before .before .before .before .before .before .before .before .before .before .before .before .before .before .before .before .before .before .before .before .args .w) _ _ _ _ _ _ _ _ (c .before .before .before .before .before .before .before .before .step .ensures) (c .before .before .before .before .before .before .before .before .before .before .before .before .before .before .before .before .before .if1 .left) (c .before .before .before .verdict-of .ensures) (c .before .note2 .ensures .0) (c .before .note2 .ensures .1) (c .take-in .ensures), omega (arith, written-within (c .before .before .before .before .before .before .before .before .before .before .before .before .before .before .before .before .before .before .before .before .before .before .args .at) (c .before .before .before .before .before .before .before .before .before .before .before .before .before .before .before .before .before .before .before .before .before .before .args .b) _ _ (c .before .before .before .before .before .before .before .before .before .before .before .before .before .before .before .before .before .before .before .before .before .before .args .w) _ _ _ _ _ _ (c .before .before .before .before .before .before .before .before .before .before .before .before .before .before .before .before .before .before .before .before .before .before .args .verdicts .now) _ (c .before .before .before .before .before .before .before .before .step .ensures) (c .before .before .before .before .before .before .before .before .before .before .before .before .before .before .before .before .before .before .before .before .before .before .pre), ap (λ (x : Walk). x .used) (c .take-in .ensures)))
+returns-2 c = (table-turn-read (c .before .before .before .before .before .before .before .before .before .before .before .before .before .before .before .before .before .before .before .before .before .before .args .at) (c .before .before .before .before .before .before .before .before .before .before .before .before .before .before .before .before .before .before .before .before .before .before .args .b) _ _ (c .before .before .before .before .before .before .before .before .before .before .before .before .before .before .before .before .before .before .before .before .before .before .args .w) _ _ _ _ _ _ _ _ (c .before .before .before .before .before .before .before .before .step .ensures) (c .before .before .before .before .before .before .before .before .before .before .before .before .before .before .before .before .before .if1 .left) (c .before .before .before .verdict-of .ensures) (c .before .note2 .ensures .0) (c .before .note2 .ensures .1) (c .take-in .ensures), omega (arith, table-written-within (c .before .before .before .before .before .before .before .before .before .before .before .before .before .before .before .before .before .before .before .before .before .before .args .at) (c .before .before .before .before .before .before .before .before .before .before .before .before .before .before .before .before .before .before .before .before .before .before .args .b) _ _ (c .before .before .before .before .before .before .before .before .before .before .before .before .before .before .before .before .before .before .before .before .before .before .args .w) _ _ _ _ _ _ (c .before .before .before .before .before .before .before .before .before .before .before .before .before .before .before .before .before .before .before .before .before .before .args .verdicts .now) _ (c .before .before .before .before .before .before .before .before .step .ensures) (c .before .before .before .before .before .before .before .before .before .before .before .before .before .before .before .before .before .before .before .before .before .before .pre), ap (λ (x : Walk). x .used) (c .take-in .ensures)))
 
 pub turn-spec : {M : Type 1} → statement M
 turn-spec =

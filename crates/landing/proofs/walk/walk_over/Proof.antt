@@ -4,9 +4,9 @@ use Prim.Native.Nat.{ℕ, _-_, _≤_}
 use mathlib.Core.List.{List}
 use native.Mathlib.Omega.{arith}
 use lib.ListN.{length, take, drop}
-use Rattle.octets.specs.WalkLaws.{Folding, folding-none, folding-end}
-use Rattle.landing.specs.Walk.{Turn, turnOf, turnedIn, begun, walkedOver}
-use Rattle.landing.specs.WalkLaws.{part-room, onward}
+use Rattle.octets.specs.WalkLaws.{ItemsFolding, folding-none, folding-end}
+use Rattle.landing.specs.TableWalk.{TableTurn, tableTurnOf, turnedIn, headWalkBegun, tableWalkedOver}
+use Rattle.landing.specs.TableWalkLaws.{part-room, folding-onward}
 use Rattle.landing.proofs.walk.walk_over.Statement.{statement}
 use Rattle.landing.proofs.walk.walk_over.Tie as tie
 use Rattle.landing.proofs.walk.walk_over.Reads as reads
@@ -16,7 +16,7 @@ use Rattle.octets.proofs.size.Reads as size-reads
 
 abbrev Inv-loop : tie.InvT-loop
 Inv-loop held₀ next-in₀ places₀ next-out₀ kept₀ area₀ verdicts₀ b cookie packet scratch₀ w₀ at₀ held next-in places next-out kept area verdicts scratch w at =
-    (w .used ≤ 1460) × (length area ≡ length area₀) × (length scratch ≡ length scratch₀) × Folding (λ (u : Turn) (s : List ℕ). turnedIn (length packet - length s) b cookie s u) packet (turnOf w₀ held₀ next-in₀ places₀ next-out₀ kept₀ area₀ verdicts₀ scratch₀) 12 (turnOf w held next-in places next-out kept area verdicts scratch) at
+    (w .used ≤ 1460) × (length area ≡ length area₀) × (length scratch ≡ length scratch₀) × ItemsFolding (λ (u : TableTurn) (s : List ℕ). turnedIn (length packet - length s) b cookie s u) packet (tableTurnOf w₀ held₀ next-in₀ places₀ next-out₀ kept₀ area₀ verdicts₀ scratch₀) 12 (tableTurnOf w held next-in places next-out kept area verdicts scratch) at
 
 abbrev μ-loop : tie.MeasureT-loop
 μ-loop held₀ next-in₀ places₀ next-out₀ kept₀ area₀ verdicts₀ b cookie packet scratch₀ w₀ at₀ held next-in places next-out kept area verdicts scratch w at =
@@ -68,7 +68,7 @@ loop-less c = search (needs, c .before .before .before .before .before .before .
 
 -- src/walk.rt:121:5
 loop-again : tie.Need-loop-again Inv-loop μ-loop
-loop-again c = (c .before .before .before .before .before .turn .ensures .1, search (needs, c .before .before .before .before .before .before .before .before .before .before .before .before .before .before .before .before .loop .inv .1, c .before .before .before .before .area .given, c .before .before .before .slice-known3 .given), search (needs, c .before .before .before .before .before .before .before .before .before .before .before .before .before .before .before .before .loop .inv .2, c .before .before .scratch .given, c .before .slice-known4 .given), onward (c .before .before .before .before .before .before .before .before .before .before .before .before .before .before .before .before .before .before .before .before .before .args .b) _ _ (turnOf (c .before .before .before .before .before .before .before .before .before .before .before .before .before .before .before .before .loop .w) (c .before .before .before .before .before .before .before .before .before .before .before .before .before .before .before .before .loop .held) (c .before .before .before .before .before .before .before .before .before .before .before .before .before .before .before .before .loop .next-in) (c .before .before .before .before .before .before .before .before .before .before .before .before .before .before .before .before .loop .places) (c .before .before .before .before .before .before .before .before .before .before .before .before .before .before .before .before .loop .next-out) (c .before .before .before .before .before .before .before .before .before .before .before .before .before .before .before .before .loop .kept) (c .before .before .before .before .before .before .before .before .before .before .before .before .before .before .before .before .loop .area) (c .before .before .before .before .before .before .before .before .before .before .before .before .before .before .before .before .loop .verdicts) (c .before .before .before .before .before .before .before .before .before .before .before .before .before .before .before .before .loop .scratch)) (c .before .before .before .before .before .before .before .before .before .before .before .before .before .before .before .before .loop .at) (c .before .before .before .before .before .before .before .before .before .before .before .before .before .before .before .before .loop .inv .3) (c .before .before .before .before .before .before .before .before .before .before .before .before .before .before .before .loop-test .taken) refl (c .size .ensures .0) _ (c .before .before .before .before .before .turn .ensures .0))
+loop-again c = (c .before .before .before .before .before .turn .ensures .1, search (needs, c .before .before .before .before .before .before .before .before .before .before .before .before .before .before .before .before .loop .inv .1, c .before .before .before .before .area .given, c .before .before .before .slice-known3 .given), search (needs, c .before .before .before .before .before .before .before .before .before .before .before .before .before .before .before .before .loop .inv .2, c .before .before .scratch .given, c .before .slice-known4 .given), folding-onward (c .before .before .before .before .before .before .before .before .before .before .before .before .before .before .before .before .before .before .before .before .before .args .b) _ _ (tableTurnOf (c .before .before .before .before .before .before .before .before .before .before .before .before .before .before .before .before .loop .w) (c .before .before .before .before .before .before .before .before .before .before .before .before .before .before .before .before .loop .held) (c .before .before .before .before .before .before .before .before .before .before .before .before .before .before .before .before .loop .next-in) (c .before .before .before .before .before .before .before .before .before .before .before .before .before .before .before .before .loop .places) (c .before .before .before .before .before .before .before .before .before .before .before .before .before .before .before .before .loop .next-out) (c .before .before .before .before .before .before .before .before .before .before .before .before .before .before .before .before .loop .kept) (c .before .before .before .before .before .before .before .before .before .before .before .before .before .before .before .before .loop .area) (c .before .before .before .before .before .before .before .before .before .before .before .before .before .before .before .before .loop .verdicts) (c .before .before .before .before .before .before .before .before .before .before .before .before .before .before .before .before .loop .scratch)) (c .before .before .before .before .before .before .before .before .before .before .before .before .before .before .before .before .loop .at) (c .before .before .before .before .before .before .before .before .before .before .before .before .before .before .before .before .loop .inv .3) (c .before .before .before .before .before .before .before .before .before .before .before .before .before .before .before .loop-test .taken) refl (c .size .ensures .0) _ (c .before .before .before .before .before .turn .ensures .0))
 
 -- src/walk.rt:94:1
 same-length : tie.Need-same-length Inv-loop μ-loop
@@ -80,7 +80,7 @@ same-length-2 c = c .before .loop .inv .2
 
 -- src/walk.rt:94:1
 returns : tie.Need-returns Inv-loop μ-loop
-unfolding begun walkedOver
+unfolding headWalkBegun tableWalkedOver
 returns c = (folding-end (c .before .loop .inv .3) (c .loop-test .left), c .before .loop .inv .0)
 
 pub walk-over-spec : {M : Type 1} → statement M

@@ -1,6 +1,6 @@
 use Rattle.numbers.specs.Profile.{rail}
 use Rattle.path.specs.Sizes.{sizesOf}
-use Rattle.sender.specs.SeenLaws.{fresh-seen}
+use Rattle.sender.specs.SeenLaws.{fresh-sending-shown}
 use borrow.Author.Needs.{needs}
 use Rattle.outgoing.proofs.Outgoing.fresh.Statement.{statement}
 use Rattle.outgoing.proofs.Outgoing.fresh.Tie as tie
@@ -14,7 +14,7 @@ fresh-requires c κs = search needs
 
 -- src/lib.rt:57:5
 returns : tie.Need-returns
-returns c = (rw (c .fresh .ensures), rw (c .fresh .ensures) (fresh-seen (sizesOf (c .before .args .mode)) rail _ _ (c .before .args .mode) 1024 128))
+returns c = (rw (c .fresh .ensures), rw (c .fresh .ensures) (fresh-sending-shown (sizesOf (c .before .args .mode)) rail _ _ (c .before .args .mode) 1024 128))
 
 pub fresh-spec : {M : Type 1} → statement M
 fresh-spec = tie.close (tie.spec fresh-requires returns)

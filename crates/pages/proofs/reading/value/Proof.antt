@@ -1,5 +1,5 @@
 use borrow.Author.Tests.{eq-eqb, ne-eqb}
-use Rattle.pages.specs.Reading.{numberOf, valueOf}
+use Rattle.pages.specs.Reading.{numberOf, textValueOf}
 use borrow.Author.Needs.{needs}
 use Rattle.pages.proofs.reading.value.Statement.{statement}
 use Rattle.pages.proofs.reading.value.Tie as tie
@@ -23,7 +23,7 @@ value-of-requires c κs = search needs
 
 -- src/reading.rt:222:9
 returns : tie.Need-returns
-unfolding valueOf numberOf
+unfolding textValueOf numberOf
 returns c = rw (← c .before .before .before .word .ensures, ← c .before .before .get8 .ensures, eq-eqb _ _ (c .before .if1 .taken)) (c .value-of .ensures)
 
 -- src/reading.rt:224:5
@@ -32,7 +32,7 @@ value-of-requires-2 c κs = search needs
 
 -- src/reading.rt:217:1
 returns-2 : tie.Need-returns-2
-unfolding valueOf numberOf
+unfolding textValueOf numberOf
 returns-2 c = rw (← c .before .before .before .word .ensures, ← c .before .before .get8 .ensures, ne-eqb _ _ (c .before .if1 .left)) (c .value-of2 .ensures)
 
 pub value-spec : {M : Type 1} → statement M

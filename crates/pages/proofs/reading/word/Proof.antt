@@ -1,4 +1,4 @@
-use Rattle.pages.specs.Reading.{wordOf}
+use Rattle.pages.specs.Reading.{textWordOf}
 use borrow.Author.Needs.{needs}
 use Rattle.pages.proofs.reading.word.Statement.{statement}
 use Rattle.pages.proofs.reading.word.Tie as tie
@@ -17,7 +17,7 @@ first-requires c κs = search needs
 
 -- src/reading.rt:164:1
 returns : tie.Need-returns
-unfolding wordOf
+unfolding textWordOf
 returns c = rw (← c .before .past-words .ensures) (c .first .ensures)
 
 pub word-spec : {M : Type 1} → statement M

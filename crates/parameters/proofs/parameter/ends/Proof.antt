@@ -1,5 +1,5 @@
 use borrow.Author.Tests.{eq-eqb, ne-eqb}
-use Rattle.parameters.specs.Parameter.{ends as endsAt}
+use Rattle.parameters.specs.Parameter.{endsSearch}
 use borrow.Author.Needs.{needs}
 use Rattle.parameters.proofs.parameter.ends.Statement.{statement}
 use Rattle.parameters.proofs.parameter.ends.Tie as tie
@@ -8,11 +8,11 @@ is-kind-requires : tie.Need-is-kind-requires
 is-kind-requires c κs = search needs
 
 returns : tie.Need-returns
-unfolding endsAt
+unfolding endsSearch
 returns c = rw (← c .before .is-kind .ensures, c .if1 .taken)
 
 returns-2 : tie.Need-returns-2
-unfolding endsAt
+unfolding endsSearch
 returns-2 c = rw (← c .before .before .is-kind .ensures, c .before .if1 .left, eq-eqb _ _ (c .if2 .taken))
 
 get16-requires : tie.Need-get16-requires
@@ -25,7 +25,7 @@ is-stopping-requires : tie.Need-is-stopping-requires
 is-stopping-requires c κs = search needs
 
 returns-3 : tie.Need-returns-3
-unfolding endsAt
+unfolding endsSearch
 returns-3 c = rw (← c .before .before .before .before .before .is-kind .ensures, c .before .before .before .before .if1 .left, ne-eqb _ _ (c .before .before .before .if2 .left), ← c .before .before .get16 .ensures, ← c .before .treatment-of .ensures) (c .is-stopping .ensures)
 
 pub ends-spec : {M : Type 1} → statement M

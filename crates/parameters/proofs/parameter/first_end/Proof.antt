@@ -4,12 +4,12 @@ use Prim.Native.Nat.{_-_}
 use mathlib.Core.Path.{refl}
 use lib.ListN.{length}
 use Rattle.octets.specs.WalkLaws.{Walking, walking-none, walking-yes, walking-no, walking-end}
-use Rattle.parameters.specs.Parameter.{ends as endsAt}
+use Rattle.parameters.specs.Parameter.{endsSearch}
 use Rattle.parameters.proofs.parameter.first_end.Statement.{statement}
 use Rattle.parameters.proofs.parameter.first_end.Tie as tie
 
 abbrev Inv-loop : tie.InvT-loop
-Inv-loop b kind at₀ at = Walking (endsAt kind) b 0 at
+Inv-loop b kind at₀ at = Walking (endsSearch kind) b 0 at
 
 abbrev μ-loop : tie.MeasureT-loop
 μ-loop b kind at₀ at = length b - at

@@ -1,6 +1,6 @@
 use borrow.Author.Needs.{needs}
 use Rattle.numbers.specs.Profile.{rail}
-use Rattle.tables.specs.Open.{by}
+use Rattle.tables.specs.OpenLaws.{by-law}
 use Rattle.reception.specs.ReceptionLaws.{sacked-is}
 use Rattle.reception.proofs.acknowledging.sack.Statement.{statement}
 use Rattle.reception.proofs.acknowledging.sack.Tie as tie
@@ -21,7 +21,7 @@ told-requires : tie.Need-told-requires
 told-requires c κs = search needs
 
 returns : tie.Need-returns
-returns c = by (sacked-is rail _ _) (rw (c .told .ensures, c .before .before .blocks2 .ensures, c .before .before .before .before .free-places .ensures .0))
+returns c = by-law (sacked-is rail _ _) (rw (c .told .ensures, c .before .before .blocks2 .ensures, c .before .before .before .before .free-places .ensures .0))
 
 pub sack-spec : {M : Type 1} → statement M
 sack-spec =

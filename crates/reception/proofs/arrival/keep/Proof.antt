@@ -1,8 +1,8 @@
 use mathlib.Core.Path.{refl, ap, _∙_}
 use borrow.Author.Needs.{needs}
 use Rattle.numbers.specs.Profile.{rail}
-use Rattle.tables.specs.Held.{heldOf, heldPut}
-use Rattle.tables.specs.HeldLaws.{held-long}
+use Rattle.tables.specs.HeldWords.{heldOf, heldPut}
+use Rattle.tables.specs.HeldWordsLaws.{held-long}
 use Rattle.delivery.specs.LookLaws.{free-at, free-none}
 use Rattle.reception.proofs.arrival.keep.Statement.{statement}
 use Rattle.reception.proofs.arrival.keep.Tie as tie

@@ -7,8 +7,8 @@ use Rattle.numbers.specs.Numbering.{ring}
 use Rattle.numbers.specs.Profile.{rail}
 use Rattle.scans.specs.Scan.{bit-within}
 use Rattle.holding.specs.declared.held.Held.{Held}
-use Rattle.tables.specs.Held.{heldOf}
-use Rattle.tables.specs.HeldLaws.{held-long}
+use Rattle.tables.specs.HeldWords.{heldOf}
+use Rattle.tables.specs.HeldWordsLaws.{held-long}
 use Rattle.taking.specs.FreeLaws.{free-eight}
 use Rattle.delivery.specs.LowLaws.{low-by}
 use Rattle.delivery.specs.LookLaws.{Looking, look-start, look-free, look-end}

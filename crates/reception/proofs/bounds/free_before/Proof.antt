@@ -4,8 +4,8 @@ use mathlib.Core.Path.{_≡_, refl}
 use native.Mathlib.Omega.{arith}
 use borrow.Author.Needs.{needs}
 use Rattle.numbers.specs.Profile.{rail}
-use Rattle.tables.specs.Held.{heldOf}
-use Rattle.taking.specs.Taking.{freeFor}
+use Rattle.tables.specs.HeldWords.{heldOf}
+use Rattle.taking.specs.TakeWords.{freeFor}
 use Rattle.taking.specs.FreeLaws.{free-eight, free-more}
 use Rattle.reception.proofs.bounds.free_before.Statement.{statement}
 use Rattle.reception.proofs.bounds.free_before.Tie as tie

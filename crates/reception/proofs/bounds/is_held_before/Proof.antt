@@ -7,8 +7,8 @@ use lib.Seq.{getD-take, length-take-le}
 use Rattle.numbers.specs.Profile.{rail}
 use Rattle.scans.specs.Scan.{Seeking, seek-yes, seek-no, seek-end}
 use Rattle.holding.specs.Held.{noHeld, holds}
-use Rattle.tables.specs.Held.{heldOf}
-use Rattle.tables.specs.HeldLaws.{held-long}
+use Rattle.tables.specs.HeldWords.{heldOf}
+use Rattle.tables.specs.HeldWordsLaws.{held-long}
 use Rattle.reception.proofs.bounds.is_held_before.Statement.{statement}
 use Rattle.reception.proofs.bounds.is_held_before.Tie as tie
 

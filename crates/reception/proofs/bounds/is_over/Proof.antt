@@ -5,7 +5,7 @@ use native.Mathlib.Omega.{arith}
 use borrow.Author.Tests.{lt-ltb, le-ltb}
 use Rattle.numbers.specs.Come.{highest}
 use Rattle.numbers.specs.ComeLaws.{Lowered, lower-start, lower-more, highest-above, highest-least}
-use Rattle.reception.specs.ReadLaws.{not-so, none-set}
+use Rattle.reception.specs.ReadLaws.{not-set, none-set}
 use Rattle.reception.proofs.bounds.is_over.Statement.{statement}
 use Rattle.reception.proofs.bounds.is_over.Tie as tie
 use Rattle.reception.proofs.bounds.is_over.Reads as reads
@@ -24,7 +24,7 @@ has-come-requires c κs = c .pre .1
 
 -- src/bounds.rt:146:9
 returns : tie.Need-returns Inv-loop μ-loop
-returns c = sym (le-ltb 128 (highest (c .before .before .args .come .now) + c .before .before .args .low) (omega (arith, highest-least (c .before .before .args .come .now) 0 (λ j h. none-set (c .before .before .args .come .now) (sym (c .before .has-come .ensures) ∙ not-so (c .before .has-come .result) (c .if1 .taken)) j), c .before .before .pre .0)))
+returns c = sym (le-ltb 128 (highest (c .before .before .args .come .now) + c .before .before .args .low) (omega (arith, highest-least (c .before .before .args .come .now) 0 (λ j h. none-set (c .before .before .args .come .now) (sym (c .before .has-come .ensures) ∙ not-set (c .before .has-come .result) (c .if1 .taken)) j), c .before .before .pre .0)))
 
 -- src/bounds.rt:148:16
 sub-room : tie.Need-sub-room Inv-loop μ-loop

@@ -9,11 +9,11 @@ use Rattle.numbers.specs.Profile.{rail}
 use Rattle.scans.specs.Scan.{bit-within, Seeking, seek-yes, seek-no, seek-end, Counting, count-no, count-end}
 use Rattle.holding.specs.declared.held.Held.{Held}
 use Rattle.holding.specs.Held.{noHeld}
-use Rattle.tables.specs.Held.{heldOf}
-use Rattle.tables.specs.HeldLaws.{held-long}
+use Rattle.tables.specs.HeldWords.{heldOf}
+use Rattle.tables.specs.HeldWordsLaws.{held-long}
 use Rattle.delivery.specs.Receiving.{isLow}
-use Rattle.delivery.specs.Bounds.{isUnfit}
-use Rattle.delivery.specs.BoundsLaws.{weight-unfit, weight-twice, weight-fit, unfit-used, unfit-free}
+use Rattle.delivery.specs.ReceivingBounds.{isUnfit}
+use Rattle.delivery.specs.ReceivingBoundsLaws.{weight-unfit, weight-twice, weight-fit, unfit-used, unfit-free}
 use Rattle.delivery.specs.LowLaws.{low-by, low-free, count-by}
 use Rattle.reception.specs.ReadLaws.{weigh-free, weigh-first, read-new, read-held, read-same}
 use Rattle.taking.specs.FreeLaws.{free-eight}

@@ -1,4 +1,4 @@
-use Rattle.rows.specs.RowsLaws.{accepted-told}
+use Rattle.rows.specs.TableRowsLaws.{accepted-told}
 use Rattle.flat.specs.Shown.{bare}
 use Rattle.association.specs.Fresh.{withState}
 use borrow.Author.Needs.{needs}

@@ -1,6 +1,6 @@
 use Rattle.steps.specs.VerdictLaws.{part-bytes}
 use Rattle.steps.specs.Carrying.{areaIn}
-use Rattle.rows.specs.Rows.{heardData, heldHeard}
+use Rattle.rows.specs.TableRows.{heardData, heldHeard}
 use borrow.Author.Needs.{needs}
 use Rattle.rows.proofs.carrying.hear_data.Statement.{statement}
 use Rattle.rows.proofs.carrying.hear_data.Tie as tie

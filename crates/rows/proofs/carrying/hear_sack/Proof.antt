@@ -1,4 +1,4 @@
-use Rattle.rows.specs.Rows.{heardSack, placesSacked}
+use Rattle.rows.specs.TableRows.{sackHeard, placesSacked}
 use borrow.Author.Needs.{needs}
 use Rattle.rows.proofs.carrying.hear_sack.Statement.{statement}
 use Rattle.rows.proofs.carrying.hear_sack.Tie as tie
@@ -22,7 +22,7 @@ acknowledge-requires c κs = search needs
 
 -- src/carrying.rt:113:1
 returns : tie.Need-returns
-unfolding heardSack placesSacked
+unfolding sackHeard placesSacked
 returns c = (rw (← c .before .before .before .before .read-sack .ensures, ← c .before .before .before .blocks-of .ensures) (c .acknowledge .ensures .0), rw (← c .before .before .before .before .read-sack .ensures, ← c .before .before .before .blocks-of .ensures) (c .acknowledge .ensures .1))
 
 pub hear-sack-spec : {M : Type 1} → statement M

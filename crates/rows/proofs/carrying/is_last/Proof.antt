@@ -1,6 +1,6 @@
 use mathlib.Core.Path.{sym, _∙_}
 use borrow.Author.Tests.{eq-eqb, ne-eqb}
-use Rattle.sending.specs.TableLaws.{bare-is}
+use Rattle.sending.specs.SendingTableLaws.{bare-is}
 use borrow.Author.Needs.{needs}
 use Rattle.rows.proofs.carrying.is_last.Statement.{statement}
 use Rattle.rows.proofs.carrying.is_last.Tie as tie

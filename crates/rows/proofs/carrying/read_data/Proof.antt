@@ -1,4 +1,4 @@
-use Rattle.rows.specs.Rows.{readDataBy}
+use Rattle.rows.specs.TableRows.{readDataBy}
 use borrow.Author.Needs.{needs}
 use Rattle.rows.proofs.carrying.read_data.Statement.{statement}
 use Rattle.rows.proofs.carrying.read_data.Tie as tie

@@ -1,4 +1,4 @@
-use Rattle.rows.specs.Rows.{readLateDataBy}
+use Rattle.rows.specs.TableRows.{readLateDataBy}
 use borrow.Author.Needs.{needs}
 use Rattle.rows.proofs.carrying.read_late_data.Statement.{statement}
 use Rattle.rows.proofs.carrying.read_late_data.Tie as tie

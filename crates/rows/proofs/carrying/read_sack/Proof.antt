@@ -1,4 +1,4 @@
-use Rattle.rows.specs.Rows.{readSackBy}
+use Rattle.rows.specs.TableRows.{readSackBy}
 use borrow.Author.Needs.{needs}
 use Rattle.rows.proofs.carrying.read_sack.Statement.{statement}
 use Rattle.rows.proofs.carrying.read_sack.Tie as tie

@@ -1,4 +1,4 @@
-use Rattle.rows.specs.Rows.{readSackPendingBy}
+use Rattle.rows.specs.TableRows.{readSackPendingBy}
 use borrow.Author.Needs.{needs}
 use Rattle.rows.proofs.carrying.read_sack_pending.Statement.{statement}
 use Rattle.rows.proofs.carrying.read_sack_pending.Tie as tie

@@ -2,8 +2,8 @@ use mathlib.Core.Path.{refl}
 use mathlib.Core.List.{[]}
 use Rattle.steps.specs.Carrying.{sackRead}
 use Rattle.flat.specs.Shown.{bare}
-use Rattle.rows.specs.Rows.{answerWith, readSackReceivedBy}
-use Rattle.rows.specs.RowsLaws.{quiet-told}
+use Rattle.rows.specs.TableRows.{answerWith, readSackReceivedBy}
+use Rattle.rows.specs.TableRowsLaws.{row-quiet-told}
 use borrow.Author.Needs.{needs}
 use Rattle.rows.proofs.carrying.read_sack_received.Statement.{statement}
 use Rattle.rows.proofs.carrying.read_sack_received.Tie as tie
@@ -42,7 +42,7 @@ sack-read-requires c κs = search needs
 -- src/carrying.rt:164:1
 returns-2 : tie.Need-returns-2
 unfolding readSackReceivedBy
-returns-2 c = rw (← c .before .before .before .before .hear-sack .ensures .0, ← c .before .before .before .before .hear-sack .ensures .1, ← c .before .before .is-last .ensures, c .before .if1 .left) (let t = quiet-told (c .before .before .before .before .before .before .before .before .before .args .space .now) (sackRead (bare (c .before .before .before .before .before .before .before .before .before .args .head)) (answerWith (c .before .before .before .before .hear-sack .result) [] [])) refl (c .sack-read .ensures) in (t .0, refl, t .1))
+returns-2 c = rw (← c .before .before .before .before .hear-sack .ensures .0, ← c .before .before .before .before .hear-sack .ensures .1, ← c .before .before .is-last .ensures, c .before .if1 .left) (let t = row-quiet-told (c .before .before .before .before .before .before .before .before .before .args .space .now) (sackRead (bare (c .before .before .before .before .before .before .before .before .before .args .head)) (answerWith (c .before .before .before .before .hear-sack .result) [] [])) refl (c .sack-read .ensures) in (t .0, refl, t .1))
 
 pub read-sack-received-spec : {M : Type 1} → statement M
 read-sack-received-spec =

@@ -3,8 +3,8 @@ use borrow.Author.Tests.{eq-eqb, ne-eqb}
 use Rattle.steps.specs.Verdict.{refused}
 use Rattle.steps.specs.Carrying.{sackCall}
 use Rattle.flat.specs.Shown.{bare}
-use Rattle.rows.specs.Rows.{answerShutdownBy}
-use Rattle.rows.specs.RowsLaws.{quiet-told}
+use Rattle.rows.specs.TableRows.{answerShutdownBy}
+use Rattle.rows.specs.TableRowsLaws.{row-quiet-told}
 use borrow.Author.Needs.{needs}
 use Rattle.rows.proofs.closing.answer_shutdown.Statement.{statement}
 use Rattle.rows.proofs.closing.answer_shutdown.Tie as tie
@@ -43,7 +43,7 @@ refused-requires c κs = search needs
 -- src/closing.rt:71:1
 returns-2 : tie.Need-returns-2
 unfolding answerShutdownBy
-returns-2 c = rw (← c .before .before .before .before .hear-shutdown .ensures .0, ← c .before .before .before .before .hear-shutdown .ensures .1, ne-eqb _ _ (c .before .before .if1 .left)) (let t = quiet-told (c .before .before .before .before .before .before .before .before .before .args .space .now) (refused (bare (c .before .before .before .before .before .before .before .before .before .args .head)) (c .before .before .before .before .hear-shutdown .result .number) (sackCall (c .before .before .before .before .hear-shutdown .result .number))) refl (rw (c .before .sack-call .ensures) at (c .refused .ensures)) in (t .0, refl, t .1))
+returns-2 c = rw (← c .before .before .before .before .hear-shutdown .ensures .0, ← c .before .before .before .before .hear-shutdown .ensures .1, ne-eqb _ _ (c .before .before .if1 .left)) (let t = row-quiet-told (c .before .before .before .before .before .before .before .before .before .args .space .now) (refused (bare (c .before .before .before .before .before .before .before .before .before .args .head)) (c .before .before .before .before .hear-shutdown .result .number) (sackCall (c .before .before .before .before .hear-shutdown .result .number))) refl (rw (c .before .sack-call .ensures) at (c .refused .ensures)) in (t .0, refl, t .1))
 
 pub answer-shutdown-spec : {M : Type 1} → statement M
 answer-shutdown-spec =

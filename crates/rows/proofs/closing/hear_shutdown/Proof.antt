@@ -1,4 +1,4 @@
-use Rattle.rows.specs.Rows.{heardPoint, placesShut}
+use Rattle.rows.specs.TableRows.{heardPoint, placesShut}
 use borrow.Author.Needs.{needs}
 use Rattle.rows.proofs.closing.hear_shutdown.Statement.{statement}
 use Rattle.rows.proofs.closing.hear_shutdown.Tie as tie

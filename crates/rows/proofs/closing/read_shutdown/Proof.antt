@@ -7,8 +7,8 @@ use Rattle.association.specs.Fresh.{withState, withSending}
 use Rattle.steps.specs.Verdict.{accepted, refused}
 use Rattle.steps.specs.Carrying.{sackCall}
 use Rattle.flat.specs.Shown.{bare}
-use Rattle.rows.specs.Rows.{answerWith, readShutdownBy}
-use Rattle.rows.specs.RowsLaws.{quiet-told}
+use Rattle.rows.specs.TableRows.{answerWith, readShutdownBy}
+use Rattle.rows.specs.TableRowsLaws.{row-quiet-told}
 use borrow.Author.Needs.{needs}
 use Rattle.rows.proofs.closing.read_shutdown.Statement.{statement}
 use Rattle.rows.proofs.closing.read_shutdown.Tie as tie
@@ -54,7 +54,7 @@ accepted-requires c κs = search needs
 -- src/closing.rt:65:9
 returns-2 : tie.Need-returns-2
 unfolding readShutdownBy
-returns-2 c = rw (← c .before .before .before .before .before .before .before .before .hear-shutdown .ensures .0, ← c .before .before .before .before .before .before .before .before .hear-shutdown .ensures .1, ← c .before .before .before .before .before .before .is-last .ensures, c .before .before .before .before .before .if1 .left, eq-eqb _ _ (c .before .before .before .if2 .taken)) (let t = quiet-told (c .before .before .before .before .before .before .before .before .before .before .before .before .before .args .space .now) (accepted (withState (withSending (bare (c .before .before .before .before .before .before .before .before .before .before .before .before .before .args .head)) (answerWith (c .before .before .before .before .before .before .before .before .hear-shutdown .result) [] [] .sending)) ShutdownReceived) NoEvent []) refl (rw (c .before .moved .ensures) at (c .accepted .ensures)) in (t .0, refl, t .1))
+returns-2 c = rw (← c .before .before .before .before .before .before .before .before .hear-shutdown .ensures .0, ← c .before .before .before .before .before .before .before .before .hear-shutdown .ensures .1, ← c .before .before .before .before .before .before .is-last .ensures, c .before .before .before .before .before .if1 .left, eq-eqb _ _ (c .before .before .before .if2 .taken)) (let t = row-quiet-told (c .before .before .before .before .before .before .before .before .before .before .before .before .before .args .space .now) (accepted (withState (withSending (bare (c .before .before .before .before .before .before .before .before .before .before .before .before .before .args .head)) (answerWith (c .before .before .before .before .before .before .before .before .hear-shutdown .result) [] [] .sending)) ShutdownReceived) NoEvent []) refl (rw (c .before .moved .ensures) at (c .accepted .ensures)) in (t .0, refl, t .1))
 
 -- src/closing.rt:67:38
 sack-call-requires : tie.Need-sack-call-requires
@@ -67,7 +67,7 @@ refused-requires c κs = search needs
 -- src/closing.rt:45:1
 returns-3 : tie.Need-returns-3
 unfolding readShutdownBy
-returns-3 c = rw (← c .before .before .before .before .before .before .before .hear-shutdown .ensures .0, ← c .before .before .before .before .before .before .before .hear-shutdown .ensures .1, ← c .before .before .before .before .before .is-last .ensures, c .before .before .before .before .if1 .left, ne-eqb _ _ (c .before .before .if2 .left)) (let t = quiet-told (c .before .before .before .before .before .before .before .before .before .before .before .before .args .space .now) (refused (bare (c .before .before .before .before .before .before .before .before .before .before .before .before .args .head)) (c .before .before .before .before .before .before .before .hear-shutdown .result .number) (sackCall (c .before .before .before .before .before .before .before .hear-shutdown .result .number))) refl (rw (c .before .sack-call .ensures) at (c .refused .ensures)) in (t .0, refl, t .1))
+returns-3 c = rw (← c .before .before .before .before .before .before .before .hear-shutdown .ensures .0, ← c .before .before .before .before .before .before .before .hear-shutdown .ensures .1, ← c .before .before .before .before .before .is-last .ensures, c .before .before .before .before .if1 .left, ne-eqb _ _ (c .before .before .if2 .left)) (let t = row-quiet-told (c .before .before .before .before .before .before .before .before .before .before .before .before .args .space .now) (refused (bare (c .before .before .before .before .before .before .before .before .before .before .before .before .args .head)) (c .before .before .before .before .before .before .before .hear-shutdown .result .number) (sackCall (c .before .before .before .before .before .before .before .hear-shutdown .result .number))) refl (rw (c .before .sack-call .ensures) at (c .refused .ensures)) in (t .0, refl, t .1))
 
 pub read-shutdown-spec : {M : Type 1} → statement M
 read-shutdown-spec =

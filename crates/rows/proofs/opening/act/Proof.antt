@@ -2,7 +2,7 @@ use mathlib.Core.Path.{refl}
 use Rattle.steps.specs.Opening.{established}
 use Rattle.steps.specs.Meeting.{acts}
 use Rattle.flat.specs.Shown.{bare}
-use Rattle.rows.specs.RowsLaws.{accepted-told}
+use Rattle.rows.specs.TableRowsLaws.{accepted-told}
 use borrow.Author.Needs.{needs}
 use Rattle.rows.proofs.opening.act.Statement.{statement}
 use Rattle.rows.proofs.opening.act.Tie as tie

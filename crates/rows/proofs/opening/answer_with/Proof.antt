@@ -4,7 +4,7 @@ use Rattle.steps.specs.declared.verdict.Named.the-variants.{NoCall}
 use Rattle.steps.specs.Verdict.{refused}
 use Rattle.steps.specs.Opening.{answerInit}
 use Rattle.flat.specs.Shown.{bare}
-use Rattle.rows.specs.RowsLaws.{quiet-told}
+use Rattle.rows.specs.TableRowsLaws.{row-quiet-told}
 use borrow.Author.Needs.{needs}
 use Rattle.rows.proofs.opening.answer_with.Statement.{statement}
 use Rattle.rows.proofs.opening.answer_with.Tie as tie
@@ -32,7 +32,7 @@ refused-requires c κs = search needs
 -- src/opening.rt:31:9
 returns : tie.Need-returns
 unfolding answerInit
-returns c = rw (← c .before .before .is-poor-lent .ensures, c .before .if1 .taken) (quiet-told (c .before .before .before .before .before .before .args .space .now) (refused (bare (c .before .before .before .before .before .before .args .head)) 8 NoCall) refl (c .refused .ensures))
+returns c = rw (← c .before .before .is-poor-lent .ensures, c .before .if1 .taken) (row-quiet-told (c .before .before .before .before .before .before .args .space .now) (refused (bare (c .before .before .before .before .before .before .args .head)) 8 NoCall) refl (c .refused .ensures))
 
 -- src/opening.rt:33:9
 read-init-requires : tie.Need-read-init-requires
@@ -49,7 +49,7 @@ refused-requires-2 c κs = search needs
 -- src/opening.rt:35:9
 returns-2 : tie.Need-returns-2
 unfolding answerInit
-returns-2 c = rw (← c .before .before .before .before .before .is-poor-lent .ensures, c .before .before .before .before .if1 .left, ← c .before .before .before .read-init .ensures, ← c .before .before .is-poor .ensures, c .before .if2 .taken) (quiet-told (c .before .before .before .before .before .before .before .before .before .args .space .now) (refused (bare (c .before .before .before .before .before .before .before .before .before .args .head)) 8 NoCall) refl (c .refused2 .ensures))
+returns-2 c = rw (← c .before .before .before .before .before .is-poor-lent .ensures, c .before .before .before .before .if1 .left, ← c .before .before .before .read-init .ensures, ← c .before .before .is-poor .ensures, c .before .if2 .taken) (row-quiet-told (c .before .before .before .before .before .before .before .before .before .args .space .now) (refused (bare (c .before .before .before .before .before .before .before .before .before .args .head)) 8 NoCall) refl (c .refused2 .ensures))
 
 -- src/opening.rt:37:8
 has-host-name-requires : tie.Need-has-host-name-requires

@@ -2,7 +2,7 @@ use Rattle.octets.specs.WritingLaws.{wrote-within, wrote-both}
 use Rattle.chunks.specs.CookieLaws.{echo-within}
 use Rattle.parameters.specs.ReportLaws.{error-within}
 use Rattle.steps.specs.VerdictLaws.{echo-short, few}
-use Rattle.rows.specs.RowsLaws.{echoed-told}
+use Rattle.rows.specs.TableRowsLaws.{echoed-told}
 use borrow.Author.Needs.{needs}
 use Rattle.rows.proofs.opening.echo_back.Statement.{statement}
 use Rattle.rows.proofs.opening.echo_back.Tie as tie

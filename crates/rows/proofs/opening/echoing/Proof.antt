@@ -1,7 +1,7 @@
 use Prim.Native.Nat.{_^_}
 use Rattle.numbers.specs.Numbering.{ring}
 use Rattle.numbers.specs.Profile.{rail}
-use Rattle.delivery.specs.TableLaws.{fresh-is}
+use Rattle.delivery.specs.ReceivingTableLaws.{fresh-receiving-is}
 use Rattle.steps.specs.Opening.{echoing}
 use borrow.Author.Needs.{needs}
 use Rattle.rows.proofs.opening.echoing.Statement.{statement}
@@ -30,7 +30,7 @@ lesser-requires-2 c κs = search needs
 -- src/opening.rt:60:1
 returns : tie.Need-returns
 unfolding echoing
-returns c = rw (c .before .before .before .before .fresh .ensures, c .before .before .lesser .ensures, c .before .lesser2 .ensures, fresh-is (ring (2 ^ 32)) rail _)
+returns c = rw (c .before .before .before .before .fresh .ensures, c .before .before .lesser .ensures, c .before .lesser2 .ensures, fresh-receiving-is (ring (2 ^ 32)) rail _)
 
 pub echoing-spec : {M : Type 1} → statement M
 echoing-spec =

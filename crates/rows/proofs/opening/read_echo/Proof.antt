@@ -1,11 +1,11 @@
 use mathlib.Core.Path.{refl, ap, _∙_}
 use Rattle.steps.specs.declared.verdict.Named.the-variants.{NoCall, ErrorStale}
-use Rattle.steps.specs.Verdict.{refused, ending}
+use Rattle.steps.specs.Verdict.{refused, leavingUnread}
 use Rattle.steps.specs.Meeting.{readEcho}
 use Rattle.flat.specs.Shown.{bare}
 use Rattle.rows.specs.Stepped.{unreadOf}
-use Rattle.rows.specs.Rows.{isStarting}
-use Rattle.rows.specs.RowsLaws.{quiet-told}
+use Rattle.rows.specs.TableRows.{isStarting}
+use Rattle.rows.specs.TableRowsLaws.{row-quiet-told}
 use borrow.Author.Needs.{needs}
 use Rattle.rows.proofs.opening.read_echo.Statement.{statement}
 use Rattle.rows.proofs.opening.read_echo.Tie as tie
@@ -37,7 +37,7 @@ ending-requires c κs = search needs
 -- src/opening.rt:302:9
 returns : tie.Need-returns
 unfolding readEcho isStarting
-returns c = rw (← c .before .before .before .before .cookie .ensures .0, ← c .before .before .before .is-odd .ensures, c .before .before .if1 .taken) (let t = quiet-told (c .before .before .before .before .before .before .before .args .space .now) (ending (refused (bare (c .before .before .before .before .before .before .before .args .head)) 8 NoCall)) refl (c .ending .ensures ∙ ap unreadOf (c .before .refused .ensures)) in (t .0, refl, refl, refl, refl, refl, t .1))
+returns c = rw (← c .before .before .before .before .cookie .ensures .0, ← c .before .before .before .is-odd .ensures, c .before .before .if1 .taken) (let t = row-quiet-told (c .before .before .before .before .before .before .before .args .space .now) (leavingUnread (refused (bare (c .before .before .before .before .before .before .before .args .head)) 8 NoCall)) refl (c .ending .ensures ∙ ap unreadOf (c .before .refused .ensures)) in (t .0, refl, refl, refl, refl, refl, t .1))
 
 -- src/opening.rt:305:22
 enum-known-echoed : tie.Need-enum-known-echoed
@@ -87,12 +87,12 @@ returns-2 c = rw (← c .before .before .before .before .before .before .before 
 -- src/opening.rt:280:1
 returns-3 : tie.Need-returns-3
 unfolding readEcho isStarting
-returns-3 c = rw (← c .before .before .before .before .before .before .cookie .ensures .0, ← c .before .before .before .before .before .is-odd .ensures, c .before .before .before .before .if1 .left, c .before .before .enum-told .given .1) (let t = quiet-told (c .before .before .before .before .before .before .before .before .before .args .space .now) (ending (refused (bare (c .before .before .before .before .before .before .before .before .before .args .head)) 27 ErrorStale)) refl (c .ending2 .ensures ∙ ap unreadOf (c .before .refused2 .ensures)) in (t .0, refl, refl, refl, refl, refl, t .1))
+returns-3 c = rw (← c .before .before .before .before .before .before .cookie .ensures .0, ← c .before .before .before .before .before .is-odd .ensures, c .before .before .before .before .if1 .left, c .before .before .enum-told .given .1) (let t = row-quiet-told (c .before .before .before .before .before .before .before .before .before .args .space .now) (leavingUnread (refused (bare (c .before .before .before .before .before .before .before .before .before .args .head)) 27 ErrorStale)) refl (c .ending2 .ensures ∙ ap unreadOf (c .before .refused2 .ensures)) in (t .0, refl, refl, refl, refl, refl, t .1))
 
 -- src/opening.rt:280:1
 returns-4 : tie.Need-returns-4
 unfolding readEcho isStarting
-returns-4 c = rw (← c .before .before .before .before .before .before .cookie .ensures .0, ← c .before .before .before .before .before .is-odd .ensures, c .before .before .before .before .if1 .left, c .before .before .enum-told2 .given .1) (let t = quiet-told (c .before .before .before .before .before .before .before .before .before .args .space .now) (ending (refused (bare (c .before .before .before .before .before .before .before .before .before .args .head)) 27 NoCall)) refl (c .ending3 .ensures ∙ ap unreadOf (c .before .refused3 .ensures)) in (t .0, refl, refl, refl, refl, refl, t .1))
+returns-4 c = rw (← c .before .before .before .before .before .before .cookie .ensures .0, ← c .before .before .before .before .before .is-odd .ensures, c .before .before .before .before .if1 .left, c .before .before .enum-told2 .given .1) (let t = row-quiet-told (c .before .before .before .before .before .before .before .before .before .args .space .now) (leavingUnread (refused (bare (c .before .before .before .before .before .before .before .before .before .args .head)) 27 NoCall)) refl (c .ending3 .ensures ∙ ap unreadOf (c .before .refused3 .ensures)) in (t .0, refl, refl, refl, refl, refl, t .1))
 
 pub read-echo-spec : {M : Type 1} → statement M
 read-echo-spec =

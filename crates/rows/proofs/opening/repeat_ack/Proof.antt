@@ -5,7 +5,7 @@ use Rattle.steps.specs.declared.verdict.Named.the-variants.{NoCall}
 use Rattle.steps.specs.Verdict.{accepted, refused}
 use Rattle.steps.specs.Meeting.{repeatAck}
 use Rattle.flat.specs.Shown.{bare}
-use Rattle.rows.specs.RowsLaws.{written-told, quiet-told}
+use Rattle.rows.specs.TableRowsLaws.{row-written-told, row-quiet-told}
 use borrow.Author.Needs.{needs}
 use Rattle.rows.proofs.opening.repeat_ack.Statement.{statement}
 use Rattle.rows.proofs.opening.repeat_ack.Tie as tie
@@ -32,7 +32,7 @@ refused-requires c κs = search needs
 -- src/opening.rt:69:9
 returns : tie.Need-returns
 unfolding repeatAck
-returns c = rw (← c .before .before .before .read-init .ensures, ← c .before .before .is-poor .ensures, c .before .if1 .taken) (quiet-told (c .before .before .before .before .before .before .args .space .now) (refused (bare (c .before .before .before .before .before .before .args .head)) 8 NoCall) refl (c .refused .ensures))
+returns c = rw (← c .before .before .before .read-init .ensures, ← c .before .before .is-poor .ensures, c .before .if1 .taken) (row-quiet-told (c .before .before .before .before .before .before .args .space .now) (refused (bare (c .before .before .before .before .before .before .args .head)) 8 NoCall) refl (c .refused .ensures))
 
 -- src/opening.rt:71:9
 write-shutdown-ack-requires : tie.Need-write-shutdown-ack-requires
@@ -49,7 +49,7 @@ same-length c = search needs
 -- src/opening.rt:65:1
 returns-2 : tie.Need-returns-2
 unfolding repeatAck
-returns-2 c = rw (← c .before .before .before .before .before .before .before .read-init .ensures, ← c .before .before .before .before .before .before .is-poor .ensures, c .before .before .before .before .before .if1 .left) (written-told (accepted (bare (c .before .before .before .before .before .before .before .before .before .before .args .head)) NoEvent shutdownAckBytes) (c .before .before .before .write-shutdown-ack .ensures) (c .accepted .ensures))
+returns-2 c = rw (← c .before .before .before .before .before .before .before .read-init .ensures, ← c .before .before .before .before .before .before .is-poor .ensures, c .before .before .before .before .before .if1 .left) (row-written-told (accepted (bare (c .before .before .before .before .before .before .before .before .before .before .args .head)) NoEvent shutdownAckBytes) (c .before .before .before .write-shutdown-ack .ensures) (c .accepted .ensures))
 
 pub repeat-ack-spec : {M : Type 1} → statement M
 repeat-ack-spec =

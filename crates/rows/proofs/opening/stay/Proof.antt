@@ -2,11 +2,11 @@ use mathlib.Core.Path.{refl, ap, _∙_}
 use mathlib.Core.List.{[]}
 use Rattle.steps.specs.declared.verdict.Event.the-variants.{NoEvent}
 use Rattle.steps.specs.declared.verdict.Named.the-variants.{NoCall}
-use Rattle.steps.specs.Verdict.{accepted, refused, ending}
+use Rattle.steps.specs.Verdict.{accepted, refused, leavingUnread}
 use Rattle.steps.specs.Meeting.{withPeerTag, cookieAckBytes}
 use Rattle.flat.specs.Shown.{bare}
 use Rattle.rows.specs.Stepped.{unreadOf}
-use Rattle.rows.specs.RowsLaws.{written-told, accepted-told, quiet-told}
+use Rattle.rows.specs.TableRowsLaws.{row-written-told, accepted-told, row-quiet-told}
 use borrow.Author.Needs.{needs}
 use Rattle.rows.proofs.opening.stay.Statement.{statement}
 use Rattle.rows.proofs.opening.stay.Tie as tie
@@ -101,15 +101,15 @@ same-length-3 c = search needs
 
 -- src/opening.rt:229:1
 returns-3 : tie.Need-returns-3
-returns-3 c = rw (c .before .before .before .before .before .enum-told3 .given .1) (written-told (accepted (bare (c .before .before .before .before .before .before .before .before .args .head)) NoEvent cookieAckBytes) (c .before .before .before .write-cookie-ack2 .ensures) (c .accepted2 .ensures))
+returns-3 c = rw (c .before .before .before .before .before .enum-told3 .given .1) (row-written-told (accepted (bare (c .before .before .before .before .before .before .before .before .args .head)) NoEvent cookieAckBytes) (c .before .before .before .write-cookie-ack2 .ensures) (c .accepted2 .ensures))
 
 -- src/opening.rt:229:1
 returns-4 : tie.Need-returns-4
-returns-4 c = rw (c .before .before .enum-told4 .given .1) (quiet-told (c .before .before .before .before .before .args .space .now) (ending (accepted (bare (c .before .before .before .before .before .args .head)) NoEvent [])) refl (c .ending .ensures ∙ ap unreadOf (c .before .accepted3 .ensures)))
+returns-4 c = rw (c .before .before .enum-told4 .given .1) (row-quiet-told (c .before .before .before .before .before .args .space .now) (leavingUnread (accepted (bare (c .before .before .before .before .before .args .head)) NoEvent [])) refl (c .ending .ensures ∙ ap unreadOf (c .before .accepted3 .ensures)))
 
 -- src/opening.rt:229:1
 returns-5 : tie.Need-returns-5
-returns-5 c = rw (c .before .before .enum-told5 .given .1) (quiet-told (c .before .before .before .before .before .args .space .now) (ending (refused (bare (c .before .before .before .before .before .args .head)) 7 NoCall)) refl (c .ending2 .ensures ∙ ap unreadOf (c .before .refused .ensures)))
+returns-5 c = rw (c .before .before .enum-told5 .given .1) (row-quiet-told (c .before .before .before .before .before .args .space .now) (leavingUnread (refused (bare (c .before .before .before .before .before .args .head)) 7 NoCall)) refl (c .ending2 .ensures ∙ ap unreadOf (c .before .refused .ensures)))
 
 pub stay-spec : {M : Type 1} → statement M
 stay-spec =

@@ -6,8 +6,8 @@ use Rattle.steps.specs.Verdict.{refused}
 use Rattle.steps.specs.VerdictLaws.{part-bytes, cookie-short}
 use Rattle.steps.specs.Opening.{takeInitAck}
 use Rattle.flat.specs.Shown.{bare}
-use Rattle.rows.specs.Rows.{isTaken}
-use Rattle.rows.specs.RowsLaws.{answered-told, quiet-told}
+use Rattle.rows.specs.TableRows.{isTaken}
+use Rattle.rows.specs.TableRowsLaws.{answered-told, row-quiet-told}
 use borrow.Author.Needs.{needs}
 use Rattle.rows.proofs.opening.take_init_ack.Statement.{statement}
 use Rattle.rows.proofs.opening.take_init_ack.Tie as tie
@@ -40,7 +40,7 @@ refused-requires c κs = search needs
 -- src/opening.rt:123:9
 returns : tie.Need-returns
 unfolding takeInitAck isTaken
-returns c = rw (← c .before .before .before .read-init .ensures, ← c .before .before .is-poor .ensures, c .before .if1 .taken) (let t = quiet-told (c .before .before .before .before .before .before .args .space .now) (refused (bare (c .before .before .before .before .before .before .args .head)) 8 NoCall) refl (c .refused .ensures) in (t .0, refl, refl, refl, t .1))
+returns c = rw (← c .before .before .before .read-init .ensures, ← c .before .before .is-poor .ensures, c .before .if1 .taken) (let t = row-quiet-told (c .before .before .before .before .before .before .args .space .now) (refused (bare (c .before .before .before .before .before .before .args .head)) 8 NoCall) refl (c .refused .ensures) in (t .0, refl, refl, refl, t .1))
 
 -- src/opening.rt:125:9
 cookie-requires : tie.Need-cookie-requires
@@ -57,7 +57,7 @@ refused-requires-2 c κs = search needs
 -- src/opening.rt:127:9
 returns-2 : tie.Need-returns-2
 unfolding takeInitAck isTaken
-returns-2 c = rw (← c .before .before .before .before .before .before .read-init .ensures, ← c .before .before .before .before .before .is-poor .ensures, c .before .before .before .before .if1 .left, ← c .before .before .before .cookie .ensures .0, ← c .before .before .is-odd .ensures, c .before .if2 .taken) (let t = quiet-told (c .before .before .before .before .before .before .before .before .before .args .space .now) (refused (bare (c .before .before .before .before .before .before .before .before .before .args .head)) 8 NoCall) refl (c .refused2 .ensures) in (t .0, refl, refl, refl, t .1))
+returns-2 c = rw (← c .before .before .before .before .before .before .read-init .ensures, ← c .before .before .before .before .before .is-poor .ensures, c .before .before .before .before .if1 .left, ← c .before .before .before .cookie .ensures .0, ← c .before .before .is-odd .ensures, c .before .if2 .taken) (let t = row-quiet-told (c .before .before .before .before .before .before .before .before .before .args .space .now) (refused (bare (c .before .before .before .before .before .before .before .before .before .args .head)) 8 NoCall) refl (c .refused2 .ensures) in (t .0, refl, refl, refl, t .1))
 
 -- src/opening.rt:129:8
 has-host-name-requires : tie.Need-has-host-name-requires

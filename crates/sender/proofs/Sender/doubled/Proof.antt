@@ -1,5 +1,5 @@
 use Rattle.path.specs.Sizes.{railSizes}
-use Rattle.sending.specs.TableLaws.{doubled-is}
+use Rattle.sending.specs.SendingTableLaws.{doubled-is}
 use borrow.Author.Needs.{needs}
 use Rattle.sender.proofs.Sender.doubled.Statement.{statement}
 use Rattle.sender.proofs.Sender.doubled.Tie as tie

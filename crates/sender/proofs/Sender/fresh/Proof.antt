@@ -1,6 +1,6 @@
 use Rattle.path.specs.Sizes.{sizesOf}
 use Rattle.numbers.specs.Profile.{rail}
-use Rattle.sending.specs.TableLaws.{fresh-is}
+use Rattle.sending.specs.SendingTableLaws.{fresh-sending-is}
 use borrow.Author.Needs.{needs}
 use Rattle.sender.proofs.Sender.fresh.Statement.{statement}
 use Rattle.sender.proofs.Sender.fresh.Tie as tie
@@ -19,7 +19,7 @@ fresh-requires c κs = search needs
 
 -- src/lib.rt:33:5
 returns : tie.Need-returns
-returns c = rw (c .fresh .ensures, c .before .after .ensures, fresh-is (sizesOf _) rail _ _ _)
+returns c = rw (c .fresh .ensures, c .before .after .ensures, fresh-sending-is (sizesOf _) rail _ _ _)
 
 pub fresh-spec : {M : Type 1} → statement M
 fresh-spec = tie.close (tie.spec after-requires fresh-requires returns)

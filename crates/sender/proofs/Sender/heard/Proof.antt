@@ -1,4 +1,4 @@
-use Rattle.sending.specs.TableLaws.{heard-is}
+use Rattle.sending.specs.SendingTableLaws.{heard-is}
 use borrow.Author.Needs.{needs}
 use Rattle.sender.proofs.Sender.heard.Statement.{statement}
 use Rattle.sender.proofs.Sender.heard.Tie as tie

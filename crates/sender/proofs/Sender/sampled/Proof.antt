@@ -1,5 +1,5 @@
 use Rattle.path.specs.Sizes.{railSizes}
-use Rattle.sending.specs.TableLaws.{sampled-is}
+use Rattle.sending.specs.SendingTableLaws.{sampled-is}
 use borrow.Author.Needs.{needs}
 use Rattle.sender.proofs.Sender.sampled.Statement.{statement}
 use Rattle.sender.proofs.Sender.sampled.Tie as tie

@@ -1,4 +1,4 @@
-use Rattle.sending.specs.Acknowledge.{answeredBy}
+use Rattle.sending.specs.Acknowledge.{probeAnswered}
 use borrow.Author.Needs.{needs}
 use Rattle.sending.proofs.acknowledging.answered_by.Statement.{statement}
 use Rattle.sending.proofs.acknowledging.answered_by.Tie as tie
@@ -10,11 +10,11 @@ heard-requires : tie.Need-heard-requires
 heard-requires c κs = search needs
 
 returns : tie.Need-returns
-unfolding answeredBy
+unfolding probeAnswered
 returns c = rw (← c .before .before .is-closed-window .ensures, c .before .if1 .taken) (c .heard .ensures)
 
 returns-2 : tie.Need-returns-2
-unfolding answeredBy
+unfolding probeAnswered
 returns-2 c = rw (← c .before .is-closed-window .ensures, c .if1 .left)
 
 pub answered-by-spec : {M : Type 1} → statement M

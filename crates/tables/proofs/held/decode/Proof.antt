@@ -1,5 +1,5 @@
 use borrow.Author.Needs.{needs}
-use Rattle.tables.specs.HeldLaws.{decoded-by}
+use Rattle.tables.specs.HeldWordsLaws.{held-decoded-by}
 use Rattle.tables.proofs.held.decode.Statement.{statement}
 use Rattle.tables.proofs.held.decode.Tie as tie
 
@@ -13,7 +13,7 @@ cast-t25 : tie.Need-cast-t25
 cast-t25 c = search needs
 
 returns : tie.Need-returns
-returns c = decoded-by _ _ _ _ (search needs) (search needs) (search needs)
+returns c = held-decoded-by _ _ _ _ (search needs) (search needs) (search needs)
 
 pub decode-spec : {M : Type 1} → statement M
 decode-spec = tie.close (tie.spec cast-t18 cast-t21 cast-t25 returns)

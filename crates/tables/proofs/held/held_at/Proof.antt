@@ -1,7 +1,7 @@
 use mathlib.Core.Path.{_∙_}
 use borrow.Author.Needs.{needs}
 use Rattle.numbers.specs.Profile.{rail}
-use Rattle.tables.specs.HeldLaws.{held-in, held-past}
+use Rattle.tables.specs.HeldWordsLaws.{held-in, held-past}
 use Rattle.tables.proofs.held.held_at.Statement.{statement}
 use Rattle.tables.proofs.held.held_at.Tie as tie
 

@@ -1,7 +1,7 @@
 use mathlib.Core.Path.{_∙_}
 use borrow.Author.Needs.{needs}
 use Rattle.numbers.specs.Profile.{rail}
-use Rattle.tables.specs.HeldLaws.{four-stores, put-within, put-past}
+use Rattle.tables.specs.HeldWordsLaws.{four-stores, held-put-within, held-put-past}
 use Rattle.tables.proofs.held.put_held.Statement.{statement}
 use Rattle.tables.proofs.held.put_held.Tie as tie
 
@@ -48,10 +48,10 @@ element-write-t-4 : tie.Need-element-write-t-4
 element-write-t-4 c = search needs
 
 returns : tie.Need-returns
-returns c = rw (c .last-of .ensures) (four-stores _ _ _ _ _ _ ∙ put-within rail _ (c .before .before .before .args .i) (c .before .before .before .args .h) (c .before .before .if1 .taken))
+returns c = rw (c .last-of .ensures) (four-stores _ _ _ _ _ _ ∙ held-put-within rail _ (c .before .before .before .args .i) (c .before .before .before .args .h) (c .before .before .if1 .taken))
 
 returns-2 : tie.Need-returns-2
-returns-2 c = put-past rail _ (c .before .args .i) (c .before .args .h) (c .if1 .left)
+returns-2 c = held-put-past rail _ (c .before .args .i) (c .before .args .h) (c .if1 .left)
 
 pub put-held-spec : {M : Type 1} → statement M
 put-held-spec =

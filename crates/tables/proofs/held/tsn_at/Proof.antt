@@ -2,8 +2,8 @@ use mathlib.Core.Path.{ap, _∙_}
 use borrow.Author.Needs.{needs}
 use Rattle.numbers.specs.Profile.{rail}
 use Rattle.holding.specs.declared.held.Held.{Held}
-use Rattle.tables.specs.Held.{decoded}
-use Rattle.tables.specs.HeldLaws.{held-in, held-past}
+use Rattle.tables.specs.HeldWords.{heldDecoded}
+use Rattle.tables.specs.HeldWordsLaws.{held-in, held-past}
 use Rattle.tables.proofs.held.tsn_at.Statement.{statement}
 use Rattle.tables.proofs.held.tsn_at.Tie as tie
 
@@ -20,11 +20,11 @@ tsn-of-requires : tie.Need-tsn-of-requires
 tsn-of-requires c κs = search needs
 
 returns : tie.Need-returns
-unfolding decoded
+unfolding heldDecoded
 returns c = c .tsn-of .ensures ∙ ap (λ (h : Held). h .tsn .0) (held-in rail _ (c .before .before .before .args .i) (c .before .before .if1 .taken))
 
 returns-2 : tie.Need-returns-2
-unfolding decoded
+unfolding heldDecoded
 returns-2 c = ap (λ (h : Held). h .tsn .0) (held-past rail _ (c .before .args .i) (c .if1 .left))
 
 pub tsn-at-spec : {M : Type 1} → statement M

@@ -3,7 +3,7 @@ use native.Mathlib.Omega.{arith}
 use Rattle.numbers.specs.Profile.{rail}
 use Rattle.scans.specs.Scan.{bit-le}
 use Rattle.places.specs.declared.place.Place.{Place}
-use Rattle.tables.specs.PlaceLaws.{place-in, place-past, decoded-none, status-in, decoded-by, six-stores, put-within, put-past, state-within, state-past}
+use Rattle.tables.specs.PlaceWordsLaws.{place-in, place-past, decoded-none, status-in, place-decoded-by, six-stores, place-put-within, place-put-past, state-within, state-past}
 use borrow.Author.Needs.{needs}
 use Rattle.tables.proofs.place.decode.Statement.{statement}
 use Rattle.tables.proofs.place.decode.Tie as tie
@@ -32,7 +32,7 @@ cast-t27 c = search needs
 
 -- src/place.rt:18:1
 returns : tie.Need-returns
-returns c = decoded-by _ _ _ _ _ _ (search needs) (search needs) (search needs) (search needs)
+returns c = place-decoded-by _ _ _ _ _ _ (search needs) (search needs) (search needs) (search needs)
 
 pub decode-spec : {M : Type 1} → statement M
 decode-spec = tie.close (tie.spec cast-t10 cast-t13 cast-t17 cast-t26 cast-t27 returns)

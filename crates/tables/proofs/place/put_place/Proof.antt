@@ -3,7 +3,7 @@ use native.Mathlib.Omega.{arith}
 use Rattle.numbers.specs.Profile.{rail}
 use Rattle.scans.specs.Scan.{bit-le}
 use Rattle.places.specs.declared.place.Place.{Place}
-use Rattle.tables.specs.PlaceLaws.{place-in, place-past, decoded-none, status-in, decoded-by, six-stores, put-within, put-past, state-within, state-past}
+use Rattle.tables.specs.PlaceWordsLaws.{place-in, place-past, decoded-none, status-in, place-decoded-by, six-stores, place-put-within, place-put-past, state-within, state-past}
 use borrow.Author.Needs.{needs}
 use Rattle.tables.proofs.place.put_place.Statement.{statement}
 use Rattle.tables.proofs.place.put_place.Tie as tie
@@ -98,11 +98,11 @@ element-write-t-6 c = search needs
 
 -- src/place.rt:94:1
 returns : tie.Need-returns
-returns c = rw (c .state-of .ensures, c .before .shape-of .ensures) (six-stores _ _ _ _ _ _ _ _ ∙ put-within rail _ (c .before .before .before .before .before .args .i) (c .before .before .before .before .before .args .p) (c .before .before .before .before .if1 .taken))
+returns c = rw (c .state-of .ensures, c .before .shape-of .ensures) (six-stores _ _ _ _ _ _ _ _ ∙ place-put-within rail _ (c .before .before .before .before .before .args .i) (c .before .before .before .before .before .args .p) (c .before .before .before .before .if1 .taken))
 
 -- src/place.rt:94:1
 returns-2 : tie.Need-returns-2
-returns-2 c = put-past rail _ (c .before .args .i) (c .before .args .p) (c .if1 .left)
+returns-2 c = place-put-past rail _ (c .before .args .i) (c .before .args .p) (c .if1 .left)
 
 pub put-place-spec : {M : Type 1} → statement M
 put-place-spec =

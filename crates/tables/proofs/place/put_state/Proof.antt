@@ -3,7 +3,7 @@ use native.Mathlib.Omega.{arith}
 use Rattle.numbers.specs.Profile.{rail}
 use Rattle.scans.specs.Scan.{bit-le}
 use Rattle.places.specs.declared.place.Place.{Place}
-use Rattle.tables.specs.PlaceLaws.{place-in, place-past, decoded-none, status-in, decoded-by, six-stores, put-within, put-past, state-within, state-past}
+use Rattle.tables.specs.PlaceWordsLaws.{place-in, place-past, decoded-none, status-in, place-decoded-by, six-stores, place-put-within, place-put-past, state-within, state-past}
 use borrow.Author.Needs.{needs}
 use Rattle.tables.proofs.place.put_state.Statement.{statement}
 use Rattle.tables.proofs.place.put_state.Tie as tie

@@ -1,7 +1,7 @@
 use Prim.Native.Nat.{_-_}
 use borrow.Author.Tests.{lt-ltb, le-ltb}
 use Rattle.numbers.specs.Profile.{rail}
-use Rattle.tables.specs.Held.{heldOf}
+use Rattle.tables.specs.HeldWords.{heldOf}
 use Rattle.taking.specs.FreeLaws.{free-add}
 use borrow.Author.Needs.{needs}
 use Rattle.taking.proofs.choosing.are_free.Statement.{statement}

@@ -1,6 +1,6 @@
 use Prim.Native.Nat.{_-_}
 use Rattle.numbers.specs.Profile.{rail}
-use Rattle.tables.specs.Held.{heldOf}
+use Rattle.tables.specs.HeldWords.{heldOf}
 use Rattle.taking.specs.FreeLaws.{free-two}
 use borrow.Author.Needs.{needs}
 use Rattle.taking.proofs.choosing.are_two_free.Statement.{statement}

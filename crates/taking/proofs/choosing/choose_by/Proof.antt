@@ -5,10 +5,10 @@ use borrow.Author.Needs.{needs}
 use lib.ListN.{length}
 use Rattle.numbers.specs.Numbering.{circles}
 use Rattle.numbers.specs.Profile.{rail}
-use Rattle.holding.specs.MessageLaws.{isBetter, tried, Choosing, choose-start, choose-better, choose-worse, choose-end}
-use Rattle.holding.specs.TableLaws.{free-not-better}
-use Rattle.tables.specs.Held.{heldOf}
-use Rattle.tables.specs.HeldLaws.{held-long}
+use Rattle.holding.specs.MessageLaws.{isBetter, triedRun, Choosing, choose-start, choose-better, choose-worse, choose-end}
+use Rattle.holding.specs.HoldingTableLaws.{free-not-better}
+use Rattle.tables.specs.HeldWords.{heldOf}
+use Rattle.tables.specs.HeldWordsLaws.{held-long}
 use Rattle.tables.specs.Ssns.{ssnsOf}
 use Rattle.taking.specs.FreeLaws.{free-eight, choose-free, late-not-better}
 use Rattle.taking.proofs.choosing.choose_by.Statement.{statement}
@@ -62,7 +62,7 @@ loop-less c = search needs
 
 -- src/choosing.rt:212:5
 loop-again : tie.Need-loop-again Inv-loop μ-loop
-loop-again c = (choose-better _ _ _ _ _ (c .before .before .before .before .before .before .before .before .before .before .loop .inv .0) _ (c .before .before .before .before .before .before .before .before .before .loop-test .taken) (sym (c .before .before .before .is-better .ensures ∙ ap (isBetter _ _ _ _ _) (c .before .before .before .before .held-at .ensures)) ∙ c .before .before .if3 .taken) (c .try-at .ensures .0 ∙ ap (tried _ _ _ _ _ _) (c .before .before .before .before .held-at .ensures)), c .try-at .ensures .1)
+loop-again c = (choose-better _ _ _ _ _ (c .before .before .before .before .before .before .before .before .before .before .loop .inv .0) _ (c .before .before .before .before .before .before .before .before .before .loop-test .taken) (sym (c .before .before .before .is-better .ensures ∙ ap (isBetter _ _ _ _ _) (c .before .before .before .before .held-at .ensures)) ∙ c .before .before .if3 .taken) (c .try-at .ensures .0 ∙ ap (triedRun _ _ _ _ _ _) (c .before .before .before .before .held-at .ensures)), c .try-at .ensures .1)
 
 -- src/choosing.rt:220:21
 add-i-2 : tie.Need-add-i-2 Inv-loop μ-loop

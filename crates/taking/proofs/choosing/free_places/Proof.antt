@@ -5,9 +5,9 @@ use borrow.Author.Needs.{needs}
 use mir.Facts.{fits-le, fits-lit}
 use Rattle.numbers.specs.Profile.{rail}
 use Rattle.scans.specs.Scan.{Counting, count-start, count-bit, bit-within, count-end}
-use Rattle.holding.specs.Held.{noHeld, isFree}
-use Rattle.tables.specs.Held.{heldOf}
-use Rattle.tables.specs.HeldLaws.{held-long}
+use Rattle.holding.specs.Held.{noHeld, isHeldFree}
+use Rattle.tables.specs.HeldWords.{heldOf}
+use Rattle.tables.specs.HeldWordsLaws.{held-long}
 use Rattle.taking.specs.FreeLaws.{free-eight, count-free}
 use Rattle.taking.proofs.choosing.free_places.Statement.{statement}
 use Rattle.taking.proofs.choosing.free_places.Tie as tie
@@ -17,7 +17,7 @@ use Rattle.tables.proofs.held.is_used.Reads as is-used-reads
 use Rattle.taking.proofs.choosing.are_free.Reads as are-free-reads
 
 abbrev Inv-loop : tie.InvT-loop
-Inv-loop words n₀ i₀ n i = Counting isFree (heldOf rail words) 128 i n
+Inv-loop words n₀ i₀ n i = Counting isHeldFree (heldOf rail words) 128 i n
 
 abbrev μ-loop : tie.MeasureT-loop
 μ-loop words n₀ i₀ n i = 128 - i

@@ -8,10 +8,10 @@ use Rattle.numbers.specs.Profile.{rail}
 use Rattle.scans.specs.Scan.{Finding, find-yes, find-no, find-end}
 use Rattle.holding.specs.Held.{noHeld}
 use Rattle.holding.specs.Message.{continues}
-use Rattle.holding.specs.MessageLaws.{Gathering, gather-start, gather-end, gather-more, gather-none}
-use Rattle.tables.specs.Held.{heldOf}
-use Rattle.tables.specs.HeldLaws.{held-long}
-use Rattle.taking.specs.TakingLaws.{gather-whole}
+use Rattle.holding.specs.MessageLaws.{RunGathering, gather-start, run-gather-end, run-gather-more, run-gather-none}
+use Rattle.tables.specs.HeldWords.{heldOf}
+use Rattle.tables.specs.HeldWordsLaws.{held-long}
+use Rattle.taking.specs.TakeWordsLaws.{gather-whole}
 use Rattle.taking.proofs.choosing.gather.Statement.{statement}
 use Rattle.taking.proofs.choosing.gather.Tie as tie
 use Rattle.taking.proofs.choosing.gather.Reads as reads
@@ -27,7 +27,7 @@ abbrev μ-loop : tie.MeasureT-loop
 μ-loop words place first at i₀ n₀ t j₀ i n j = 128 - j
 
 abbrev Inv-run : tie.InvT-run
-Inv-run words place first at₀ i₀ cur₀ n₀ at i cur n = Gathering (ring (2 ^ 32)) (heldOf rail words) first 128 place at i cur n × (i < 128)
+Inv-run words place first at₀ i₀ cur₀ n₀ at i cur n = RunGathering (ring (2 ^ 32)) (heldOf rail words) first 128 place at i cur n × (i < 128)
 
 abbrev μ-run : tie.MeasureT-run
 μ-run words place first at₀ i₀ cur₀ n₀ at i cur n = 128 - n
@@ -78,7 +78,7 @@ run-less c = omega (arith, c .before .before .before .before .loop .inv .1, c .b
 
 -- src/choosing.rt:96:5
 run-again : tie.Need-run-again Inv-loop μ-loop Inv-run μ-run
-run-again c = (rw (c .held-at .ensures) (gather-more (c .before .before .before .before .before .before .before .before .before .run .inv .0) (ap (λ t. t .0) (c .before .before .before .before .before .after .ensures)) (find-yes (c .before .before .before .before .loop .inv .0) noHeld (c .before .before .before .loop-test .taken) (sym (c .before .before .goes-on-at .ensures) ∙ c .before .if2 .taken)) (c .before .before .before .before .loop .inv .1) (c .before .before .before .before .before .before .before .before .run-test .taken) (c .before .before .before .before .before .before .before .if1 .left) refl), c .before .before .before .loop-test .taken)
+run-again c = (rw (c .held-at .ensures) (run-gather-more (c .before .before .before .before .before .before .before .before .before .run .inv .0) (ap (λ t. t .0) (c .before .before .before .before .before .after .ensures)) (find-yes (c .before .before .before .before .loop .inv .0) noHeld (c .before .before .before .loop-test .taken) (sym (c .before .before .goes-on-at .ensures) ∙ c .before .if2 .taken)) (c .before .before .before .before .loop .inv .1) (c .before .before .before .before .before .before .before .before .run-test .taken) (c .before .before .before .before .before .before .before .if1 .left) refl), c .before .before .before .loop-test .taken)
 
 -- src/choosing.rt:112:13
 add-j : tie.Need-add-j Inv-loop μ-loop Inv-run μ-run
@@ -94,11 +94,11 @@ loop-again c = (find-no (c .before .before .before .loop .inv .0) noHeld (c .bef
 
 -- src/choosing.rt:114:9
 returns-2 : tie.Need-returns-2 Inv-loop μ-loop Inv-run μ-run
-returns-2 c = record { listed = record { few = omega arith; long = length-set (c .before .before .before .before .before .before .run .at) (c .before .before .before .before .before .before .run .n) (c .before .before .before .before .before .before .run .i) ∙ c .before .before .before .before .before .before .run .inv .0 .room }; run = gather-none (c .before .before .before .before .before .before .run .inv .0) (ap (λ t. t .0) (c .before .before .after .ensures)) (find-end (c .before .loop .inv .0) (c .loop-test .left)) (c .before .before .before .before .before .run-test .taken) (c .before .before .before .before .if1 .left) refl }
+returns-2 c = record { listed = record { few = omega arith; long = length-set (c .before .before .before .before .before .before .run .at) (c .before .before .before .before .before .before .run .n) (c .before .before .before .before .before .before .run .i) ∙ c .before .before .before .before .before .before .run .inv .0 .room }; run = run-gather-none (c .before .before .before .before .before .before .run .inv .0) (ap (λ t. t .0) (c .before .before .after .ensures)) (find-end (c .before .loop .inv .0) (c .loop-test .left)) (c .before .before .before .before .before .run-test .taken) (c .before .before .before .before .if1 .left) refl }
 
 -- src/choosing.rt:89:1
 returns-3 : tie.Need-returns-3 Inv-loop μ-loop Inv-run μ-run
-returns-3 c = record { listed = record { few = omega arith; long = c .before .run .inv .0 .room }; run = gather-end (c .before .run .inv .0) (c .run-test .left) }
+returns-3 c = record { listed = record { few = omega arith; long = c .before .run .inv .0 .room }; run = run-gather-end (c .before .run .inv .0) (c .run-test .left) }
 
 pub gather-spec : {M : Type 1} → statement M
 gather-spec =

@@ -1,7 +1,7 @@
 use mathlib.Core.Path.{sym, ap, _∙_}
 use borrow.Author.Needs.{needs}
 use Rattle.holding.specs.Message.{continues}
-use Rattle.holding.specs.TableLaws.{holds-not-continues}
+use Rattle.holding.specs.HoldingTableLaws.{holds-not-continues}
 use Rattle.taking.proofs.choosing.goes_on_at.Statement.{statement}
 use Rattle.taking.proofs.choosing.goes_on_at.Tie as tie
 

@@ -1,5 +1,5 @@
 use borrow.Author.Needs.{needs}
-use Rattle.taking.specs.Taking.{ssnsAdvanced}
+use Rattle.taking.specs.TakeWords.{ssnsAdvanced}
 use Rattle.taking.proofs.giving.advance.Statement.{statement}
 use Rattle.taking.proofs.giving.advance.Tie as tie
 

@@ -4,8 +4,8 @@ use native.Mathlib.Omega.{arith}
 use borrow.Author.Needs.{needs}
 use Rattle.numbers.specs.Profile.{rail}
 use Rattle.holding.specs.declared.held.Held.{Held}
-use Rattle.tables.specs.Held.{heldOf}
-use Rattle.taking.specs.TakingLaws.{Copying, copy-more, copy-end}
+use Rattle.tables.specs.HeldWords.{heldOf}
+use Rattle.taking.specs.TakeWordsLaws.{Copying, copy-more, copy-end}
 use Rattle.taking.proofs.giving.copy_out.Statement.{statement}
 use Rattle.taking.proofs.giving.copy_out.Tie as tie
 use Rattle.taking.proofs.giving.copy_out.Reads as reads

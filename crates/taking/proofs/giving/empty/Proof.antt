@@ -3,7 +3,7 @@ use mathlib.Core.Path.{refl}
 use native.Mathlib.Omega.{arith}
 use borrow.Author.Needs.{needs}
 use Rattle.numbers.specs.Profile.{rail}
-use Rattle.taking.specs.TakingLaws.{Clearing, clear-more, clear-end}
+use Rattle.taking.specs.TakeWordsLaws.{Clearing, clear-more, clear-end}
 use Rattle.taking.proofs.giving.empty.Statement.{statement}
 use Rattle.taking.proofs.giving.empty.Tie as tie
 use Rattle.taking.proofs.giving.empty.Reads as reads

@@ -7,8 +7,8 @@ use Rattle.numbers.specs.Profile.{rail}
 use Rattle.scans.specs.Scan.{Summing, sum-start, sum-end}
 use Rattle.holding.specs.declared.held.Held.{Held}
 use Rattle.holding.specs.Taking.{lenAt}
-use Rattle.tables.specs.Held.{heldOf}
-use Rattle.taking.specs.TakingLaws.{listed-long, add-place}
+use Rattle.tables.specs.HeldWords.{heldOf}
+use Rattle.taking.specs.TakeWordsLaws.{listed-long, add-place}
 use Rattle.taking.proofs.giving.length_of.Statement.{statement}
 use Rattle.taking.proofs.giving.length_of.Tie as tie
 use Rattle.taking.proofs.giving.length_of.Reads as reads

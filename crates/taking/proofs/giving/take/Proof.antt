@@ -6,8 +6,8 @@ use Rattle.holding.specs.declared.held.Held.{Held}
 use Rattle.holding.specs.Taking.{messageOf}
 use Rattle.holding.specs.declared.taking.Answer.the-variants.{Taken}
 use Rattle.holding.specs.TakingLaws.{found-none, written-none}
-use Rattle.taking.specs.Taking.{ssnsAdvanced}
-use Rattle.taking.specs.TakingLaws.{place-there, given-at, words-short, words-all, words-none, ssns-short, ssns-all, ssns-none, answer-short, answer-all, answer-none, written-short, written-all}
+use Rattle.taking.specs.TakeWords.{ssnsAdvanced}
+use Rattle.taking.specs.TakeWordsLaws.{place-there, given-at, words-short, words-all, words-none, ssns-short, ssns-all, ssns-none, answer-short, answer-all, answer-none, table-written-short, table-written-all}
 use borrow.Author.Needs.{needs}
 use Rattle.taking.proofs.giving.take.Statement.{statement}
 use Rattle.taking.proofs.giving.take.Tie as tie
@@ -39,7 +39,7 @@ length-of-requires c κs = search needs
 
 -- src/giving.rt:115:13
 returns : tie.Need-returns
-returns c = let w = given-at circles rail _ _ _ (c .before .before .before .before .before .before .before .before .before .before .choose-by .ensures .0) (c .before .before .before .before .before .before .before .before .before .if1 .taken) _ (c .before .before .before .before .before .before .before .held-at .ensures) (c .before .before .before .before .gather .ensures) in (answer-short _ _ w (c .before .length-of .ensures) _ (c .if2 .taken), words-short _ _ w (c .before .length-of .ensures) _ (c .if2 .taken), ssns-short _ _ w (c .before .length-of .ensures) _ (c .if2 .taken), written-short _ _ w (c .before .length-of .ensures) _ _ (c .if2 .taken))
+returns c = let w = given-at circles rail _ _ _ (c .before .before .before .before .before .before .before .before .before .before .choose-by .ensures .0) (c .before .before .before .before .before .before .before .before .before .if1 .taken) _ (c .before .before .before .before .before .before .before .held-at .ensures) (c .before .before .before .before .gather .ensures) in (answer-short _ _ w (c .before .length-of .ensures) _ (c .if2 .taken), words-short _ _ w (c .before .length-of .ensures) _ (c .if2 .taken), ssns-short _ _ w (c .before .length-of .ensures) _ (c .if2 .taken), table-written-short _ _ w (c .before .length-of .ensures) _ _ (c .if2 .taken))
 
 -- src/giving.rt:117:9
 copy-out-requires : tie.Need-copy-out-requires
@@ -59,7 +59,7 @@ same-length c = search needs
 
 -- src/giving.rt:129:9
 returns-2 : tie.Need-returns-2
-returns-2 c = let w = given-at circles rail _ _ _ (c .before .before .before .before .before .before .before .before .before .before .before .before .before .before .before .before .before .before .before .before .before .before .before .choose-by .ensures .0) (c .before .before .before .before .before .before .before .before .before .before .before .before .before .before .before .before .before .before .before .before .before .before .if1 .taken) _ (c .before .before .before .before .before .before .before .before .before .before .before .before .before .before .before .before .before .before .before .before .held-at .ensures) (c .before .before .before .before .before .before .before .before .before .before .before .before .before .before .before .before .before .gather .ensures) in (ap (λ (h : Held). Taken (messageOf (c .before .before .before .before .before .before .before .before .before .before .before .before .before .before .length-of .result) h)) (c .before .before .before .before .before .before .before .before .before .before .before .before .before .before .before .before .before .before .before .before .held-at .ensures) ∙ answer-all _ _ w (c .before .before .before .before .before .before .before .before .before .before .before .before .before .before .length-of .ensures) _ (c .before .before .before .before .before .before .before .before .before .before .before .before .before .if2 .left), words-all _ _ w (c .before .before .before .before .before .before .before .before .before .before .before .before .before .before .length-of .ensures) _ (c .before .before .before .before .before .before .before .before .before .before .before .before .before .if2 .left) (c .before .before .before .before .empty .ensures), ssns-all _ _ w (c .before .before .before .before .before .before .before .before .before .before .before .before .before .before .length-of .ensures) _ (c .before .before .before .before .before .before .before .before .before .before .before .before .before .if2 .left) (c .before .before .advance .ensures ∙ ap (ssnsAdvanced _ _ _) (c .before .before .before .before .before .before .before .before .before .before .before .before .before .before .before .before .before .before .before .before .held-at .ensures)), written-all _ _ w (c .before .before .before .before .before .before .before .before .before .before .before .before .before .before .length-of .ensures) _ _ (c .before .before .before .before .before .before .before .before .before .before .before .before .before .if2 .left) (c .before .before .before .before .before .before .before .before .before .copy-out .ensures))
+returns-2 c = let w = given-at circles rail _ _ _ (c .before .before .before .before .before .before .before .before .before .before .before .before .before .before .before .before .before .before .before .before .before .before .before .choose-by .ensures .0) (c .before .before .before .before .before .before .before .before .before .before .before .before .before .before .before .before .before .before .before .before .before .before .if1 .taken) _ (c .before .before .before .before .before .before .before .before .before .before .before .before .before .before .before .before .before .before .before .before .held-at .ensures) (c .before .before .before .before .before .before .before .before .before .before .before .before .before .before .before .before .before .gather .ensures) in (ap (λ (h : Held). Taken (messageOf (c .before .before .before .before .before .before .before .before .before .before .before .before .before .before .length-of .result) h)) (c .before .before .before .before .before .before .before .before .before .before .before .before .before .before .before .before .before .before .before .before .held-at .ensures) ∙ answer-all _ _ w (c .before .before .before .before .before .before .before .before .before .before .before .before .before .before .length-of .ensures) _ (c .before .before .before .before .before .before .before .before .before .before .before .before .before .if2 .left), words-all _ _ w (c .before .before .before .before .before .before .before .before .before .before .before .before .before .before .length-of .ensures) _ (c .before .before .before .before .before .before .before .before .before .before .before .before .before .if2 .left) (c .before .before .before .before .empty .ensures), ssns-all _ _ w (c .before .before .before .before .before .before .before .before .before .before .before .before .before .before .length-of .ensures) _ (c .before .before .before .before .before .before .before .before .before .before .before .before .before .if2 .left) (c .before .before .advance .ensures ∙ ap (ssnsAdvanced _ _ _) (c .before .before .before .before .before .before .before .before .before .before .before .before .before .before .before .before .before .before .before .before .held-at .ensures)), table-written-all _ _ w (c .before .before .before .before .before .before .before .before .before .before .before .before .before .before .length-of .ensures) _ _ (c .before .before .before .before .before .before .before .before .before .before .before .before .before .if2 .left) (c .before .before .before .before .before .before .before .before .before .copy-out .ensures))
 
 -- src/giving.rt:98:1
 returns-3 : tie.Need-returns-3

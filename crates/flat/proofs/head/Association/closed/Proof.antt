@@ -2,7 +2,7 @@ use borrow.Author.Tests.{lt-ltb, le-ltb}
 use Prim.Native.Nat.{_^_}
 use Rattle.numbers.specs.Numbering.{ring}
 use Rattle.numbers.specs.Profile.{rail}
-use Rattle.delivery.specs.TableLaws.{fresh-is}
+use Rattle.delivery.specs.ReceivingTableLaws.{fresh-receiving-is}
 use Rattle.reception.specs.ReceptionLaws.{sound-any}
 use Rattle.association.specs.Bounds.{isSound}
 use borrow.Author.Needs.{needs}

@@ -2,7 +2,7 @@ use borrow.Author.Tests.{lt-ltb, le-ltb}
 use Prim.Native.Nat.{_^_}
 use Rattle.numbers.specs.Numbering.{ring}
 use Rattle.numbers.specs.Profile.{rail}
-use Rattle.delivery.specs.TableLaws.{fresh-is}
+use Rattle.delivery.specs.ReceivingTableLaws.{fresh-receiving-is}
 use Rattle.reception.specs.ReceptionLaws.{sound-any}
 use Rattle.association.specs.Bounds.{isSound}
 use borrow.Author.Needs.{needs}
@@ -23,7 +23,7 @@ fresh-requires-2 c κs = search needs
 
 -- src/fresh.rt:17:5
 returns : tie.Need-returns
-returns c = rw (c .fresh2 .ensures, c .before .fresh .ensures, fresh-is (ring (2 ^ 32)) rail _)
+returns c = rw (c .fresh2 .ensures, c .before .fresh .ensures, fresh-receiving-is (ring (2 ^ 32)) rail _)
 
 pub started-spec : {M : Type 1} → statement M
 started-spec = tie.close (tie.spec fresh-requires fresh-requires-2 returns)

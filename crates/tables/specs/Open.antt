@@ -1,6 +1,0 @@
--- A definition of a crate below is opened by its law. Assumes nothing.
-use mathlib.Core.Path.{_≡_, sym, _∙_}
-
--- what is z by the law: it is enough to show what z says
-pub by : {A : Type 0} {x y z : A} → z ≡ y → x ≡ y → x ≡ z
-by p q = q ∙ sym p
