@@ -5,6 +5,7 @@ use crate::verbs;
 use flat::Association;
 use flat::Head;
 use happening::Told;
+use numbers::Rail;
 use octets::get32;
 use octets::part;
 use octets::put_all;
@@ -18,9 +19,9 @@ use states::State;
 ghost use Prim.Native.Nat.{_≤_};
 
 // Of a packet; of an area, and of the output of a take.
-pub(crate) const LONGEST: usize = 1472;
+pub(crate) const LONGEST: usize = Rail::LONGEST_PACKET;
 
-pub(crate) const SPACE: usize = 65536;
+pub(crate) const SPACE: usize = Rail::AREA;
 
 // What the host lends with a packet, as the event of one: for an INIT its tag, its first TSN, its streams, and a cookie; for a COOKIE ECHO what the cookie
 // was made from; and its word, which is the event's number: 0 bad, 1 stale, 2 good. Of any other event its number and its values.
@@ -62,12 +63,22 @@ pub(crate) fn lends(mut h: Host, line: &[u8]) -> Host {
     h
 }
 
+// Of the words behind the verb: a line is looked through seven words far, so the ties are read from the middle on.
+fn judged(line: &[u8], k: usize) -> u32 {
+    let told = rest(line);
+    match k {
+        8 => value32(rest(rest(rest(rest(told)))), 4),
+        9 => value32(rest(rest(rest(rest(told)))), 5),
+        _ => value32(told, k),
+    }
+}
+
 // good or stale, with MY TAG, PEER'S TAG, STREAMS IN, OUT, MY TSN, PEER'S TSN, WINDOW, and the ties, MY and PEER'S, where there are some; or bad
 pub(crate) fn judges(mut h: Host, line: &[u8]) -> Host {
     let mut values = h.values;
     let mut k: usize = 0;
     while k < 9 {
-        values[k + 3] = value32(rest(line), k + 1);
+        values[k + 3] = judged(line, k + 1);
         k += 1;
     }
     h.values = values;

@@ -11,6 +11,7 @@ use flat::Head;
 use happening::Told;
 use holding::taking::Message;
 use numbers::Keeping;
+use numbers::Rail;
 use octets::part;
 use pages::page::say;
 use pages::page::say_number;
@@ -131,7 +132,7 @@ fn say_arrived(should: &[u8], number: u8, count: usize, verdicts: &[u32; 1460]) 
     }
     let mut to = 0;
     let mut i: usize = 0;
-    while i < 365 {
+    while i < Rail::CHUNKS {
         if count <= i {
             return say(should, to, b"all");
         }

@@ -14,14 +14,11 @@ abbrev μ-loop : tie.MeasureT-loop
 loop-holds : tie.Need-loop-holds Inv-loop μ-loop
 loop-holds c = search needs
 
-rest-requires : tie.Need-rest-requires Inv-loop μ-loop
-rest-requires c κs = search needs
+add-judged : tie.Need-add-judged Inv-loop μ-loop
+add-judged c = search needs
 
-add-value32 : tie.Need-add-value32 Inv-loop μ-loop
-add-value32 c = search needs
-
-value32-requires : tie.Need-value32-requires Inv-loop μ-loop
-value32-requires c κs = search needs
+judged-requires : tie.Need-judged-requires Inv-loop μ-loop
+judged-requires c κs = search needs
 
 add-values : tie.Need-add-values Inv-loop μ-loop
 add-values c = search needs
@@ -60,9 +57,8 @@ judges-spec =
     Inv-loop
     μ-loop
     loop-holds
-    rest-requires
-    add-value32
-    value32-requires
+    add-judged
+    judged-requires
     add-values
     mul-values
     array-write-values
