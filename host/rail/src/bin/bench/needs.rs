@@ -72,7 +72,7 @@ pub fn all() -> Vec<Needs> {
     let closed = Lone::new(Proved::closed(5001, BOOK_9260));
     let Opened { init, .. } = open();
     let unknown = checksum::packet(1472);
-    let lent = Lent { tag: 2, tsn: 3, streams: 8 };
+    let lent = Lent { tag: 2, tsn: 3, streams: 8, options: 0 };
     let empty = needs("", &Needs { name: "", stack: 0, copied: 0 }, &mut || ());
     let mut all = Vec::new();
     let mut measure = |name, end: &Lone, call: &dyn Fn(&mut Lone)| {
