@@ -163,26 +163,26 @@ impl<L: Library> Session<L> {
         Some(ended)
     }
 
-    /// An association with this peer begins: nothing of an earlier one is left but its record, which is given back.
-    fn begin(&mut self, core: Association<L>, peer: SocketAddr, config: &Config, tools: &mut Tools, now: Instant) -> Association<L> {
+    /// All that the host measures of a peer starts over.
+    fn start_over(&mut self, peer: SocketAddr, config: &Config, tools: &mut Tools, now: Instant) {
         self.path.start(peer);
         self.silence.start(now);
         self.sack = DelayedSack::default();
         self.heartbeat = heartbeat(config, tools);
         self.round_trip = RoundTrip::default();
         self.last_word.forget();
+    }
+
+    /// An association with this peer begins: nothing of an earlier one is left but its record, which is given back.
+    fn begin(&mut self, core: Association<L>, peer: SocketAddr, config: &Config, tools: &mut Tools, now: Instant) -> Association<L> {
+        self.start_over(peer, config, tools, now);
         self.peer_first = None;
         std::mem::replace(&mut self.core, core)
     }
 
     /// The core has begun anew with the peer that there is: so does all that the host measures of it.
     fn begin_again(&mut self, peer: SocketAddr, prepared: &Prepared, config: &Config, tools: &mut Tools, now: Instant) {
-        self.path.start(peer);
-        self.silence.start(now);
-        self.sack = DelayedSack::default();
-        self.heartbeat = heartbeat(config, tools);
-        self.round_trip = RoundTrip::default();
-        self.last_word.forget();
+        self.start_over(peer, config, tools, now);
         self.peer_first = prepared.first_of_peer();
         self.may_take = false;
     }
