@@ -1,4 +1,6 @@
 // A SACK is judged and taken in, over head and lent places; a SHUTDOWN's point works alike. T3 expires.
+#![tactic(auto)]
+
 ghost use Rattle.std.specs.Prelude.{◌≡◌, []};
 ghost use Rattle.path.specs.Sizes.{sizes_of};
 ghost use Rattle.numbers.specs.Profile.{rail};
@@ -13,14 +15,14 @@ use sender::Sender;
 use sending::acknowledging;
 
 // A number of 01's table, 0 if none, beside the head.
-#[derive(Drop)]
+#[derive(Clone, Copy)]
 pub struct Acked {
     pub number: u8,
     pub head: Sender,
 }
 
 // The number, 0 if none; whether the tries were spent; the head.
-#[derive(Drop)]
+#[derive(Clone, Copy)]
 pub struct Expired {
     pub number: u8,
     pub over: bool,

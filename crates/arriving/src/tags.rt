@@ -11,7 +11,7 @@ use states::State;
 use steps::Echoed;
 
 // Which tag a packet must carry.
-#[derive(Drop)]
+#[derive(Clone, Copy)]
 pub enum Rule {
     Tag(u32),
     Any,

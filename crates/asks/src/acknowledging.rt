@@ -17,7 +17,7 @@ use numbers::Keeping;
 use states::Call;
 
 // The number, 0 if none; the bytes of the packet; what it says; the head.
-#[derive(Drop)]
+#[derive(Clone, Copy)]
 pub struct Acknowledged {
     pub number: u8,
     pub length: usize,

@@ -9,7 +9,7 @@ use sender::Sender;
 use states::{Call, State};
 
 // A number of document 01's table, 0 if none; the bytes of the packet that was written; whether an expiry closed the association; the head.
-#[derive(Drop)]
+#[derive(Clone, Copy)]
 pub struct Answered {
     pub number: u8,
     pub length: usize,

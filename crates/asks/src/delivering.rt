@@ -12,7 +12,7 @@ use holding::taking::Message;
 use numbers::{Ssn, StreamId};
 
 // The number, 0 if none; the message, of which a refusal with 18 gives the length needed.
-#[derive(Drop)]
+#[derive(Clone, Copy)]
 pub struct Delivered {
     pub number: u8,
     pub message: Message,

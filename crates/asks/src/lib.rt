@@ -1,4 +1,6 @@
 // The calls of the host, but the arrival of a packet, over a head by value and tables that are lent. Each gives the head back beside its answer where it may change; what is refused leaves all.
+#![tactic(auto)]
+
 pub mod acknowledging;
 pub mod answer;
 pub mod closing;

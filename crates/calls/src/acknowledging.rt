@@ -7,7 +7,7 @@ use chunks::sack::Sack;
 use numbers::{Blocks, Rail, Tsn};
 
 // The number, 0 if none; the bytes of the packet; what it says; the record.
-#[derive(Drop)]
+#[derive(Clone, Copy)]
 pub struct Acknowledged {
     pub number: u8,
     pub length: usize,

@@ -1,4 +1,6 @@
 // The calls of the host, but the arrival of a packet: what each answers and leaves; what is refused leaves all. Their code over tables: `asks`.
+#![tactic(auto)]
+
 pub mod acknowledging;
 pub mod answer;
 pub mod closing;

@@ -3,7 +3,7 @@ use association::Association;
 use holding::taking::Message;
 
 // The number, 0 if none; into how many chunks the message was cut; the record.
-#[derive(Drop)]
+#[derive(Clone, Copy)]
 pub struct HandedIn {
     pub number: u8,
     pub chunks: usize,
@@ -11,7 +11,7 @@ pub struct HandedIn {
 }
 
 // The number, 0 if none; the message, of which a refusal with 18 gives the length needed; the record.
-#[derive(Drop)]
+#[derive(Clone, Copy)]
 pub struct Delivered {
     pub number: u8,
     pub message: Message,

@@ -6,7 +6,7 @@ use chunks::init::Init;
 use chunks::types;
 
 // An INIT, with the port that it came from and the options that it offers, or a COOKIE ECHO, whose cookie stands in the packet at an offset and has a length.
-#[derive(Drop)]
+#[derive(Clone, Copy)]
 pub enum Peeked {
     Refused(u8),
     Nothing,

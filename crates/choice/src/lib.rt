@@ -1,4 +1,6 @@
 // Which places of a lent table go into the next packet, and the next SSNs after it.
+#![tactic(auto)]
+
 ghost use Rattle.std.specs.Prelude.{◌≡◌, ◌+◌, ◌<◌, ◌≤◌, []};
 ghost use Rattle.path.specs.Sizes.{rail_sizes};
 ghost use Rattle.numbers.specs.Profile.{rail};
@@ -19,7 +21,7 @@ use sending::choosing;
 use sending::choosing::{Best, Load};
 
 // The head after a packet, and the packet.
-#[derive(Drop)]
+#[derive(Clone, Copy)]
 pub struct Packed {
     pub head: Sender,
     pub load: Load,

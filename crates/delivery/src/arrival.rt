@@ -14,7 +14,7 @@ use crate::receiving::Receiving;
 use holding::Held;
 use numbers::{Judgement, Keeping, Rail, Tsn};
 
-#[derive(Drop)]
+#[derive(Clone, Copy)]
 pub enum Verdict {
     Kept,
     Empty,
@@ -27,7 +27,7 @@ pub enum Verdict {
     Clashing,
 }
 
-#[derive(Drop)]
+#[derive(Clone, Copy)]
 pub struct Arrival {
     pub verdict: Verdict,
     pub receiving: Receiving,
@@ -35,7 +35,7 @@ pub struct Arrival {
 
 // What the held chunks say of a chunk that comes: how many are low, whether its number is held, whether one of them contradicts it, and the lowest
 // free place, 128 if there is none.
-#[derive(Drop)]
+#[derive(Clone, Copy)]
 pub struct Look {
     pub low: usize,
     pub held: bool,

@@ -8,7 +8,7 @@ use calls::Reason;
 use numbers::{StreamId, Tsn};
 use steps::{Echoed, Lent, Made};
 
-#[derive(Drop)]
+#[derive(Clone, Copy)]
 pub enum Event {
     // A packet arrives, with what is lent for an INIT and the word on an echoed cookie.
     Packet(Lent, Echoed),

@@ -1,4 +1,6 @@
 // What can happen to an association, and what the host is told of it.
+#![tactic(auto)]
+
 pub mod event;
 pub mod told;
 

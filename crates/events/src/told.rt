@@ -7,7 +7,7 @@ use holding::taking::Message;
 use numbers::Tsn;
 
 // Of a packet of DATA: whether one of its chunks is sent again, and its first and last TSN.
-#[derive(Drop)]
+#[derive(Clone, Copy)]
 pub struct Went {
     pub resent: bool,
     pub first: Tsn,
@@ -15,7 +15,7 @@ pub struct Went {
 }
 
 // Of a packet that arrived: the verdicts of its chunks.
-#[derive(Drop)]
+#[derive(Clone, Copy)]
 pub struct Seen {
     pub count: usize,
     pub verdicts: [Verdict; CHUNKS],
@@ -23,7 +23,7 @@ pub struct Seen {
 
 // The number, 0 if none; the bytes of the packet that was written, of a message handed in its chunks, of a take the bytes of its message, or those
 // needed; whether an expiry closed the association; then what one event alone tells.
-#[derive(Drop)]
+#[derive(Clone, Copy)]
 pub struct Told {
     pub number: u8,
     pub length: usize,
@@ -34,7 +34,7 @@ pub struct Told {
     pub seen: Seen,
 }
 
-#[derive(Drop)]
+#[derive(Clone, Copy)]
 pub struct Ran {
     pub told: Told,
     pub association: Association,

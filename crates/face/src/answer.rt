@@ -6,7 +6,7 @@ ghost use Rattle.face.specs.FaceAnswer.{answer_told};
 use kept::{Kept, flags};
 
 // The number, 0 if none, and the head.
-#[derive(Drop)]
+#[derive(Clone, Copy)]
 pub struct Served {
     pub number: u32,
     pub kept: Kept,

@@ -9,7 +9,7 @@ use sender::Sender;
 use states::State;
 
 // All of a record that is no table.
-#[derive(Drop)]
+#[derive(Clone, Copy)]
 pub struct Head {
     pub state: State,
     pub ends: Ends,
@@ -19,7 +19,7 @@ pub struct Head {
 }
 
 // The whole, as document 01 has it: taken and returned. Its places of 128 held chunks have four words each, those of 128 chunks to send eight.
-#[derive(Drop)]
+#[derive(Clone, Copy)]
 pub struct Association {
     pub head: Head,
     pub held: [u32; 512],

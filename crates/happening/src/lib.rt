@@ -1,4 +1,6 @@
 // Any event, over the record by value, and over one that the host lends.
+#![tactic(auto)]
+
 pub mod happening;
 pub mod running;
 pub mod told;

@@ -15,7 +15,7 @@ use numbers::{Ssn, StreamId, Tsn};
 
 // The number, 0 if none; the bytes of the packet that was written, of a message handed in its chunks, of a take the bytes of its message, or those
 // needed; whether an expiry closed the association; then what one event alone tells, of a packet that arrived how many verdicts there are.
-#[derive(Drop)]
+#[derive(Clone, Copy)]
 pub struct Told {
     pub number: u8,
     pub length: usize,
@@ -26,7 +26,7 @@ pub struct Told {
     pub count: usize,
 }
 
-#[derive(Drop)]
+#[derive(Clone, Copy)]
 pub struct Ran {
     pub told: Told,
     pub association: Association,

@@ -6,7 +6,7 @@ use crate::held::Held;
 use numbers::Tsn;
 
 // The best message so far: the place of its first chunk, and its key.
-#[derive(Drop)]
+#[derive(Clone, Copy)]
 pub struct Best {
     pub some: bool,
     pub place: usize,

@@ -6,7 +6,7 @@ use numbers::{Rail, Ssn, StreamId};
 
 // What a take gives beside the bytes.
 #[repr(C)]
-#[derive(Drop)]
+#[derive(Clone, Copy)]
 pub struct Message {
     pub length: usize,
     pub stream: StreamId,
@@ -15,7 +15,7 @@ pub struct Message {
     pub ppid: u32,
 }
 
-#[derive(Drop)]
+#[derive(Clone, Copy)]
 pub enum Answer {
     Taken(Message),
     Nothing,
@@ -23,7 +23,7 @@ pub enum Answer {
     Short(usize),
 }
 
-#[derive(Drop)]
+#[derive(Clone, Copy)]
 pub struct Took {
     pub answer: Answer,
     pub held: [Held; Rail::PLACES],

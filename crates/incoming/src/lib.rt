@@ -1,4 +1,6 @@
 // The receiving side by value, with its tables, which it lends itself: its promises are those of `delivery`, and how the words stand.
+#![tactic(auto)]
+
 ghost use Rattle.std.specs.Prelude.{◌≡◌, ◌^◌, length};
 ghost use Rattle.numbers.specs.Numbering.{ring, circles};
 ghost use Rattle.numbers.specs.Profile.{rail};
@@ -17,7 +19,7 @@ use holding::{Answer, Chunk};
 use numbers::{Keeping, Rail, Tsn};
 
 // Number-keeping, the held chunks, and the next expected SSN of each stream.
-#[derive(Drop)]
+#[derive(Clone, Copy)]
 pub struct Incoming {
     pub keeping: Keeping,
     pub held: [u32; 512],
@@ -25,21 +27,21 @@ pub struct Incoming {
 }
 
 // The verdict on a chunk, and the receiving side after it.
-#[derive(Drop)]
+#[derive(Clone, Copy)]
 pub struct Came {
     pub verdict: Verdict,
     pub incoming: Incoming,
 }
 
 // What a take gives, and the receiving side after it.
-#[derive(Drop)]
+#[derive(Clone, Copy)]
 pub struct Took {
     pub answer: Answer,
     pub incoming: Incoming,
 }
 
 // What a SACK says, and the receiving side after it.
-#[derive(Drop)]
+#[derive(Clone, Copy)]
 pub struct Told {
     pub sack: Sack,
     pub incoming: Incoming,

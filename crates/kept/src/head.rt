@@ -10,7 +10,7 @@ use states::State;
 
 // The state is two numbers: which it is, and its count of tries, 0 where it has none.
 #[repr(C)]
-#[derive(Drop)]
+#[derive(Clone, Copy)]
 pub struct Kept {
     pub state: u8,
     pub tries: u8,

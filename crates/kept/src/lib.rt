@@ -1,4 +1,6 @@
 // What the host keeps and hands over, as numbers and structs without an enum.
+#![tactic(auto)]
+
 pub mod cause;
 pub mod flags;
 pub mod head;

@@ -8,7 +8,7 @@ use path::{Clock, Control, Path};
 use sender::Sender;
 
 #[repr(C)]
-#[derive(Drop)]
+#[derive(Clone, Copy)]
 pub struct KeptKeeping {
     pub point: Tsn,
     pub come: [u8; Rail::PLACES],
@@ -17,7 +17,7 @@ pub struct KeptKeeping {
 }
 
 #[repr(C)]
-#[derive(Drop)]
+#[derive(Clone, Copy)]
 pub struct KeptClock {
     pub sampled: u8,
     pub srtt: u32,
@@ -26,7 +26,7 @@ pub struct KeptClock {
 }
 
 #[repr(C)]
-#[derive(Drop)]
+#[derive(Clone, Copy)]
 pub struct KeptPath {
     pub control: Control,
     pub clock: KeptClock,
@@ -37,7 +37,7 @@ pub struct KeptPath {
 }
 
 #[repr(C)]
-#[derive(Drop)]
+#[derive(Clone, Copy)]
 pub struct KeptSender {
     pub acked: Tsn,
     pub next_tsn: Tsn,

@@ -16,7 +16,7 @@ use numbers::Rail;
 use steps::{Beside, Echoed, Lent};
 
 // The number of the packet, 0 if it was let in; then how many of its chunks have a verdict, the length of the reply, and the head.
-#[derive(Drop)]
+#[derive(Clone, Copy)]
 pub struct Landed {
     pub number: u8,
     pub count: usize,

@@ -14,7 +14,7 @@ use steps::{Beside, Owed};
 
 // The head so far, how many verdicts there are, how many bytes of replies are gathered, whether the rest is unread, whether a SHUTDOWN is due, and
 // what the whole reply owes beside it.
-#[derive(Drop)]
+#[derive(Clone, Copy)]
 pub struct Walk {
     pub head: Head,
     pub count: usize,

@@ -1,5 +1,7 @@
 // Random plans over both wraps, with loss, repeats, reordering, takes and SACKs mixed: the circle receiver against a plain receiver on the line, which
 // keeps one byte for each number: 0 not come, 1 held, 2 given. What differs is counted.
+#![tactic(auto)]
+
 ghost use Rattle.std.specs.Prelude.{◌≤◌, length};
 
 use delivery::{Sack, Verdict};
@@ -101,7 +103,7 @@ fn chunk(i: u32) -> Chunk {
 
 // ---- the line receiver
 
-#[derive(Drop)]
+#[derive(Clone, Copy)]
 struct Line {
     point: u32,
     next0: u64,
@@ -490,7 +492,7 @@ fn same_take(a: Answer, out: &[u8; ROOM], i: u32, room: u32) -> bool {
 
 // ---- a step of the plan
 
-#[derive(Drop)]
+#[derive(Clone, Copy)]
 struct Both {
     incoming: Incoming,
     line: Line,

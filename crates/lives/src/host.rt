@@ -18,7 +18,7 @@ pub(crate) const SPACE: usize = Rail::AREA;
 
 // What the host lends with a packet, as the event of one: for an INIT its tag, its first TSN, its streams, and a cookie; for a COOKIE ECHO what the cookie
 // was made from; and its word, which is the event's number: 0 bad, 1 stale, 2 good. Of any other event its number and its values.
-#[derive(Drop)]
+#[derive(Clone, Copy)]
 pub(crate) struct Host {
     pub(crate) number: u8,
     pub(crate) values: [u32; 12],
@@ -27,7 +27,7 @@ pub(crate) struct Host {
 }
 
 // The record after an event, the length of the packet that it wrote, how many bytes it wrote at all, and how far what it answered is as it should be.
-#[derive(Drop)]
+#[derive(Clone, Copy)]
 pub(crate) struct Said {
     pub(crate) association: Association,
     pub(crate) length: usize,

@@ -1,5 +1,7 @@
 // Whole lives of an association, in bytes. The input has an event on each line: which end it happens to, what happens, and behind a colon what should
 // come of it; the output repeats the line, with what came of it before what should, and whether they are the same.
+#![tactic(auto)]
+
 mod forms;
 mod host;
 mod sameness;
@@ -28,7 +30,7 @@ const BLANK: u8 = 0xee;
 const INPUT: usize = 65600;
 
 // An end: its record, a record that was put aside, its host, its last packet and how long that is.
-#[derive(Drop)]
+#[derive(Clone, Copy)]
 struct Side {
     association: Association,
     aside: Association,
@@ -37,7 +39,7 @@ struct Side {
     length: usize,
 }
 
-#[derive(Drop)]
+#[derive(Clone, Copy)]
 struct Both {
     a: Side,
     b: Side,

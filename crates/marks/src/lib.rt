@@ -1,4 +1,6 @@
 // All places of a lent table at once: a pass for each step of a SACK, T3's marking, and the sums. A free place is not read beyond its status.
+#![tactic(auto)]
+
 ghost use Rattle.std.specs.Prelude.{◌≡◌, map, ◌≤◌};
 ghost use Rattle.scans.specs.Scan.{count, total};
 ghost use Rattle.numbers.specs.Profile.{rail};
@@ -12,14 +14,14 @@ use numbers::{Rail, Tsn};
 use places::{Place, Sack, Tally, all, sack};
 
 // What a SACK newly acknowledges: the bytes, and the highest offset.
-#[derive(Drop)]
+#[derive(Clone, Copy)]
 pub struct Took {
     pub newly: u32,
     pub highest: u32,
 }
 
 // After misses: whether a chunk came to three, the flight, whether anything is outstanding, and the highest offset of that.
-#[derive(Drop)]
+#[derive(Clone, Copy)]
 pub struct Missing {
     pub struck: bool,
     pub flight: u32,

@@ -1,4 +1,6 @@
 // A message is handed in: cut into chunks, each in the lowest free place of the lent table, its payload in the part of the area that belongs to the place.
+#![tactic(auto)]
+
 ghost use Rattle.std.specs.Prelude.{◌≡◌, ◌*◌, ◌<◌, ◌≤◌, length};
 ghost use Rattle.scans.specs.Scan.{count};
 ghost use Rattle.numbers.specs.Profile.{rail, payload_start};
@@ -15,7 +17,7 @@ use sending::cutting;
 use sending::cutting::{Message, Room};
 
 // The number, 0 if none; how many chunks were cut.
-#[derive(Drop)]
+#[derive(Clone, Copy)]
 pub struct Handing {
     pub number: u8,
     pub chunks: usize,

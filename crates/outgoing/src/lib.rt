@@ -1,4 +1,6 @@
 // The sending side by value, with its tables, which it lends itself: its promises are those of `sending`, and how the words stand.
+#![tactic(auto)]
+
 ghost use Rattle.std.specs.Prelude.{◌≡◌, length};
 ghost use Rattle.path.specs.Sizes.{rail_sizes, sizes_of};
 ghost use Rattle.numbers.specs.Profile.{rail};
@@ -18,7 +20,7 @@ use sender::Sender;
 use sending::choosing::Load;
 
 // Head, places and next SSNs.
-#[derive(Drop)]
+#[derive(Clone, Copy)]
 pub struct Outgoing {
     pub head: Sender,
     pub places: [u32; 1024],
@@ -26,7 +28,7 @@ pub struct Outgoing {
 }
 
 // The number, 0 if none; how many chunks were cut; the sending side.
-#[derive(Drop)]
+#[derive(Clone, Copy)]
 pub struct HandedIn {
     pub number: u8,
     pub chunks: usize,
@@ -34,7 +36,7 @@ pub struct HandedIn {
 }
 
 // The number, 0 if none; whether the tries were spent; the sending side.
-#[derive(Drop)]
+#[derive(Clone, Copy)]
 pub struct Expired {
     pub number: u8,
     pub over: bool,
@@ -42,14 +44,14 @@ pub struct Expired {
 }
 
 // The number, 0 if none, and the sending side.
-#[derive(Drop)]
+#[derive(Clone, Copy)]
 pub struct Answered {
     pub number: u8,
     pub outgoing: Outgoing,
 }
 
 // A packet, and the sending side after it.
-#[derive(Drop)]
+#[derive(Clone, Copy)]
 pub struct Packet {
     pub load: Load,
     pub outgoing: Outgoing,

@@ -9,7 +9,7 @@ use tables::held;
 use taking::choosing;
 
 // The SACK, and number-keeping after it.
-#[derive(Drop)]
+#[derive(Clone, Copy)]
 pub struct Acknowledged {
     pub sack: Sack,
     pub keeping: Keeping,

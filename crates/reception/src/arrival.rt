@@ -19,7 +19,7 @@ use tables::held;
 use taking::choosing;
 
 // The verdict, and number-keeping after it.
-#[derive(Drop)]
+#[derive(Clone, Copy)]
 pub struct Arrived {
     pub verdict: Verdict,
     pub keeping: Keeping,

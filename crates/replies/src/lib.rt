@@ -1,1 +1,2 @@
 // What any call writes passes the checks of a reader: the laws are in specs/.
+#![tactic(auto)]

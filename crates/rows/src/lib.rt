@@ -1,4 +1,6 @@
 // What one chunk does to a record that is a head and lent tables: the rows of the state table, and the verdict.
+#![tactic(auto)]
+
 pub mod carrying;
 pub mod chunk;
 pub mod closing;

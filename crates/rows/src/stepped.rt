@@ -8,7 +8,7 @@ use flat::Head;
 use steps::{Event, Fate, Named, Owed, Told};
 
 // The head after a chunk, its verdict, whether the rest of the packet is unread, what is owed, and how many bytes it added to the reply.
-#[derive(Drop)]
+#[derive(Clone, Copy)]
 pub struct Stepped {
     pub head: Head,
     pub fate: Fate,

@@ -1,4 +1,6 @@
 // The sending side apart from its tables, which are lent: a small head by value, and the bounds of both.
+#![tactic(auto)]
+
 ghost use Rattle.std.specs.Prelude.{◌≡◌, not, true, false, List, [], ℕ, ◌<◌, ◌≤◌, eqb, ltb};
 ghost use Rattle.scans.specs.Scan.{pick};
 ghost use Rattle.path.specs.Sizes.{rail_sizes, sizes_of};
@@ -17,7 +19,7 @@ use sending::bounds::Survey;
 
 // Our point, the TSN that is next, the window last advertised, the order of the chunk that waits longest, the path, and the book: 0 RFC 9260,
 // 1 RFC 4960.
-#[derive(Drop)]
+#[derive(Clone, Copy)]
 pub struct Sender {
     pub acked: Tsn,
     pub next_tsn: Tsn,

@@ -10,7 +10,7 @@ use numbers::Tsn;
 use states::State;
 
 // What table 12 says to do: A, B, C and D, or a case that it does not show.
-#[derive(Drop)]
+#[derive(Clone, Copy)]
 pub enum Action {
     Restart,
     Retag,

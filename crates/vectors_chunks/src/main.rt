@@ -1,6 +1,8 @@
 // Chunks in bytes, worked out by hand from the figures of RFC 9260 section 3.3, written and read. The input has one on each line, and behind a colon what should
 // come of it; the output repeats the line, with what came of it before what should, and whether they are the same. Of a written chunk that is its length, its
 // bytes, and four bytes behind them, which stay as they were (ee).
+#![tactic(auto)]
+
 use chunks::cause::Cause;
 use chunks::data::Data;
 use chunks::frame::Part;

@@ -1,5 +1,7 @@
 // The published vectors of the checksum and the worked examples of the circle. The input has one on each line, and behind a colon what should come of it; the
 // output repeats the line, with what came of it before what should, and whether they are the same.
+#![tactic(auto)]
+
 use libc::STDIN_FILENO;
 use numbers::{Distance, Judgement, Ssn, Tsn};
 use octets::part;

@@ -1,5 +1,7 @@
 // Packets in bytes and what each is answered. The input has a packet on each line, and behind a colon what should come of it; the output repeats the line, with
 // what came of it before what should, and whether they are the same.
+#![tactic(auto)]
+
 use libc::STDIN_FILENO;
 use octets::{part, put_all, put8, put16};
 use packets::Header;

@@ -1,6 +1,8 @@
 // The worked examples of receiving, C8 to C11 among them. The input has a step on each line, and behind a colon what should come of it; the output repeats the
 // line, with what came of it before what should, and whether they are the same. A chunk is said by TSN, FLAGS, STREAM, SSN, LENGTH, PPID: of its flags the letters
 // U, B, E that are set, or -; every byte of its payload is its TSN modulo 251. 128 streams are agreed.
+#![tactic(auto)]
+
 ghost use Rattle.std.specs.Prelude.{◌≤◌};
 
 use delivery::{Sack, Verdict};

@@ -1,5 +1,7 @@
 // The worked examples of sending, C12 and C13 among them. The input has a step on each line, and behind a colon what should come of it; the output repeats the
 // line, with what came of it before what should, and whether they are the same. 4 streams are agreed.
+#![tactic(auto)]
+
 use libc::STDIN_FILENO;
 use numbers::{Blocks, StreamId, Tsn};
 use octets::part;
@@ -13,7 +15,7 @@ use sending::choosing::Load;
 use tables::place;
 
 // The sending side, and one that was put aside.
-#[derive(Drop)]
+#[derive(Clone, Copy)]
 struct Sides {
     present: Outgoing,
     aside: Outgoing,
