@@ -1,0 +1,4 @@
+use Rattle.asks.proofs.answer.over.Goals as goal
+
+pub returns : goal.returns
+returns c = rw c.moved.ensures

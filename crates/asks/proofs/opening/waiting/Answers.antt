@@ -1,0 +1,6 @@
+use Rattle.calls.specs.Opening.{wanting}
+use Rattle.asks.proofs.opening.waiting.Goals as goal
+
+pub returns : goal.returns
+unfolding wanting
+returns c = rw (← c.wanted-streams_out.ensures) c.started.ensures

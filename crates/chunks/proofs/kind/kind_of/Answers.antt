@@ -1,0 +1,59 @@
+use borrow.Author.Tests.{ne_eqb}
+use Rattle.chunks.specs.Kind.{kind_of}
+use Rattle.chunks.proofs.kind.kind_of.Goals as goal
+
+pub returns-in-0 : goal.returns-in-0
+unfolding kind_of
+returns-in-0 c = rw (← c.get8-k.ensures, c.in-0.is)
+
+pub returns-in-1 : goal.returns-in-1
+unfolding kind_of
+returns-in-1 c = rw (← c.get8-k.ensures, c.in-1.is)
+
+pub returns-in-2 : goal.returns-in-2
+unfolding kind_of
+returns-in-2 c = rw (← c.get8-k.ensures, c.in-2.is)
+
+pub returns-in-3 : goal.returns-in-3
+unfolding kind_of
+returns-in-3 c = rw (← c.get8-k.ensures, c.in-3.is)
+
+pub returns-in-4 : goal.returns-in-4
+unfolding kind_of
+returns-in-4 c = rw (← c.get8-k.ensures, c.in-4.is)
+
+pub returns-in-5 : goal.returns-in-5
+unfolding kind_of
+returns-in-5 c = rw (← c.get8-k.ensures, c.in-5.is)
+
+pub returns-in-6 : goal.returns-in-6
+unfolding kind_of
+returns-in-6 c = rw (← c.get8-k.ensures, c.in-6.is)
+
+pub returns-in-7 : goal.returns-in-7
+unfolding kind_of
+returns-in-7 c = rw (← c.get8-k.ensures, c.in-7.is)
+
+pub returns-in-8 : goal.returns-in-8
+unfolding kind_of
+returns-in-8 c = rw (← c.get8-k.ensures, c.in-8.is)
+
+pub returns-in-9 : goal.returns-in-9
+unfolding kind_of
+returns-in-9 c = rw (← c.get8-k.ensures, c.in-9.is)
+
+pub returns-in-10 : goal.returns-in-10
+unfolding kind_of
+returns-in-10 c = rw (← c.get8-k.ensures, c.in-10.is)
+
+pub returns-in-11 : goal.returns-in-11
+unfolding kind_of
+returns-in-11 c = rw (← c.get8-k.ensures, c.in-11.is)
+
+pub returns-in-14 : goal.returns-in-14
+unfolding kind_of
+returns-in-14 c = rw (← c.get8-k.ensures, c.in-14.is)
+
+pub returns-in_default : goal.returns-in_default
+unfolding kind_of
+returns-in_default c = rw (← c.get8-k.ensures, ne_eqb _ 0 c.in_default.in_default-own.rest.0.0.0.0.0.0.0.0.0.0.0.0.1, ne_eqb _ 1 c.in_default.in_default-own.rest.0.0.0.0.0.0.0.0.0.0.0.1, ne_eqb _ 2 c.in_default.in_default-own.rest.0.0.0.0.0.0.0.0.0.0.1, ne_eqb _ 3 c.in_default.in_default-own.rest.0.0.0.0.0.0.0.0.0.1, ne_eqb _ 4 c.in_default.in_default-own.rest.0.0.0.0.0.0.0.0.1, ne_eqb _ 5 c.in_default.in_default-own.rest.0.0.0.0.0.0.0.1, ne_eqb _ 6 c.in_default.in_default-own.rest.0.0.0.0.0.0.1, ne_eqb _ 7 c.in_default.in_default-own.rest.0.0.0.0.0.1, ne_eqb _ 8 c.in_default.in_default-own.rest.0.0.0.0.1, ne_eqb _ 9 c.in_default.in_default-own.rest.0.0.0.1, ne_eqb _ 10 c.in_default.in_default-own.rest.0.0.1, ne_eqb _ 11 c.in_default.in_default-own.rest.0.1, ne_eqb _ 14 c.in_default.in_default-own.rest.1, c.handling_of.ensures)

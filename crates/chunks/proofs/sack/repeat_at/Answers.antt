@@ -1,0 +1,6 @@
+use Rattle.chunks.specs.SackChunk.{repeat_of}
+use Rattle.chunks.proofs.sack.repeat_at.Goals as goal
+
+pub returns : goal.returns
+unfolding repeat_of
+returns c = rw (c.get32.ensures, c.get16-blocks.ensures)

@@ -1,0 +1,8 @@
+use mathlib.Core.Path.{ap, ◌∙◌}
+use Rattle.crc32c_register.specs.Register.{bits}
+use Rattle.crc32c_register.specs.RegisterLaws.{crc-halves}
+use Rattle.crc32c.proofs.checksum.one.Goals as goal
+
+pub returns : goal.returns
+returns c = let a = c.args in
+    c.after_4-2.ensures ∙ ap (bits 4) c.after_4.ensures ∙ crc-halves a.c a.b

@@ -1,0 +1,11 @@
+use borrow.Author.Tests.{lt-ltb, le-ltb}
+use Rattle.delivery.proofs.receiving.is_low_by.Goals as goal
+
+pub returns-then-offset-lt1 : goal.returns-then-offset-lt1
+returns-then-offset-lt1 c = rw (lt-ltb _ _ c.if-offset-lt1.true)
+
+pub returns-then-offset-gt-PLACES : goal.returns-then-offset-gt-PLACES
+returns-then-offset-gt-PLACES c = rw (le-ltb _ _ c.if-offset-lt1.false, lt-ltb _ _ c.if-offset-gt-PLACES.true)
+
+pub returns : goal.returns
+returns c = rw (le-ltb _ _ c.if-offset-lt1.false, le-ltb _ _ c.if-offset-gt-PLACES.false)

@@ -1,0 +1,4 @@
+use Rattle.events.proofs.event.streams.Goals as goal
+
+pub returns : goal.returns
+returns c = rw (← c.value.ensures) c.most.ensures

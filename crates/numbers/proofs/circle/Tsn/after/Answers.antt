@@ -1,0 +1,6 @@
+use Rattle.numbers.specs.Numbering.{on}
+use Rattle.numbers.proofs.circle.Tsn.after.Goals as goal
+
+pub returns : goal.returns
+unfolding on
+returns c = cc

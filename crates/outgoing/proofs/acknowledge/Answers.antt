@@ -1,0 +1,13 @@
+use mathlib.Core.Path.{◌≡◌}
+use Prim.Native.Nat.{◌*◌, ◌≤◌}
+use native.Mathlib.Omega.{arith}
+use lib.ListN.{length}
+use Rattle.numbers.specs.Profile.{rail}
+use Rattle.path.specs.Sizes.{sizes_of}
+use Rattle.sending.specs.Acknowledge.{whole_sack}
+use Rattle.acks.specs.AcksLaws.{acked-shows}
+use borrow.Author.Rules.{rules}
+use Rattle.outgoing.proofs.acknowledge.Goals as goal
+
+pub returns : goal.returns
+returns c = let r = c.args.r in let e = c.acknowledge-a.ensures in let l : length r.places ≡ 1024 = search rules in let m : 8 * 128 ≤ length r.places = omega (arith, l) in (rw (e.0, e.1), rw (e.0, e.1) (acked-shows (sizes_of r.head.mode) rail r.head r.places r.next m (whole_sack c.args.point c.args.window c.args.blocks)))

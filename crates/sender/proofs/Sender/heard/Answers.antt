@@ -1,0 +1,5 @@
+use Rattle.sending.specs.SendingTableLaws.{heard-is}
+use Rattle.sender.proofs.Sender.heard.Goals as goal
+
+pub returns : goal.returns
+returns c = rw (c.heard-q.ensures, heard-is _)

@@ -1,0 +1,5 @@
+use Prim.Native.Nat.{◌-◌}
+use Rattle.taking.proofs.giving.copy_payload.Goals as goal
+
+pub returns : goal.returns
+returns c = rw (c.put_all.ensures, c.part-part.ensures)
