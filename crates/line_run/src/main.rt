@@ -7,8 +7,10 @@ ghost use Rattle.std.specs.Prelude.{◌≤◌, length};
 use delivery::{Sack, Verdict};
 use holding::{Answer, Chunk, Message};
 use incoming::{Incoming, Took};
-use libc::STDOUT_FILENO;
 use numbers::{Blocks, Ssn, StreamId, Tsn};
+
+// The descriptor of the standard output.
+const STANDARD_OUTPUT: i32 = 1;
 
 // How many numbers a plan has, and how many steps.
 const NUMBERS: u32 = 512;
@@ -659,7 +661,7 @@ fn fresh() -> Both {
 }
 
 fn text(s: &[u8]) {
-    io::write_all(STDOUT_FILENO, s);
+    io::write_all(STANDARD_OUTPUT, s);
 }
 
 fn said(name: &[u8], yes: bool) {
@@ -677,7 +679,7 @@ fn print_seen(seen: [bool; 32]) {
     while k < 32 {
         if seen[k] {
             text(b" ");
-            io::print_decimal(STDOUT_FILENO, k as u64);
+            io::print_decimal(STANDARD_OUTPUT, k as u64);
         }
         k += 1;
     }
@@ -712,9 +714,9 @@ fn ended(b: Both) {
 fn plan(seed: u64) {
     let b = run(seed);
     text(b"plan ");
-    io::print_decimal(STDOUT_FILENO, seed);
+    io::print_decimal(STANDARD_OUTPUT, seed);
     text(b": differences ");
-    io::print_decimal(STDOUT_FILENO, b.differ as u64);
+    io::print_decimal(STANDARD_OUTPUT, b.differ as u64);
     text(b" | 0\n");
     answered(b);
     ended(b);

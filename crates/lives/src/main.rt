@@ -10,10 +10,12 @@ mod verbs;
 
 use crate::host::{Host, LONGEST, SPACE, Said, least};
 use flat::Association;
-use libc::STDIN_FILENO;
 use octets::{get8, part, put_all};
 use pages::page::{compare, plus, say, text};
 use pages::reading::{between, find, rest};
+
+// The descriptor of the standard input.
+const STANDARD_INPUT: i32 = 0;
 
 const LINES: usize = 4000;
 
@@ -295,6 +297,6 @@ fn main() {
     let mut script = [0u8; 262144];
     let mut into = [0u8; 131072];
     let mut from = [0u8; 131072];
-    let n = io::read_full(STDIN_FILENO, &mut script);
+    let n = io::read_full(STANDARD_INPUT, &mut script);
     run(part(&script, 0, n), &mut into, &mut from);
 }

@@ -3,8 +3,10 @@ ghost use Rattle.std.specs.Prelude.{◌≡◌, [], ◌∷◌};
 ghost use Rattle.pages.specs.Reading.{astray, plus_of};
 ghost use Rattle.pages.specs.Page.{is_same, said_at, letter_of, decimal_of, named_at, byte_text, spaced_at, rows_at, packet_at, answer_at};
 
-use libc::STDOUT_FILENO;
 use octets::{get8, part};
+
+// The descriptor of the standard output.
+const STANDARD_OUTPUT: i32 = 1;
 
 // Bytes of a packet that are shown, of a longer one its first.
 const SHOWN: usize = 160;
@@ -25,7 +27,7 @@ pub fn plus(a: usize, b: usize) -> usize
 }
 
 pub fn text(s: &[u8]) {
-    io::write_all(STDOUT_FILENO, s);
+    io::write_all(STANDARD_OUTPUT, s);
 }
 
 pub fn say(should: &[u8], at: usize, s: &[u8]) -> usize

@@ -9,7 +9,6 @@ use chunks::frame::Part;
 use chunks::init::Init;
 use chunks::kind::{Handling, Kind};
 use chunks::sack::{Block, Sack};
-use libc::STDIN_FILENO;
 use numbers::{Blocks, Rail, Ssn, StreamId, Tsn};
 use octets::{get8, part, put_all};
 use pages::page::{compare, plus, same, say, say_named, say_number, say_packet, say_unread, text};
@@ -17,6 +16,9 @@ use pages::reading::{
     deed, find, first, is_heading, line_after, line_at, rest, should, spell, value16, value32, word,
 };
 use parameters::parameter::{Parameter, Step, Treatment};
+
+// The descriptor of the standard input.
+const STANDARD_INPUT: i32 = 0;
 
 const ROOM: usize = 1024;
 
@@ -456,6 +458,6 @@ fn run(script: &[u8]) {
 
 fn main() {
     let mut script = [0u8; 65536];
-    let n = io::read_full(STDIN_FILENO, &mut script);
+    let n = io::read_full(STANDARD_INPUT, &mut script);
     run(part(&script, 0, n));
 }

@@ -2,13 +2,15 @@
 // output repeats the line, with what came of it before what should, and whether they are the same.
 #![tactic(auto)]
 
-use libc::STDIN_FILENO;
 use numbers::{Distance, Judgement, Ssn, Tsn};
 use octets::part;
 use pages::page::{compare, same, say, say_named, say_number, say_packet, say_unread, text};
 use pages::reading::{
     deed, first, is_heading, line_after, line_at, rest, should, spell, value16, value32,
 };
+
+// The descriptor of the standard input.
+const STANDARD_INPUT: i32 = 0;
 
 // ---- the checksum
 
@@ -145,6 +147,6 @@ fn run(script: &[u8]) {
 
 fn main() {
     let mut script = [0u8; 65536];
-    let n = io::read_full(STDIN_FILENO, &mut script);
+    let n = io::read_full(STANDARD_INPUT, &mut script);
     run(part(&script, 0, n));
 }

@@ -2,11 +2,13 @@
 // what came of it before what should, and whether they are the same.
 #![tactic(auto)]
 
-use libc::STDIN_FILENO;
 use octets::{part, put_all, put8, put16};
 use packets::Header;
 use pages::page::{compare, same, say_answer, say_named, say_number, say_packet, say_unread, text};
 use pages::reading::{deed, first, is_heading, line_after, line_at, rest, should, spell, value16};
+
+// The descriptor of the standard input.
+const STANDARD_INPUT: i32 = 0;
 
 // size N: of a packet of so many bytes
 fn size(line: &[u8]) -> u8 {
@@ -130,6 +132,6 @@ fn run(script: &[u8]) {
 
 fn main() {
     let mut script = [0u8; 65536];
-    let n = io::read_full(STDIN_FILENO, &mut script);
+    let n = io::read_full(STANDARD_INPUT, &mut script);
     run(part(&script, 0, n));
 }

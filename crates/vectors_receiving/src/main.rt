@@ -8,13 +8,15 @@ ghost use Rattle.std.specs.Prelude.{◌≤◌};
 use delivery::{Sack, Verdict};
 use holding::{Answer, Chunk, Held, Message};
 use incoming::{Came, Incoming};
-use libc::STDIN_FILENO;
 use numbers::{Blocks, Rail, Ssn, StreamId, Tsn};
 use octets::{get8, part, put_all};
 use pages::page::{compare, same, say, say_answer, say_named, say_number, say_unread, text};
 use pages::reading::{
     deed, find, first, is_heading, line_after, line_at, rest, should, value16, value32, word,
 };
+
+// The descriptor of the standard input.
+const STANDARD_INPUT: i32 = 0;
 
 // Bytes of the area, and of a take's output.
 const AREA: usize = 65536;
@@ -349,6 +351,6 @@ fn run(script: &[u8]) {
 
 fn main() {
     let mut script = [0u8; 65536];
-    let n = io::read_full(STDIN_FILENO, &mut script);
+    let n = io::read_full(STANDARD_INPUT, &mut script);
     run(part(&script, 0, n));
 }

@@ -2,7 +2,6 @@
 // line, with what came of it before what should, and whether they are the same. 4 streams are agreed.
 #![tactic(auto)]
 
-use libc::STDIN_FILENO;
 use numbers::{Blocks, StreamId, Tsn};
 use octets::part;
 use outgoing::Outgoing;
@@ -13,6 +12,9 @@ use places::{Chunk, Place};
 use sender::Sender;
 use sending::choosing::Load;
 use tables::place;
+
+// The descriptor of the standard input.
+const STANDARD_INPUT: i32 = 0;
 
 // The sending side, and one that was put aside.
 #[derive(Clone, Copy)]
@@ -415,6 +417,6 @@ fn run(script: &[u8]) {
 
 fn main() {
     let mut script = [0u8; 65536];
-    let n = io::read_full(STDIN_FILENO, &mut script);
+    let n = io::read_full(STANDARD_INPUT, &mut script);
     run(part(&script, 0, n));
 }
