@@ -7,7 +7,7 @@ use Rattle.happening.proofs.running.run.Goals as goal
 
 pub returns-in-Packet : goal.returns-in-Packet
 unfolding table_happened
-returns-in-Packet c = left-shows _ _ _ (rw c.in-Packet.is (c.packet.ensures _)) (rw c.in-Packet.is (sized c.args.a _ c.well-formed.0, λ i. omega (arith, c.shared_slice_known-1.given i)))
+returns-in-Packet c = left-shows _ _ _ (rw c.in-Packet.is (c.packet.ensures _)) (rw c.in-Packet.is (sized c.args.a _ c.well_formed.0, λ i. omega (arith, c.shared_slice_known-1.given i)))
 
 pub returns-in-Associate : goal.returns-in-Associate
 unfolding table_happened
@@ -15,15 +15,15 @@ returns-in-Associate c = left-shows _ _ _ (rw c.in-Associate.is (c.associate.ens
 
 pub returns-in-HandIn : goal.returns-in-HandIn
 unfolding table_happened
-returns-in-HandIn c = left-shows _ _ _ (rw c.in-HandIn.is (c.hand_in.ensures _ _ c.args.cookie.now _)) (rw c.in-HandIn.is ((sized c.args.a _ c.well-formed.0).places, search (rules, c.event-in-HandIn-1.given.0), search (rules, c.event-in-HandIn-1.given.0)))
+returns-in-HandIn c = left-shows _ _ _ (rw c.in-HandIn.is (c.hand_in.ensures _ _ c.args.cookie.now _)) (rw c.in-HandIn.is ((sized c.args.a _ c.well_formed.0).places, search (rules, c.event-in-HandIn-1.given.0), search (rules, c.event-in-HandIn-1.given.0)))
 
 pub returns-in-Transmit : goal.returns-in-Transmit
 unfolding table_happened
-returns-in-Transmit c = left-shows _ _ _ (rw c.in-Transmit.is (c.transmit.ensures _ _ c.args.input.now c.args.cookie.now)) (rw c.in-Transmit.is ((sized c.args.a _ c.well-formed.0).places, (sized c.args.a _ c.well-formed.0).next_out, next-within c.args.a _ c.well-formed.0))
+returns-in-Transmit c = left-shows _ _ _ (rw c.in-Transmit.is (c.transmit.ensures _ _ c.args.input.now c.args.cookie.now)) (rw c.in-Transmit.is ((sized c.args.a _ c.well_formed.0).places, (sized c.args.a _ c.well_formed.0).next_out, next-within c.args.a _ c.well_formed.0))
 
 pub returns-in-Take : goal.returns-in-Take
 unfolding table_happened
-returns-in-Take c = left-shows _ _ _ (rw c.in-Take.is (c.take.ensures _ _ c.args.input.now c.args.cookie.now)) (rw c.in-Take.is ((sized c.args.a _ c.well-formed.0).held, (sized c.args.a _ c.well-formed.0).next))
+returns-in-Take c = left-shows _ _ _ (rw c.in-Take.is (c.take.ensures _ _ c.args.input.now c.args.cookie.now)) (rw c.in-Take.is ((sized c.args.a _ c.well_formed.0).held, (sized c.args.a _ c.well_formed.0).next))
 
 pub returns-in-Acknowledge : goal.returns-in-Acknowledge
 unfolding table_happened
@@ -39,7 +39,7 @@ returns-in-T2 c = left-shows _ _ _ (rw c.in-T2.is (c.second_timer.ensures _ _ _ 
 
 pub returns-in-T3 : goal.returns-in-T3
 unfolding table_happened
-returns-in-T3 c = left-shows _ _ _ (rw c.in-T3.is (c.third_timer.ensures _ _ _ c.args.input.now c.args.cookie.now _)) (rw c.in-T3.is (sized c.args.a _ c.well-formed.0).places)
+returns-in-T3 c = left-shows _ _ _ (rw c.in-T3.is (c.third_timer.ensures _ _ _ c.args.input.now c.args.cookie.now _)) (rw c.in-T3.is (sized c.args.a _ c.well_formed.0).places)
 
 pub returns-in-Shutdown : goal.returns-in-Shutdown
 unfolding table_happened

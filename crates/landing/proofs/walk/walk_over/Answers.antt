@@ -14,7 +14,7 @@ pub turn-after-requires : goal.turn-after-requires
 turn-after-requires c = part_room c.loop-at.scratch c.loop-at.w.used (c.loop-at.invariant.2 ∙ c.requires) c.loop-at.invariant.0
 
 pub overflow_add-at : goal.overflow_add-at
-overflow_add-at c = search (rules, c.well-formed.1.1.1.1.1.1.1.1.1.1.0.1, c.loop-at-test.true, c.size-at.ensures.1)
+overflow_add-at c = search (rules, c.well_formed.1.1.1.1.1.1.1.1.1.1.0.1, c.loop-at-test.true, c.size-at.ensures.1)
 
 pub loop-at-smaller : goal.loop-at-smaller
 loop-at-smaller c = search (rules, c.loop-at-test.true, c.size-at.ensures.1)

@@ -25,7 +25,7 @@ pub overflow_add-low : goal.overflow_add-low
 overflow_add-low c = Fits-le (bit-within c.loop-i.invariant.low c.is_low_by.result c.loop-i-test.true) (Fits-lit tt)
 
 pub loop-i-preserved-then-is_used : goal.loop-i-preserved-then-is_used
-loop-i-preserved-then-is_used c = read-used c.loop-i.invariant c.loop-i-test.true (sym c.is_used.ensures ∙ c.if-is_used.true) c.held_at-h.result c.held_at-h.ensures (low_by (ring (2 ^ 32)) rail c.args.keeping _ (search (rules, c.well-formed)) (ap (λ (h : Held). h.used) c.held_at-h.ensures ∙ (sym c.is_used.ensures ∙ c.if-is_used.true)) c.offset-offset.ensures c.flag_at-j.ensures.0 c.is_low_by.ensures) c.or_held-has.ensures c.or_clash-clash.ensures
+loop-i-preserved-then-is_used c = read-used c.loop-i.invariant c.loop-i-test.true (sym c.is_used.ensures ∙ c.if-is_used.true) c.held_at-h.result c.held_at-h.ensures (low_by (ring (2 ^ 32)) rail c.args.keeping _ (search (rules, c.well_formed)) (ap (λ (h : Held). h.used) c.held_at-h.ensures ∙ (sym c.is_used.ensures ∙ c.if-is_used.true)) c.offset-offset.ensures c.flag_at-j.ensures.0 c.is_low_by.ensures) c.or_held-has.ensures c.or_clash-clash.ensures
 
 pub loop-i-preserved : goal.loop-i-preserved
 loop-i-preserved c = look-free c.loop-i.invariant c.loop-i-test.true (sym c.is_used.ensures ∙ c.if-is_used.false) c.or_free-free-else-is_used.ensures
