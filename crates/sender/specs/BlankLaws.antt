@@ -66,7 +66,7 @@ survey-blank P ws {acked} {oldest} {i} {f} {o} {s} {t} {a} {b} (suc n) w l e =
     let z : i + 1 + n ≡ i + suc n = omega arith in
     let r : o ≡ either o (is_place_odd P (place_at P ws i)) = sym (ap (either o) (blank-even P (place_at P ws i) q.0) ∙ pick-self o) in
     subst (λ (k : ℕ). Surveying P acked oldest (places_of P ws) k f o s t a b) z
-    (survey-blank P ws n (survey-free w (omega arith) (blank-free (place_at P ws i) q.0).0 r) (omega arith) q.1)
+    (survey-blank P ws {i = i + 1} n (survey-free w (omega arith) (blank-free (place_at P ws i) q.0).0 r) (omega arith) q.1)
 
 -- eight more behind those from the first on
 pub blank-more : (P : Profile) (ws : List ℕ) (n : ℕ) → blank_for P ws 0 n ≡ true → blank_for P ws n 8 ≡ true → blank_for P ws 0 (n + 8) ≡ true

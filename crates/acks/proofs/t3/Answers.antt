@@ -4,12 +4,12 @@ use Rattle.acks.proofs.t3.Goals as goal
 
 pub returns-then-is_over : goal.returns-then-is_over
 unfolding expired_head expired_words
-returns-then-is_over c = (rw (← c.has_outstanding.ensures, c.if-has_outstanding.true, same_over _ _, ← c.is_over.ensures, c.if-is_over.true), rw (← c.has_outstanding.ensures, c.if-has_outstanding.true, same_over _ _, ← c.is_over.ensures, c.if-is_over.true))
+returns-then-is_over c = record { value = rw (← c.has_outstanding.ensures, c.if-has_outstanding.true, same_over _ _, ← c.is_over.ensures, c.if-is_over.true); t_after = rw (← c.has_outstanding.ensures, c.if-has_outstanding.true, same_over _ _, ← c.is_over.ensures, c.if-is_over.true) }
 
 pub returns-then-has_outstanding : goal.returns-then-has_outstanding
 unfolding expired_head expired_words
-returns-then-has_outstanding c = (rw (← c.has_outstanding.ensures, c.if-has_outstanding.true, same_over _ _, ← c.is_over.ensures, c.if-is_over.false, c.overdue-head.ensures.0), rw (← c.has_outstanding.ensures, c.if-has_outstanding.true, same_over _ _, ← c.is_over.ensures, c.if-is_over.false) c.overdue-head.ensures.1)
+returns-then-has_outstanding c = record { value = rw (← c.has_outstanding.ensures, c.if-has_outstanding.true, same_over _ _, ← c.is_over.ensures, c.if-is_over.false, c.overdue-head.ensures.value); t_after = rw (← c.has_outstanding.ensures, c.if-has_outstanding.true, same_over _ _, ← c.is_over.ensures, c.if-is_over.false) c.overdue-head.ensures.t_after }
 
 pub returns : goal.returns
 unfolding expired_head expired_words
-returns c = (rw (← c.has_outstanding.ensures, c.if-has_outstanding.false), rw (← c.has_outstanding.ensures, c.if-has_outstanding.false))
+returns c = record { value = rw (← c.has_outstanding.ensures, c.if-has_outstanding.false); t_after = rw (← c.has_outstanding.ensures, c.if-has_outstanding.false) }

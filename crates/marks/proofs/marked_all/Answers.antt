@@ -16,4 +16,4 @@ pub loop-i-preserved : goal.loop-i-preserved
 loop-i-preserved c = let w = c.loop-i.invariant in let h = c.loop-i-test.true in let e = c.place_at-p.ensures in let q = c.marked-q.ensures in (state-more w.0 h refl (q ∙ ap marked_for_resend e) c.put_state.ensures, sum_more w.1 vacant _ h (c.flight-flight.ensures.0 ∙ ap flight_of (q ∙ ap marked_for_resend (e ∙ state-next w.0 h))) c.flight-flight.ensures.1)
 
 pub returns : goal.returns
-returns c = (sum-end c.loop-i.invariant.1 c.loop-i-test.false ∙ total-over marked_for_resend flight_of (places_of rail c.args.t.now), state-end c.loop-i.invariant.0 c.loop-i-test.false)
+returns c = record { value = sum-end c.loop-i.invariant.1 c.loop-i-test.false ∙ total-over marked_for_resend flight_of (places_of rail c.args.t.now); t_after = state-end c.loop-i.invariant.0 c.loop-i-test.false }

@@ -29,4 +29,4 @@ pub loop-i-preserved : goal.loop-i-preserved
 loop-i-preserved c = let w = c.loop-i.invariant in let h = c.loop-i-test.true in let e = c.place_at-p.ensures in let f = e ∙ state-next w.0 h in let q = sym (unmissed c.args.from c.args.limit c.place_at-p.result (sym c.gets.ensures ∙ c.if-gets.false)) in let r = q ∙ ap (missed c.args.from c.args.limit) f in (state-more w.0 h (ap (λ (s : ℕ). eqb s 0) (sym c.status_at.ensures) ∙ ne_eqb _ _ c.if-status_at-eq-FREE.false) (q ∙ ap (missed c.args.from c.args.limit) e) c.put_state-else-gets.ensures, ask-skip w.1 vacant h (ap (reaches_three c.args.from c.args.limit) (sym f) ∙ unreached c.args.from c.args.limit _ (sym c.gets.ensures ∙ c.if-gets.false)), sum_more w.2 vacant _ h (c.flight-flight-else-gets.ensures.0 ∙ ap flight_of r) c.flight-flight-else-gets.ensures.1, ask-more w.3 vacant _ h (c.either-left-else-gets.ensures ∙ ap (λ (b : Bool). either c.loop-i.left b) (c.is_outstanding-else-gets.ensures ∙ ap is_outstanding r)), top-more w.4 vacant _ h (c.greater-last-else-gets.ensures ∙ ap (λ (n : ℕ). larger c.loop-i.last n) (c.last-else-gets.ensures ∙ ap (outstanding_offset c.args.from) r)))
 
 pub returns : goal.returns
-returns c = let w = c.loop-i.invariant in let d = c.loop-i-test.false in (missing-by _ _ _ (ask-end w.1 d) (sum-end w.2 d) (ask-end w.3 d) (top-end w.4 d), state-end w.0 d)
+returns c = let w = c.loop-i.invariant in let d = c.loop-i-test.false in record { value = missing-by _ _ _ (ask-end w.1 d) (sum-end w.2 d) (ask-end w.3 d) (top-end w.4 d); t_after = state-end w.0 d }

@@ -31,4 +31,4 @@ pub loop-i-preserved : goal.loop-i-preserved
 loop-i-preserved c = let w = c.loop-i.invariant in let h = c.loop-i-test.true in let e = c.place_at-p.ensures in let f = e ∙ state-next w.0 h in let s = c.settled-q.ensures in (state-more w.0 h (ap (λ (s : ℕ). eqb s 0) (sym c.status_at.ensures) ∙ ne_eqb _ _ c.if-status_at-eq-FREE.false) (s ∙ ap (place_settled c.args.k) e) c.put_state-else-q-p.ensures, sum_more w.1 vacant _ h (rw f at (rw s at c.newly_bytes-newly.ensures.0)) c.newly_bytes-newly.ensures.1, top-more w.2 vacant _ h (rw f at (rw (c.newly_offset.ensures, s) at c.greater-highest.ensures)))
 
 pub returns : goal.returns
-returns c = let w = c.loop-i.invariant in let d = c.loop-i-test.false in ((sum-end w.1 d ∙ sym (taken-newly _ _ _), top-end w.2 d ∙ sym (taken-highest _ _ _)), state-end w.0 d)
+returns c = let w = c.loop-i.invariant in let d = c.loop-i-test.false in record { newly_after = (sum-end w.1 d ∙ sym (taken-newly _ _ _), top-end w.2 d ∙ sym (taken-highest _ _ _)); t_after = state-end w.0 d }

@@ -30,4 +30,4 @@ pub shape_of-area : goal.shape_of-area
 shape_of-area c = c.loop-i.invariant.2
 
 pub returns : goal.returns
-returns c = (lay-end c.loop-i.invariant.0 c.loop-i-test.false, by-law (stored_is _ _ _ _ _) (ap (λ (s : Storing). s.area) (fold_end c.loop-i.invariant.1 c.loop-i-test.false)))
+returns c = record { t_after = lay-end c.loop-i.invariant.0 c.loop-i-test.false; area_after = by-law (stored_is _ _ _ _ _) (ap (λ (s : Storing). s.area) (fold_end c.loop-i.invariant.1 c.loop-i-test.false)) }
