@@ -5,7 +5,7 @@
 use Rattle.std.specs.Prelude.{◌≡◌, refl, ℕ, suc, [], ◌∷◌, List, ◌++◌, map, T as Tᵇ}
 use Rattle.std.proofs.Common.{ap, sym, subst}
 use seplogic.Ra.Ura.{Ura}
-use seplogic.Ra.TreeShare.{full_share}
+use base.Fraction.{full_share}
 use mir.Syntax as S
 use mir.Syntax.{named}
 use mir.Raw.{raw as raw_ty}
@@ -87,10 +87,12 @@ module _ {T R O : RattleType} {t : Valued T} {r : Valued R} (o : Outcome t r O) 
     abbrev storing : S.Body
     storing = S.seq (S.assign lent-record (S.rv_opd (S.copy (S.place at-o (S.field 1 ∷ []))))) (S.seq (S.assign (S.place 0 []) (S.rv_opd (S.copy (S.place at-o (S.field 0 ∷ []))))) S.return)
 
-    abbrev pub lent_code : ℕ → S.Name → S.Fn
+    abbrev pub lent_code : ℕ → S.Callee → S.Fn
     lent_code n key = record {
       lifetimes = n;
       outlives = [];
+      ty_params = [];
+      givens = 0;
       params = past (handed_types ks) 1;
       locals = map here locals;
       body = S.seq (S.assign (S.place (suc at-o) []) (S.rv_opd (S.copy lent-record)))
@@ -176,7 +178,7 @@ module _ {T R O : RattleType} {t : Valued T} {r : Valued R} (o : Outcome t r O) 
         Reached Owns = fsep ((MutRef (named 0) κ T).own_val (record { ref_ptr = (b, d); ghost_name = γ; now = h }) (vptr b d ∷ [])) Owns
 
         -- from the entry on: where `step` leaves what it must, so does the function
-        pub lent-walk : (Owns : Fml) → MachsFit ks ms → FmC 𝓤 H 𝓛.laws C → (n : ℕ) (key : S.Name) → ent 𝓤 (sep 𝓤 Tok (sem 𝓛 (Passed Owns))) (C key (t.val h ∷ vals_of ks ms) Left)
+        pub lent-walk : (Owns : Fml) → MachsFit ks ms → FmC 𝓤 H 𝓛.laws C → (n : ℕ) (key : S.Callee) → ent 𝓤 (sep 𝓤 Tok (sem 𝓛 (Passed Owns))) (C key (t.val h ∷ vals_of ks ms) Left)
             → ent 𝓤 (sep 𝓤 (sep 𝓤 (A.lft κ q) Tok) (sem 𝓛 (Reached Owns))) (WpFn 𝓤 H C Λ (lent_code ks n key) (vptr b d ∷ vals_of ks ms) (Leaves γ κ q))
         lent-walk Owns fits fm n key met =
             qed 𝓛 ((‵ (flft κ q) ⊛ raw Tok) ∷ ‵ (Reached Owns) ∷ []) ∵ enter ! C Λ (lent_code ks n key) (vptr b d ∷ vals_of ks ms) _ $ allocated (locals ks) (λ bs.

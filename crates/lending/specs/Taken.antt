@@ -7,7 +7,7 @@ use Rattle.std.proofs.Common.{ap, sym, subst}
 use Prim.Native.Nat.{ℕ, zero, suc}
 use mathlib.Core.List.{[], ◌∷◌, List, ◌++◌, map}
 use seplogic.Ra.Ura.{Ura}
-use seplogic.Ra.TreeShare.{full_share}
+use base.Fraction.{full_share}
 use mir.Syntax as S
 use mir.Syntax.{named}
 use mir.Raw.{raw as raw_ty}
@@ -95,10 +95,12 @@ module _ {T R O : RattleType} {t : Valued T} {r : Valued R} (o : Outcome t r O) 
     abbrev joining : S.Body
     joining = S.seq (S.assign (S.place at_x []) (S.rv_opd (S.copy (S.place at-m [])))) (S.seq (S.assign (S.place 0 []) (S.aggregate (S.copy (S.place (suc at-m) []) ∷ S.copy (S.place at_x []) ∷ []))) S.return)
 
-    abbrev pub taking_fn : ℕ → S.Name → S.Fn
+    abbrev pub taking_fn : ℕ → S.Callee → S.Fn
     taking_fn n key = record {
       lifetimes = n;
       outlives = [];
+      ty_params = [];
+      givens = 0;
       params = past (handed_types ks) 1;
       locals = map here (out-ty ∷ t.ty ∷ handed_types ks) ++ (S.local t.ty S.memory_slot ∷ map here lasting);
       body = S.seq (S.assign (S.place at-m []) (S.rv_opd (S.copy (S.place 1 [])))) (S.seq (S.assign (S.place (suc (suc at-m)) []) (S.addr_of (S.place at-m [])))
@@ -193,7 +195,7 @@ module _ {T R O : RattleType} {t : Valued T} {r : Valued R} (o : Outcome t r O) 
       abbrev Reached : ℕ → GName → ℕ → T.Denot → Fml → Fml
       Reached α γ b h Owns = fsep ((MutRef (named 0) (α ∷ []) T).own_val (record { ref_ptr = (b, zero); ghost_name = γ; now = h }) (vptr b zero ∷ [])) Owns
 
-      pub takes-lent : (h : T.Denot) (Owns : Fml) → MachsFit ks ms → FmC 𝓤 H 𝓛.laws C → (n : ℕ) (key : S.Name)
+      pub takes-lent : (h : T.Denot) (Owns : Fml) → MachsFit ks ms → FmC 𝓤 H 𝓛.laws C → (n : ℕ) (key : S.Callee)
           → ((α : ℕ) (γ : GName) (b : ℕ) → ent 𝓤 (sep 𝓤 (sep 𝓤 (A.lft (α ∷ []) full_share) Tok) (sem 𝓛 (Reached α γ b h Owns))) (C key (vptr b zero ∷ vals_of ks ms) (Leaves o 𝓛 Tok Z Lasts Q γ (α ∷ []) full_share)))
           → ent 𝓤 (sep 𝓤 Tok (sem 𝓛 (fsep (T.own_val h (t.val h ∷ [])) Owns))) (WpFn 𝓤 H C Λ (taking_fn ks n key) (t.val h ∷ vals_of ks ms) (Left o 𝓛 Tok Z Lasts Q))
       takes-lent h Owns fits fm n key met =
@@ -217,7 +219,7 @@ module _ {T R O : RattleType} {t : Valued T} {r : Valued R} (o : Outcome t r O) 
 
 -- ---- the same by a signature: where `f`, at the key, meets its contract over a reference, at whatever lifetime and name it is lent
 module _ {T R O : RattleType} {t : Valued T} {r : Valued R} (o : Outcome t r O) (j : Joins o) {n : ℕ} (ss : List (Slot n)) (ps : SlotsPass ss)
-    {M : Type 1} {𝓤 : Ura M} (𝓛 : Logic 𝓤) (C : Calls 𝓤 𝓛.H) (Λ : Loops 𝓤 𝓛.H) (fm : FmC 𝓤 𝓛.H 𝓛.laws C) (key : S.Name) where
+    {M : Type 1} {𝓤 : Ura M} (𝓛 : Logic 𝓤) (C : Calls 𝓤 𝓛.H) (Λ : Loops 𝓤 𝓛.H) (fm : FmC 𝓤 𝓛.H 𝓛.laws C) (key : S.Callee) where
   open 𝓛 use {H, A}
 
   abbrev signature : Signature
