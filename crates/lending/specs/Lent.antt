@@ -34,7 +34,7 @@ use denote.Triple.Clauses.{Ended, AtExit, closing}
 use denote.Triple.Spec.{Spec, Meets, triple_of}
 use denote.Triple.Table.{entered}
 use Rattle.lending.specs.Params.{ParamKind, copied, relent, reref, Mach, val_of, MachFits, Machs, vals_of, MachsFit}
-use Rattle.lending.specs.LentWalk.{Valued, Outcome, two_ty, two_val, val-fits, lent_code, Left, Leaves, lent-walk}
+use Rattle.lending.specs.LentWalk.{Valued, Outcome, two_ty, two_val, val-fits, lent_code, Left, LeavesClosed, lent-walk-closed}
 
 -- ---- the types
 abbrev pub uint : (w : S.Width) → Valued (UInt w)
@@ -208,7 +208,7 @@ module _ {T R O : RattleType} {t : Valued T} {r : Valued R} (o : Outcome t r O) 
 
     -- what the function leaves
     abbrev Done : Val → SProp 𝓤
-    Done = Leaves o 𝓛 Tokens (Fins κs ss ls a.1) (lasts_of κs ss ls a.1) Said a.0.ghost_name κs.0 qs.0
+    Done = LeavesClosed o 𝓛 Tokens (Fins κs ss ls a.1) (lasts_of κs ss ls a.1) Said a.0.ref_ptr.0 a.0.ref_ptr.1 a.0.ghost_name κs.0 qs.0
 
   -- a run of `step` meets by value what the function is to meet
   abbrev pub Steps : Fun 𝓤 → Type 1
@@ -228,7 +228,7 @@ module _ {T R O : RattleType} {t : Valued T} {r : Valued R} (o : Outcome t r O) 
     walk_at κs qs a are =
         let P : SProp 𝓤 = Brought κs qs a (spelt-out κs a) in
         subst (λ (us : List Val). ent 𝓤 (on_entry 𝓛 (signature T R ss) κs qs a (mut_vals a.0, spelt-out κs a)) (runs-code (mut_vals a.0 ++ us) (Done κs qs a))) (all-flat κs ss ps a.1)
-        (lent-walk o 𝓛 (Tokens κs qs a) (Fins κs ss ls a.1) (lasts_of κs ss ls a.1) (Said κs qs a) κs.0 qs.0 a.0.ref_ptr.0 a.0.ref_ptr.1 a.0.ghost_name (slot_kinds ss ps) (machs κs ss ps a.1) a.0.now C Λ
+        (lent-walk-closed o 𝓛 (Tokens κs qs a) (Fins κs ss ls a.1) (lasts_of κs ss ls a.1) (Said κs qs a) κs.0 qs.0 a.0.ref_ptr.0 a.0.ref_ptr.1 a.0.ghost_name (slot_kinds ss ps) (machs κs ss ps a.1) a.0.now C Λ
         (owns (types_at ss κs) a.1 (spelt-out κs a)) (all_fit κs 𝓛 ss ps a.1 are) fm (suc n) key
         (subst (λ (us : List Val). ent 𝓤 P (C key (t.val a.0.now ∷ us) (Stepped κs qs a))) (sym (all-flat κs ss ps a.1))
         (via 𝓤 (sep 𝓤 P (emp 𝓤)) (via 𝓤 (sep 𝓤 (emp 𝓤) P) (emp∗ 𝓤 P) (comm∗ 𝓤 (emp 𝓤) P)) (steps κs qs a (spelt-out κs a)))))

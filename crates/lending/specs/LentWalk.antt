@@ -14,7 +14,7 @@ use base.Logic.{SProp, ent, sep, ex, id⊢}
 use base.Fml.{GName, Lft, Share, Fml, ftrue, fsep, flft, fobs, fauth, fres, fbor, fobor, fat, froom, fdies}
 use prog.Wp.{Heap, Calls, Loops, WpFn}
 use types.Logic.{Logic, sem}
-use types.Kit.{Sq, Item, prop, lands, at_ret, ‵, raw, ◌⊛◌, some, later, ◌$◌, ◌∵◌, !, qed, move, keep, use1, split, join, pick, rewrite, fsplit, fsplit3, fjoin, drop, frame, show, updating, now, await, done}
+use types.Kit.{Sq, Item, prop, lands, at_ret, ‵, raw, ◌⊛◌, some, later, ◌$◌, ◌∵◌, !, qed, move, keep, use1, split, join, pick, rewrite, fsplit, fsplit3, fjoin, drop, frame, show, suffices, updating, now, await, done}
 use types.Run.{look, look_raw, init, store_raw, forget, stop, hop, fld, load, of_opd, and_then, assigns, land, returns, enter, params1, pass1}
 use types.Part.{whole, sub, look_in}
 use types.SemTy.{Body}
@@ -132,14 +132,32 @@ module _ {T R O : RattleType} {t : Valued T} {r : Valued R} (o : Outcome t r O) 
     abbrev pub Leaves : GName → Lft → Share → Val → SProp 𝓤
     Leaves γ κ q v = H.⇛ (ex 𝓤 (LentAnswers γ κ q v))
 
+    -- the same, and the record's borrow at (b, d) is handed back, closed: what a contract says of a `&mut` at exit
+    module _ (b d : ℕ) where
+      abbrev pub EndsClosed : GName → Lft → R.Denot → SProp 𝓤
+      EndsClosed γ κ y = ex 𝓤 (λ (ws : T.Denot × Z). sep 𝓤 (sem 𝓛 (fsep (fsep (fres γ (T.coded.code ws.0)) (fbor κ (Body (mem T) b d γ))) (Lasts ws.1))) (Q y ws.0 ws.1))
+
+      abbrev pub AnswersClosed : GName → Lft → Share → Val → R.Denot → SProp 𝓤
+      AnswersClosed γ κ q v y = sep 𝓤 (sep 𝓤 (sep 𝓤 (A.lft κ q) Tok) (sem 𝓛 (R.own_val y (v ∷ [])))) (EndsClosed γ κ y)
+
+      abbrev pub LeavesClosed : GName → Lft → Share → Val → SProp 𝓤
+      LeavesClosed γ κ q v = H.⇛ (ex 𝓤 (AnswersClosed γ κ q v))
+
+      pub closed-leaves : (γ : GName) (κ : Lft) (q : Share) (v : Val) → ent 𝓤 (LeavesClosed γ κ q v) (Leaves γ κ q v)
+      closed-leaves γ κ q v =
+          qed 𝓛 (raw (LeavesClosed γ κ q v) ∷ []) ∵ updating ! $
+          use1 𝓛 (later (some (λ (y : R.Denot). raw (sep 𝓤 (sep 𝓤 (A.lft κ q) Tok) (sem 𝓛 (R.own_val y (v ∷ [])))) ⊛ some (λ (ws : T.Denot × Z). ‵ (fsep (fsep (fres γ (T.coded.code ws.0)) (fbor κ (Body (mem T) b d γ))) (Lasts ws.1)) ⊛ raw (Q y ws.0 ws.1))))) (id⊢ 𝓤 _) $
+          await ! tt $ pick ! (λ y. split ! $ move ! (1 ∷ []) $ pick ! (λ ws. split ! $ fsplit ! $ fsplit ! $ move ! (1 ∷ []) $ drop ! $ fjoin ! $ now ! $ show ! (LentAnswers γ κ q v) y $ move ! (2 ∷ []) $ frame ! $
+          show ! (λ (zs : T.Denot × Z). sep 𝓤 (sem 𝓛 (fsep (fres γ (T.coded.code zs.0)) (Lasts zs.1))) (Q y zs.0 zs.1)) ws $ frame ! $ done !))
+
     module _ (κ : Lft) (q : Share) (b d : ℕ) (γ : GName) where
-      -- the borrow is closed: its last value is settled, and all is handed back
+      -- the borrow is closed: its last value is settled, and all is handed back, the borrow too
       exits : (x : O.Denot) (z : Z) → Is R (o.told x) (r.val (o.told x) ∷ [])
-          → Sq 𝓛 (‵ (fobs γ (T.coded.code (o.kept x))) ∷ ‵ (fbor κ (Body (mem T) b d γ)) ∷ ‵ (flft κ q) ∷ raw Tok ∷ ‵ (Lasts z) ∷ raw (Q (o.told x) (o.kept x) z) ∷ []) (prop (Leaves γ κ q (r.val (o.told x))))
+          → Sq 𝓛 (‵ (fobs γ (T.coded.code (o.kept x))) ∷ ‵ (fbor κ (Body (mem T) b d γ)) ∷ ‵ (flft κ q) ∷ raw Tok ∷ ‵ (Lasts z) ∷ raw (Q (o.told x) (o.kept x) z) ∷ []) (prop (LeavesClosed b d γ κ q (r.val (o.told x))))
       exits x z is =
-          updating ! $ now ! $ use1 𝓛 (‵ (fres γ (T.coded.code (o.kept x)))) (𝓛.names.obs-res γ (T.coded.code (o.kept x))) $ show ! (LentAnswers γ κ q (r.val (o.told x))) (o.told x) $
+          updating ! $ now ! $ use1 𝓛 (‵ (fres γ (T.coded.code (o.kept x)))) (𝓛.names.obs-res γ (T.coded.code (o.kept x))) $ show ! (AnswersClosed b d γ κ q (r.val (o.told x))) (o.told x) $
           owned ! R (Is R) (r.makes 𝓛) (o.told x) (r.val (o.told x) ∷ []) is $ move ! (3 ∷ 4 ∷ []) $ join ! $ move ! (0 ∷ 1 ∷ []) $ join ! $ frame ! $
-          show ! (λ (ws : T.Denot × Z). sep 𝓤 (sem 𝓛 (fsep (fres γ (T.coded.code ws.0)) (Lasts ws.1))) (Q (o.told x) ws.0 ws.1)) (o.kept x, z) $ move ! (0 ∷ 2 ∷ []) $ fjoin ! $ frame ! $ keep ! (1 ∷ []) $ done !
+          show ! (λ (ws : T.Denot × Z). sep 𝓤 (sem 𝓛 (fsep (fsep (fres γ (T.coded.code ws.0)) (fbor κ (Body (mem T) b d γ))) (Lasts ws.1))) (Q (o.told x) ws.0 ws.1)) (o.kept x, z) $ fjoin ! $ fjoin ! $ frame ! $ done !
 
       module _ (ks : List ParamKind) (ms : Machs ks) (h : T.Denot) (C : Calls 𝓤 H) (Λ : Loops 𝓤 H) where
         -- what stands while `step` runs: the parameters, the slices that are lent again, the record behind its open borrow, the copy, room for the outcome, the reference, and room for the answer
@@ -149,9 +167,10 @@ module _ {T R O : RattleType} {t : Valued T} {r : Valued R} (o : Outcome t r O) 
             ∷ ‵ (fat full_share t.ty (rest ks bs).1.0 0 (t.val h)) ∷ ‵ (fdies t.ty (rest ks bs).1.0) ∷ (‵ (froom out-ty (rest ks bs).0 0) ⊛ ‵ (fdies out-ty (rest ks bs).0))
             ∷ ‵ (fat full_share (S.ty_ref (named 0) S.mut (pointee T.written)) bs.1.0 0 (vptr b d)) ∷ ‵ (fdies (S.ty_ref (named 0) S.mut (pointee T.written)) bs.1.0) ∷ (‵ (froom r.ty bs.0 0) ⊛ ‵ (fdies r.ty bs.0)) ∷ []
 
-        -- from the return of `step` at the machine value w on
-        landed : (bs : CellBlocks (locals ks)) (w : Val) → Sq 𝓛 (raw (Left w) ∷ Waiting bs) (lands C Λ (env_of (locals ks) bs) (S.place (at-o ks) []) w (storing ks) (at_ret (env_of (locals ks) bs) (Leaves γ κ q)))
-        landed bs w =
+        -- from the return of `step` at the machine value w on, to what follows from all that is handed back
+        landed : (K : Val → SProp 𝓤) → ((v : Val) → ent 𝓤 (LeavesClosed b d γ κ q v) (K v)) → (bs : CellBlocks (locals ks)) (w : Val)
+            → Sq 𝓛 (raw (Left w) ∷ Waiting bs) (lands C Λ (env_of (locals ks) bs) (S.place (at-o ks) []) w (storing ks) (at_ret (env_of (locals ks) bs) K))
+        landed K from-closed bs w =
             let at_rest = far ks 𝓤 H bs in
             use1 𝓛 (later (some (λ (x : O.Denot). (raw Tok ⊛ ‵ (O.own_val x (w ∷ []))) ⊛ some (λ (zs : Unit {0} × Z). ‵ (fsep ftrue (Lasts zs.1)) ⊛ raw (Q (o.told x) (o.kept x) zs.1))))) (id⊢ 𝓤 _) $ await ! tt $ pick ! (λ x.
             split ! $ move ! (1 ∷ []) $ pick ! (λ zs. split ! $ fsplit ! $ drop ! $ move ! (2 ∷ []) $ split ! $ move ! (1 ∷ []) $ peeks ! O (Is O) (shows 𝓛 O) x (w ∷ []) (λ is.
@@ -167,7 +186,7 @@ module _ {T R O : RattleType} {t : Valued T} {r : Valued R} (o : Outcome t r O) 
             rewrite ! 0 (λ (τs : List S.Ty). ‵ (cell_at full_share τs (t.val (o.kept x) ∷ []) b d)) (sym t.mir) refl $ closes ! tt T (o.kept x) (t.val (o.kept x) ∷ []) b d $
             returns ! (look ! 3 refl) $ forget ! 3 refl $ forget ! 5 refl $ forget ! 12 refl $ forget ! 14 refl $ move ! (11 ∷ []) $ relent-room ks _ ms (
             move ! (12 ∷ 13 ∷ 0 ∷ []) $ join ! $ join ! $ move ! (6 ∷ 7 ∷ 0 ∷ []) $ join ! $ join ! $ move ! (9 ∷ 0 ∷ []) $ held-room ks (behind ks) bs.1.1 ms (
-            move ! (9 ∷ 10 ∷ 0 ∷ []) $ join ! $ join ! $ move ! (4 ∷ 5 ∷ 0 ∷ []) $ join ! $ join ! $ freed (locals ks) bs (exits x zs.1 is-told))))))
+            move ! (9 ∷ 10 ∷ 0 ∷ []) $ join ! $ join ! $ move ! (4 ∷ 5 ∷ 0 ∷ []) $ join ! $ join ! $ freed (locals ks) bs (suffices ! (LeavesClosed b d γ κ q (r.val (o.told x))) (from-closed (r.val (o.told x))) $ exits x zs.1 is-told))))))
 
         -- what `step` is passed, beside what the other parameters own: the record
         abbrev Passed : Fml → Fml
@@ -177,10 +196,10 @@ module _ {T R O : RattleType} {t : Valued T} {r : Valued R} (o : Outcome t r O) 
         abbrev Reached : Fml → Fml
         Reached Owns = fsep ((MutRef (named 0) κ T).own_val (record { ref_ptr = (b, d); ghost_name = γ; now = h }) (vptr b d ∷ [])) Owns
 
-        -- from the entry on: where `step` leaves what it must, so does the function
-        pub lent-walk : (Owns : Fml) → MachsFit ks ms → FmC 𝓤 H 𝓛.laws C → (n : ℕ) (key : S.Callee) → ent 𝓤 (sep 𝓤 Tok (sem 𝓛 (Passed Owns))) (C key (t.val h ∷ vals_of ks ms) Left)
-            → ent 𝓤 (sep 𝓤 (sep 𝓤 (A.lft κ q) Tok) (sem 𝓛 (Reached Owns))) (WpFn 𝓤 H C Λ (lent_code ks n key) (vptr b d ∷ vals_of ks ms) (Leaves γ κ q))
-        lent-walk Owns fits fm n key met =
+        -- from the entry on
+        walk-to : (K : Val → SProp 𝓤) → ((v : Val) → ent 𝓤 (LeavesClosed b d γ κ q v) (K v)) → (Owns : Fml) → MachsFit ks ms → FmC 𝓤 H 𝓛.laws C → (n : ℕ) (key : S.Callee) → ent 𝓤 (sep 𝓤 Tok (sem 𝓛 (Passed Owns))) (C key (t.val h ∷ vals_of ks ms) Left)
+            → ent 𝓤 (sep 𝓤 (sep 𝓤 (A.lft κ q) Tok) (sem 𝓛 (Reached Owns))) (WpFn 𝓤 H C Λ (lent_code ks n key) (vptr b d ∷ vals_of ks ms) K)
+        walk-to K from-closed Owns fits fm n key met =
             qed 𝓛 ((‵ (flft κ q) ⊛ raw Tok) ∷ ‵ (Reached Owns) ∷ []) ∵ enter ! C Λ (lent_code ks n key) (vptr b d ∷ vals_of ks ms) _ $ allocated (locals ks) (λ bs.
             let E : List (S.Ty × ℕ) = env_of (locals ks) bs in
             let at-those = near ks 𝓤 H bs in
@@ -192,4 +211,14 @@ module _ {T R O : RattleType} {t : Valued T} {r : Valued R} (o : Outcome t r O) 
             assigns ! (of_opd ! (load ! (from_at refl (hop ! (look ! 12 refl) (stop !))) (look_raw ! 0 {τ = t.ty} refl))) (from_at at_rest.1.0 (stop !)) (init ! 7 refl (val-fits 𝓛 t h is)) $
             move ! (11 ∷ 9 ∷ []) $ lent_again E ks 2 (suc (suc (at-o ks))) (those ks bs) (rest ks bs).1.1 ms at-those at_rest.1.1 fits (
             move ! (3 ∷ 8 ∷ []) $ fjoin ! $ move ! (7 ∷ 0 ∷ []) $ join ! $ calls_from ! fm (raw Tok ⊛ ‵ (Passed Owns)) (t.val h ∷ vals_of ks ms) Left met
-            (and_then ! (load ! (from_at at_rest.1.0 (stop !)) (look ! 7 refl)) (operands-behind (operands-read E ks 2 (suc (suc (at-o ks))) (those ks bs) (rest ks bs).1.1 ms at-those at_rest.1.1 _))) (landed bs))))))
+            (and_then ! (load ! (from_at at_rest.1.0 (stop !)) (look ! 7 refl)) (operands-behind (operands-read E ks 2 (suc (suc (at-o ks))) (those ks bs) (rest ks bs).1.1 ms at-those at_rest.1.1 _))) (landed K from-closed bs))))))
+
+        -- where `step` leaves what it must, so does the function
+        pub lent-walk : (Owns : Fml) → MachsFit ks ms → FmC 𝓤 H 𝓛.laws C → (n : ℕ) (key : S.Callee) → ent 𝓤 (sep 𝓤 Tok (sem 𝓛 (Passed Owns))) (C key (t.val h ∷ vals_of ks ms) Left)
+            → ent 𝓤 (sep 𝓤 (sep 𝓤 (A.lft κ q) Tok) (sem 𝓛 (Reached Owns))) (WpFn 𝓤 H C Λ (lent_code ks n key) (vptr b d ∷ vals_of ks ms) (Leaves γ κ q))
+        lent-walk = walk-to (Leaves γ κ q) (closed-leaves b d γ κ q)
+
+        -- and it hands the borrow back
+        pub lent-walk-closed : (Owns : Fml) → MachsFit ks ms → FmC 𝓤 H 𝓛.laws C → (n : ℕ) (key : S.Callee) → ent 𝓤 (sep 𝓤 Tok (sem 𝓛 (Passed Owns))) (C key (t.val h ∷ vals_of ks ms) Left)
+            → ent 𝓤 (sep 𝓤 (sep 𝓤 (A.lft κ q) Tok) (sem 𝓛 (Reached Owns))) (WpFn 𝓤 H C Λ (lent_code ks n key) (vptr b d ∷ vals_of ks ms) (LeavesClosed b d γ κ q))
+        lent-walk-closed = walk-to (LeavesClosed b d γ κ q) (λ v. id⊢ 𝓤 (LeavesClosed b d γ κ q v))
