@@ -21,7 +21,7 @@ use types.Tokens.{lft_new, lft_end}
 use types.Run.{look, init, forget, stop, load, addr, of_opd, and_then, no_more, assigns, land, returns, enter, params1, pass1, alloc1}
 use types.Part.{agg}
 use types.SemTy.{Body}
-use sound.WpLaws.{FmC}
+use sound.WpLaws.{FmC, fm→mono_c}
 use contract.Lifetimes.{Lfts, Shares, toks}
 use denote.RattleType.{RattleType, Valss, flat, owns}
 use denote.Laws.{Is, Makes, shows, valss}
@@ -34,7 +34,7 @@ use denote.Signature.{Slot, Signature, plain, types_at}
 use denote.Triple.Entry.{Args, on_entry}
 use denote.Triple.Call.{calls_from}
 use Rattle.lending.specs.Params.{ParamKind, Machs, vals_of, MachsFit, handed_types, lents, here, past, lend_again, operands, CellBlocks, front_blocks, back, env_of, At, at_all, at_front, at_back, Rooms, ParamsHeld, Relent, from_at, allocated, freed, stored, lent_again, operands-read, operands-behind, held-room, relent-room}
-use Rattle.lending.specs.LentWalk.{Valued, Outcome, two_ty, two_val, fits_in, val-fits, Left, Leaves}
+use Rattle.lending.specs.LentWalk.{Valued, Outcome, two_ty, two_val, fits_in, val-fits, Left, Leaves, LeavesClosed, closed-leaves}
 use Rattle.lending.specs.Lent.{SlotsPass, slot_kinds, machs, spells, all_told, all_fit, all-flat}
 
 -- an outcome is made of an answer and a record
@@ -234,6 +234,17 @@ module _ {T R O : RattleType} {t : Valued T} {r : Valued R} (o : Outcome t r O) 
     Known = (α : ℕ) (γ : GName) (b : ℕ) (vss : Valss (types_at ss κs))
         → ent 𝓤 (sep 𝓤 (sep 𝓤 (A.lft (α ∷ []) full_share) Tokens) (sem 𝓛 (fsep ((MutRef (named 0) (α ∷ []) T).own_val (record { ref_ptr = (b, zero); ghost_name = γ; now = a.0 }) (vptr b zero ∷ [])) (owns (types_at ss κs) a.1 vss))))
         (C key (vptr b zero ∷ flat (types_at ss κs) vss) (Leaves o 𝓛 Tokens Z Lasts Q γ (α ∷ []) full_share))
+
+    -- `f` hands the borrow back too, closed, as its contract says
+    abbrev pub KnownClosed : Type 1
+    KnownClosed = (α : ℕ) (γ : GName) (b : ℕ) (vss : Valss (types_at ss κs))
+        → ent 𝓤 (sep 𝓤 (sep 𝓤 (A.lft (α ∷ []) full_share) Tokens) (sem 𝓛 (fsep ((MutRef (named 0) (α ∷ []) T).own_val (record { ref_ptr = (b, zero); ghost_name = γ; now = a.0 }) (vptr b zero ∷ [])) (owns (types_at ss κs) a.1 vss))))
+        (C key (vptr b zero ∷ flat (types_at ss κs) vss) (LeavesClosed o 𝓛 Tokens Z Lasts Q b zero γ (α ∷ []) full_share))
+
+    pub known : KnownClosed → Known
+    known h α γ b vss =
+        via 𝓤 (C key (vptr b zero ∷ flat (types_at ss κs) vss) (LeavesClosed o 𝓛 Tokens Z Lasts Q b zero γ (α ∷ []) full_share)) (h α γ b vss)
+        (fm→mono_c 𝓤 H 𝓛.laws C fm key (vptr b zero ∷ flat (types_at ss κs) vss) _ _ (closed-leaves o 𝓛 Tokens Z Lasts Q b zero γ (α ∷ []) full_share))
 
     pub taken_at : (vss : Valss (types_at signature.params κs)) → Known
         → ent 𝓤 (sep 𝓤 (on_entry 𝓛 signature κs qs a vss) (emp 𝓤)) (WpFn 𝓤 H C Λ (taking_fn o j (slot_kinds ss ps) n key) (flat (types_at signature.params κs) vss) (Left o 𝓛 Tokens Z Lasts Q))
