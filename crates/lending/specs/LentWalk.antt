@@ -14,7 +14,7 @@ use base.Logic.{SProp, ent, sep, ex, id⊢}
 use base.Fml.{GName, Lft, Share, Fml, ftrue, fsep, flft, fobs, fauth, fres, fbor, fobor, fat, froom, fdies}
 use prog.Wp.{Heap, Calls, Loops, WpFn}
 use types.Logic.{Logic, sem}
-use types.Kit.{Sq, Item, prop, lands, at_ret, ‵, raw, ◌⊛◌, some, later, ◌$◌, ◌∵◌, !, qed, move, keep, use1, split, join, pick, rewrite, fsplit, fsplit3, fjoin, drop, frame, show, suffices, updating, now, await, done}
+use types.Kit.{Sq, Item, prop, lands, at_ret, ‵, raw, ◌⊛◌, some, later, ◌$◌, ◌∵◌, !, qed, move, use1, split, join, pick, rewrite, fsplit, fsplit3, fjoin, drop, frame, show, suffices, updating, now, await, done}
 use types.Run.{look, look_raw, init, store_raw, forget, stop, hop, fld, load, of_opd, and_then, assigns, land, returns, enter, params1, pass1}
 use types.Part.{whole, sub, look_in}
 use types.SemTy.{Body}

@@ -13,10 +13,10 @@ use mir.Syntax.{named}
 use mir.Raw.{raw as raw_ty}
 use mir.Val.{Val, vptr}
 use base.Logic.{SProp, ent, sep, emp, ex, guard, id⊢, via, fst∗}
-use base.Fml.{GName, Lft, Share, Fml, ftrue, fsep, flft, flent, fres, fat, froom, fdies}
+use base.Fml.{GName, Fml, ftrue, fsep, flft, flent, fres, fat, froom, fdies}
 use prog.Wp.{Heap, Env, Calls, Loops, WpFn}
 use types.Logic.{Logic, sem}
-use types.Kit.{Sq, Item, Goal, prop, lands, at_ret, allocs, ‵, raw, ◌⊛◌, some, later, given, ◌$◌, ◌∵◌, !, qed, move, keep, use1, use3, split, join, pick, learn, check, rewrite, fsplit, fjoin, fpick, fpack, drop, frame, show, updating, now, await, done}
+use types.Kit.{Sq, Item, Goal, prop, lands, at_ret, allocs, ‵, raw, ◌⊛◌, some, later, given, ◌$◌, ◌∵◌, !, qed, move, use1, use3, split, join, pick, learn, check, rewrite, fsplit, fjoin, fpick, fpack, drop, frame, show, updating, now, await, done}
 use types.Tokens.{lft_new, lft_end}
 use types.Run.{look, init, forget, stop, load, addr, of_opd, and_then, no_more, assigns, land, returns, enter, params1, pass1, alloc1}
 use types.Part.{agg}
