@@ -26,7 +26,7 @@ use denote.Ref.{MutRef}
 use denote.Steps.{only, opens, closes, owned, peeks}
 use denote.Struct.Steps.{spelt}
 use denote.Triple.Call.{calls_from}
-use Rattle.lending.specs.Params.{ParamKind, Machs, vals_of, MachsFit, handed_types, lents, here, past, lend_again, operands, CellBlocks, front_blocks, back, env_of, At, at_all, at_front, at_back, ParamsHeld, Relent, from_at, allocated, freed, stored, lent_again, operands-read, operands-behind, held-room, relent-room}
+use Rattle.lending.specs.Params.{ParamKind, Machs, vals_of, MachsFit, handed_types, lents, here, past, lend_again, operands, CellBlocks, front_blocks, back, env_of, At, at_all, at_front, at_back, Rooms, ParamsHeld, Relent, from_at, allocated, freed, stored, rooms-apart, rooms-together, lent_again, operands-read, operands-behind, held-room, relent-room}
 
 -- ---- a type of one machine value that owns only facts
 pub record Valued (R : RattleType) : Type 2 where
@@ -68,16 +68,19 @@ module _ {T R O : RattleType} {t : Valued T} {r : Valued R} (o : Outcome t r O) 
 
   -- ---- the code
   module _ (ks : List ParamKind) where
-    -- the locals: the answer, the reference, the other parameters; the outcome, the copy, and the slices that are lent again
+    -- the locals: the answer, the reference, the other parameters; the outcome, the copy, the slices that are lent again, and the record to store
     abbrev behind : List S.Ty
-    behind = out-ty ∷ t.ty ∷ lents ks
+    behind = out-ty ∷ t.ty ∷ (lents ks ++ (t.ty ∷ []))
 
     abbrev locals : List S.Ty
     locals = r.ty ∷ S.ty_ref (named 0) S.mut (pointee T.written) ∷ (handed_types ks ++ behind)
 
-    -- the outcome's number; the copy's is the next, and behind it are those of the slices
+    -- the outcome's number; the copy's is the next, and behind it are those of the slices, and that of the record to store
     abbrev at-o : ℕ
     at-o = past (handed_types ks) 2
+
+    abbrev at_x : ℕ
+    at_x = past (lents ks) (suc (suc at-o))
 
     -- behind the reference
     abbrev lent-record : S.Place
@@ -85,7 +88,7 @@ module _ {T R O : RattleType} {t : Valued T} {r : Valued R} (o : Outcome t r O) 
 
     -- the store of the record, and the answer
     abbrev storing : S.Body
-    storing = S.seq (S.assign lent-record (S.rv_opd (S.copy (S.place at-o (S.field 1 ∷ []))))) (S.seq (S.assign (S.place 0 []) (S.rv_opd (S.copy (S.place at-o (S.field 0 ∷ []))))) S.return)
+    storing = S.seq (S.assign (S.place at_x []) (S.rv_opd (S.copy (S.place at-o (S.field 1 ∷ []))))) (S.seq (S.assign lent-record (S.rv_opd (S.copy (S.place at_x [])))) (S.seq (S.assign (S.place 0 []) (S.rv_opd (S.copy (S.place at-o (S.field 0 ∷ []))))) S.return))
 
     abbrev pub lent_code : ℕ → S.Callee → S.Fn
     lent_code n key = record {
@@ -106,6 +109,13 @@ module _ {T R O : RattleType} {t : Valued T} {r : Valued R} (o : Outcome t r O) 
     abbrev rest : CellBlocks locals → CellBlocks behind
     rest bs = back (handed_types ks) behind bs.1.1
 
+    -- of those, the blocks of the slices, and of the record to store
+    abbrev slices : CellBlocks locals → CellBlocks (lents ks)
+    slices bs = front_blocks (lents ks) (t.ty ∷ []) (rest bs).1.1
+
+    abbrev last : CellBlocks locals → CellBlocks (t.ty ∷ [])
+    last bs = back (lents ks) (t.ty ∷ []) (rest bs).1.1
+
     -- and where the environment has them
     module _ {M : Type 1} (𝓤 : Ura M) (H : Heap 𝓤) (bs : CellBlocks locals) where
       near : At 𝓤 H (env_of locals bs) 2 (handed_types ks) (those bs)
@@ -113,6 +123,12 @@ module _ {T R O : RattleType} {t : Valued T} {r : Valued R} (o : Outcome t r O) 
 
       far : At 𝓤 H (env_of locals bs) at-o behind (rest bs)
       far = at_back 𝓤 H (env_of locals bs) 2 (handed_types ks) behind bs.1.1 (at_all 𝓤 H locals bs).1.1
+
+      far-slices : At 𝓤 H (env_of locals bs) (suc (suc at-o)) (lents ks) (slices bs)
+      far-slices = at_front 𝓤 H (env_of locals bs) (suc (suc at-o)) (lents ks) (t.ty ∷ []) (rest bs).1.1 far.1.1
+
+      far-last : At 𝓤 H (env_of locals bs) at_x (t.ty ∷ []) (last bs)
+      far-last = at_back 𝓤 H (env_of locals bs) (suc (suc at-o)) (lents ks) (t.ty ∷ []) (rest bs).1.1 far.1.1
 
   module _ {M : Type 1} {𝓤 : Ura M} (𝓛 : Logic 𝓤) (Tok : SProp 𝓤) (Z : Type 0) (Lasts : Z → Fml) (Q : R.Denot → T.Denot → Z → SProp 𝓤) where
     -- ---- what is left, beside the tokens of the other lifetimes: Q of the answer, the record and the other last values z, of which `Lasts z` says that they are the last ones
@@ -160,33 +176,37 @@ module _ {T R O : RattleType} {t : Valued T} {r : Valued R} (o : Outcome t r O) 
           show ! (λ (ws : T.Denot × Z). sep 𝓤 (sem 𝓛 (fsep (fsep (fres γ (T.coded.code ws.0)) (fbor κ (Body (mem T) b d γ))) (Lasts ws.1))) (Q (o.told x) ws.0 ws.1)) (o.kept x, z) $ fjoin ! $ fjoin ! $ frame ! $ done !
 
       module _ (ks : List ParamKind) (ms : Machs ks) (h : T.Denot) (C : Calls 𝓤 H) (Λ : Loops 𝓤 H) where
-        -- what stands while `step` runs: the parameters, the slices that are lent again, the record behind its open borrow, the copy, room for the outcome, the reference, and room for the answer
+        -- what stands while `step` runs: the parameters, the slices that are lent again, the record behind its open borrow, the copy, room for the outcome, the reference, room for the answer, and room for the record to store
         abbrev Waiting : CellBlocks (locals ks) → List (Item 𝓤)
         Waiting bs =
-            ParamsHeld 𝓤 ks (those ks bs) ms ∷ Relent 𝓤 ks (rest ks bs).1.1 ms ∷ ‵ (fat full_share (raw_ty t.ty) b d (t.val h)) ∷ ‵ (fobor κ q (Body (mem T) b d γ)) ∷ ‵ (fobs γ (T.coded.code h)) ∷ ‵ (fauth γ (T.coded.code h))
+            ParamsHeld 𝓤 ks (those ks bs) ms ∷ Relent 𝓤 ks (slices ks bs) ms ∷ ‵ (fat full_share (raw_ty t.ty) b d (t.val h)) ∷ ‵ (fobor κ q (Body (mem T) b d γ)) ∷ ‵ (fobs γ (T.coded.code h)) ∷ ‵ (fauth γ (T.coded.code h))
             ∷ ‵ (fat full_share t.ty (rest ks bs).1.0 0 (t.val h)) ∷ ‵ (fdies t.ty (rest ks bs).1.0) ∷ (‵ (froom out-ty (rest ks bs).0 0) ⊛ ‵ (fdies out-ty (rest ks bs).0))
-            ∷ ‵ (fat full_share (S.ty_ref (named 0) S.mut (pointee T.written)) bs.1.0 0 (vptr b d)) ∷ ‵ (fdies (S.ty_ref (named 0) S.mut (pointee T.written)) bs.1.0) ∷ (‵ (froom r.ty bs.0 0) ⊛ ‵ (fdies r.ty bs.0)) ∷ []
+            ∷ ‵ (fat full_share (S.ty_ref (named 0) S.mut (pointee T.written)) bs.1.0 0 (vptr b d)) ∷ ‵ (fdies (S.ty_ref (named 0) S.mut (pointee T.written)) bs.1.0) ∷ (‵ (froom r.ty bs.0 0) ⊛ ‵ (fdies r.ty bs.0)) ∷ Rooms 𝓤 (t.ty ∷ []) (last ks bs) ∷ []
 
         -- from the return of `step` at the machine value w on, to what follows from all that is handed back
         landed : (K : Val → SProp 𝓤) → ((v : Val) → ent 𝓤 (LeavesClosed b d γ κ q v) (K v)) → (bs : CellBlocks (locals ks)) (w : Val)
             → Sq 𝓛 (raw (Left w) ∷ Waiting bs) (lands C Λ (env_of (locals ks) bs) (S.place (at-o ks) []) w (storing ks) (at_ret (env_of (locals ks) bs) K))
         landed K from-closed bs w =
             let at_rest = far ks 𝓤 H bs in
+            let at-end = far-last ks 𝓤 H bs in
             use1 𝓛 (later (some (λ (x : O.Denot). (raw Tok ⊛ ‵ (O.own_val x (w ∷ []))) ⊛ some (λ (zs : Unit {0} × Z). ‵ (fsep ftrue (Lasts zs.1)) ⊛ raw (Q (o.told x) (o.kept x) zs.1))))) (id⊢ 𝓤 _) $ await ! tt $ pick ! (λ x.
             split ! $ move ! (1 ∷ []) $ pick ! (λ zs. split ! $ fsplit ! $ drop ! $ move ! (2 ∷ []) $ split ! $ move ! (1 ∷ []) $ peeks ! O (Is O) (shows 𝓛 O) x (w ∷ []) (λ is.
             let is-told = (o.parts x (w ∷ []) is).0 in
             let is-kept = (o.parts x (w ∷ []) is).1 in
             drop ! $ move ! (11 ∷ []) $ split ! $ land ! (from_at at_rest.0 (stop !)) (init ! 0 {τ = out-ty} {v = w} refl (fits_in 𝓛 O (o.lawful 𝓛) out-ty o.mir x w is)) $
             rewrite ! 0 (λ (u : Val). ‵ (fat full_share out-ty (rest ks bs).0 0 u)) (ap only (o.tells x (w ∷ []) is)) refl $
-            assigns ! (of_opd ! (load ! (from_at at_rest.0 (fld ! refl (stop !))) (look_in ! 0 (sub ! 1 refl (whole !))))) (from_at refl (hop ! (look ! 13 refl) (stop !)))
+            move ! (16 ∷ []) $ split ! $ split ! $ assigns ! (of_opd ! (load ! (from_at at_rest.0 (fld ! refl (stop !))) (look_in ! 3 (sub ! 1 refl (whole !))))) (from_at at-end.0 (stop !))
+            (init ! 0 {τ = t.ty} {v = t.val (o.kept x)} refl (val-fits 𝓛 t (o.kept x) is-kept)) $ move ! (3 ∷ 4 ∷ 5 ∷ 6 ∷ 7 ∷ 8 ∷ 9 ∷ 10 ∷ 11 ∷ 12 ∷ 13 ∷ 14 ∷ 15 ∷ 16 ∷ 17 ∷ 18 ∷ []) $
+            assigns ! (of_opd ! (load ! (from_at at-end.0 (stop !)) (look ! 16 refl))) (from_at refl (hop ! (look ! 13 refl) (stop !)))
             (store_raw ! 7 {τ = t.ty} {v = t.val (o.kept x)} refl (val-fits 𝓛 t (o.kept x) is-kept)) $ move ! (15 ∷ []) $ split ! $
             assigns ! (of_opd ! (load ! (from_at at_rest.0 (fld ! refl (stop !))) (look_in ! 2 (sub ! 0 refl (whole !))))) (from_at refl (stop !))
             (init ! 0 {τ = r.ty} {v = r.val (o.told x)} refl (val-fits 𝓛 r (o.told x) is-told)) $
             owned ! T (Is T) (t.makes 𝓛) (o.kept x) (t.val (o.kept x) ∷ []) is-kept $ move ! (10 ∷ 0 ∷ 11 ∷ 12 ∷ 13 ∷ []) $
             rewrite ! 0 (λ (τs : List S.Ty). ‵ (cell_at full_share τs (t.val (o.kept x) ∷ []) b d)) (sym t.mir) refl $ closes ! tt T (o.kept x) (t.val (o.kept x) ∷ []) b d $
-            returns ! (look ! 3 refl) $ forget ! 3 refl $ forget ! 5 refl $ forget ! 12 refl $ forget ! 14 refl $ move ! (11 ∷ []) $ relent-room ks _ ms (
+            returns ! (look ! 3 refl) $ forget ! 3 refl $ forget ! 5 refl $ forget ! 12 refl $ forget ! 14 refl $ forget ! 16 refl $ move ! (11 ∷ []) $ relent-room ks (slices ks bs) ms (
+            move ! (16 ∷ 17 ∷ 18 ∷ []) $ join ! $ join ! $ move ! (1 ∷ 0 ∷ []) $ rooms-together (lents ks) (t.ty ∷ []) (rest ks bs).1.1 (
             move ! (12 ∷ 13 ∷ 0 ∷ []) $ join ! $ join ! $ move ! (6 ∷ 7 ∷ 0 ∷ []) $ join ! $ join ! $ move ! (9 ∷ 0 ∷ []) $ held-room ks (behind ks) bs.1.1 ms (
-            move ! (9 ∷ 10 ∷ 0 ∷ []) $ join ! $ join ! $ move ! (4 ∷ 5 ∷ 0 ∷ []) $ join ! $ join ! $ freed (locals ks) bs (suffices ! (LeavesClosed b d γ κ q (r.val (o.told x))) (from-closed (r.val (o.told x))) $ exits x zs.1 is-told))))))
+            move ! (9 ∷ 10 ∷ 0 ∷ []) $ join ! $ join ! $ move ! (4 ∷ 5 ∷ 0 ∷ []) $ join ! $ join ! $ freed (locals ks) bs (suffices ! (LeavesClosed b d γ κ q (r.val (o.told x))) (from-closed (r.val (o.told x))) $ exits x zs.1 is-told)))))))
 
         -- what `step` is passed, beside what the other parameters own: the record
         abbrev Passed : Fml → Fml
@@ -204,14 +224,16 @@ module _ {T R O : RattleType} {t : Valued T} {r : Valued R} (o : Outcome t r O) 
             let E : List (S.Ty × ℕ) = env_of (locals ks) bs in
             let at-those = near ks 𝓤 H bs in
             let at_rest = far ks 𝓤 H bs in
+            let at-slices = far-slices ks 𝓤 H bs in
             split ! $ move ! (1 ∷ []) $ split ! $ split ! $ params1 ! $ pass1 ! (init ! 0 refl (tt, tt)) $ move ! (2 ∷ []) $ stored ks (behind ks) bs.1.1 ms fits (
-            move ! (1 ∷ []) $ split ! $ move ! (1 ∷ []) $ split ! $ split ! $ move ! (9 ∷ []) $ fsplit ! $ fsplit3 ! $ drop ! $ move ! (11 ∷ []) $ split ! $ move ! (2 ∷ 3 ∷ 0 ∷ []) $
+            move ! (1 ∷ []) $ split ! $ move ! (1 ∷ []) $ split ! $ move ! (1 ∷ []) $ rooms-apart (lents ks) (t.ty ∷ []) (rest ks bs).1.1 (
+            move ! (2 ∷ 0 ∷ 3 ∷ 4 ∷ 5 ∷ 6 ∷ 7 ∷ 8 ∷ 9 ∷ []) $ split ! $ move ! (9 ∷ []) $ fsplit ! $ fsplit3 ! $ drop ! $ move ! (11 ∷ []) $ split ! $ move ! (2 ∷ 3 ∷ 0 ∷ []) $
             opens ! tt T {h = h} b d (λ vs. spelt ! T (Is T) (shows 𝓛 T) (λ x. t.val x ∷ []) t.tells full_share h vs b d $
             move ! (1 ∷ []) $ peeks ! T (Is T) (shows 𝓛 T) h (t.val h ∷ []) (λ is. move ! (1 ∷ 0 ∷ []) $ rewrite ! 0 (λ (τs : List S.Ty). ‵ (cell_at full_share τs (t.val h ∷ []) b d)) t.mir refl $
             assigns ! (of_opd ! (load ! (from_at refl (hop ! (look ! 12 refl) (stop !))) (look_raw ! 0 {τ = t.ty} refl))) (from_at at_rest.1.0 (stop !)) (init ! 7 refl (val-fits 𝓛 t h is)) $
-            move ! (11 ∷ 9 ∷ []) $ lent_again E ks 2 (suc (suc (at-o ks))) (those ks bs) (rest ks bs).1.1 ms at-those at_rest.1.1 fits (
+            move ! (11 ∷ 9 ∷ []) $ lent_again E ks 2 (suc (suc (at-o ks))) (those ks bs) (slices ks bs) ms at-those at-slices fits (
             move ! (3 ∷ 8 ∷ []) $ fjoin ! $ move ! (7 ∷ 0 ∷ []) $ join ! $ calls_from ! fm (raw Tok ⊛ ‵ (Passed Owns)) (t.val h ∷ vals_of ks ms) Left met
-            (and_then ! (load ! (from_at at_rest.1.0 (stop !)) (look ! 7 refl)) (operands-behind (operands-read E ks 2 (suc (suc (at-o ks))) (those ks bs) (rest ks bs).1.1 ms at-those at_rest.1.1 _))) (landed K from-closed bs))))))
+            (and_then ! (load ! (from_at at_rest.1.0 (stop !)) (look ! 7 refl)) (operands-behind (operands-read E ks 2 (suc (suc (at-o ks))) (those ks bs) (slices ks bs) ms at-those at-slices _))) (landed K from-closed bs)))))))
 
         -- where `step` leaves what it must, so does the function
         pub lent-walk : (Owns : Fml) → MachsFit ks ms → FmC 𝓤 H 𝓛.laws C → (n : ℕ) (key : S.Callee) → ent 𝓤 (sep 𝓤 Tok (sem 𝓛 (Passed Owns))) (C key (t.val h ∷ vals_of ks ms) Left)

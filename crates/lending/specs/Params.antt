@@ -189,6 +189,15 @@ module _ {M : Type 1} {𝓤 : Ura M} {𝓛 : Logic 𝓤} where
   stored [] σs bs ms fits k = pass0 ! $ nothing ! $ k
   stored (κ ∷ ks) σs bs ms fits k = split ! $ split ! $ pass1 ! (init ! 0 refl fits.0) $ move ! (2 ∷ []) $ stored ks σs bs.1 ms.1 fits.1 (move ! (2 ∷ 3 ∷ 0 ∷ []) $ join ! $ join ! $ k)
 
+  -- rooms of a list in two parts
+  pub rooms-apart : (τs σs : List S.Ty) (bs : CellBlocks (τs ++ σs)) {Γ : List (Item 𝓤)} {G : Goal 𝓤 H} → Sq 𝓛 (Rooms 𝓤 τs (front_blocks τs σs bs) ∷ Rooms 𝓤 σs (back τs σs bs) ∷ Γ) G → Sq 𝓛 (Rooms 𝓤 (τs ++ σs) bs ∷ Γ) G
+  rooms-apart [] σs bs k = nothing ! $ k
+  rooms-apart (τ ∷ τs) σs bs k = split ! $ move ! (1 ∷ []) $ rooms-apart τs σs bs.1 (move ! (2 ∷ 0 ∷ []) $ join ! $ k)
+
+  pub rooms-together : (τs σs : List S.Ty) (bs : CellBlocks (τs ++ σs)) {Γ : List (Item 𝓤)} {G : Goal 𝓤 H} → Sq 𝓛 (Rooms 𝓤 (τs ++ σs) bs ∷ Γ) G → Sq 𝓛 (Rooms 𝓤 τs (front_blocks τs σs bs) ∷ Rooms 𝓤 σs (back τs σs bs) ∷ Γ) G
+  rooms-together [] σs bs k = drop ! $ k
+  rooms-together (τ ∷ τs) σs bs k = split ! $ move ! (1 ∷ 2 ∷ []) $ rooms-together τs σs bs.1 (move ! (1 ∷ 0 ∷ []) $ join ! $ k)
+
   -- the slices are lent again
   module _ {C : Calls 𝓤 H} {Λ : Loops 𝓤 H} {q : Post 𝓤 H} (E : Env 𝓤 H) where
     pub lent_again : (ks : List ParamKind) (i t : ℕ) (bs : CellBlocks (handed_types ks)) (cs : CellBlocks (lents ks)) (ms : Machs ks) → At 𝓤 H E i (handed_types ks) bs → At 𝓤 H E t (lents ks) cs → MachsFit ks ms → {rest : S.Body} {Γ : List (Item 𝓤)}

@@ -33,7 +33,7 @@ use denote.Struct.Steps.{spelt}
 use denote.Signature.{Slot, Signature, plain, types_at}
 use denote.Triple.Entry.{Args, on_entry}
 use denote.Triple.Call.{calls_from}
-use Rattle.lending.specs.Params.{ParamKind, Machs, vals_of, MachsFit, handed_types, lents, here, past, lend_again, operands, CellBlocks, front_blocks, back, env_of, At, at_all, at_front, at_back, Rooms, ParamsHeld, Relent, from_at, allocated, freed, stored, lent_again, operands-read, operands-behind, held-room, relent-room}
+use Rattle.lending.specs.Params.{ParamKind, Machs, vals_of, MachsFit, handed_types, lents, here, past, lend_again, operands, CellBlocks, front_blocks, back, env_of, At, at_all, at_front, at_back, Rooms, ParamsHeld, Relent, from_at, allocated, freed, stored, rooms-apart, rooms-together, lent_again, operands-read, operands-behind, held-room, relent-room}
 use Rattle.lending.specs.LentWalk.{Valued, Outcome, two_ty, two_val, fits_in, val-fits, Left, Leaves, LeavesClosed, closed-leaves}
 use Rattle.lending.specs.Lent.{SlotsPass, slot_kinds, machs, spells, all_told, all_fit, all-flat}
 
@@ -53,15 +53,6 @@ module _ {M : Type 1} {𝓤 : Ura M} {𝓛 : Logic 𝓤} where
       → Sq 𝓛 Γ (allocs (map here τs ++ (S.local σ S.memory_slot ∷ map here σs)) Kt)
   allocated-slot [] σ σs {Γ} {Kt} k = alloc1 ! (λ b. allocated σs {Kt = λ E. Kt ((σ, b) ∷ E)} (λ bs. move ! (1 ∷ 2 ∷ 0 ∷ []) $ join ! $ join ! $ k (b, bs)))
   allocated-slot (τ ∷ τs) σ σs {Γ} {Kt} k = alloc1 ! (λ b. allocated-slot τs σ σs {Kt = λ E. Kt ((τ, b) ∷ E)} (λ bs. move ! (1 ∷ 2 ∷ 0 ∷ []) $ join ! $ join ! $ k (b, bs)))
-
-  -- rooms of a list in two parts
-  rooms-apart : (τs σs : List S.Ty) (bs : CellBlocks (τs ++ σs)) {Γ : List (Item 𝓤)} {G : Goal 𝓤 H} → Sq 𝓛 (Rooms 𝓤 τs (front_blocks τs σs bs) ∷ Rooms 𝓤 σs (back τs σs bs) ∷ Γ) G → Sq 𝓛 (Rooms 𝓤 (τs ++ σs) bs ∷ Γ) G
-  rooms-apart [] σs bs k = nothing ! $ k
-  rooms-apart (τ ∷ τs) σs bs k = split ! $ move ! (1 ∷ []) $ rooms-apart τs σs bs.1 (move ! (2 ∷ 0 ∷ []) $ join ! $ k)
-
-  rooms-together : (τs σs : List S.Ty) (bs : CellBlocks (τs ++ σs)) {Γ : List (Item 𝓤)} {G : Goal 𝓤 H} → Sq 𝓛 (Rooms 𝓤 (τs ++ σs) bs ∷ Γ) G → Sq 𝓛 (Rooms 𝓤 τs (front_blocks τs σs bs) ∷ Rooms 𝓤 σs (back τs σs bs) ∷ Γ) G
-  rooms-together [] σs bs k = drop ! $ k
-  rooms-together (τ ∷ τs) σs bs k = split ! $ move ! (1 ∷ 2 ∷ []) $ rooms-together τs σs bs.1 (move ! (1 ∷ 0 ∷ []) $ join ! $ k)
 
 module _ {T R O : RattleType} {t : Valued T} {r : Valued R} (o : Outcome t r O) (j : Joins o) where
   abbrev out-ty : S.Ty
