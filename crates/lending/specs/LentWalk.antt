@@ -1,5 +1,5 @@
 -- A function over a lent record: `fn f(a: &mut Rec, ..) -> Ans { let o = step(*a, ..); *a = o.kept; o.told }`. A walk of its MIR, once for every such function: the record's borrow is opened, the whole record is copied out, `step` is called on the copy and the other parameters,
--- the record that it returns is stored, and the borrow is closed. Nothing of the record's fields is said, and of `step` no more than that it meets its contract. Each other `&mut` goes to it at its own lifetime, share and name, for good.
+-- the record that it returns is stored, by way of a local, and the borrow is closed. Nothing of the record's fields is said, and of `step` no more than that it meets its contract. Each other `&mut` goes to it at its own lifetime, share and name, for good.
 -- The declared types stand under variables here, so no step spells one out, which is what costs.
 -- Assumes `Logic`.
 use Rattle.std.specs.Prelude.{◌≡◌, refl, ℕ, suc, [], ◌∷◌, List, ◌++◌, map, T as Tᵇ}
