@@ -34,7 +34,7 @@ use denote.Triple.Clauses.{Ended, AtExit, closing}
 use denote.Triple.Spec.{Spec, Meets, triple_of}
 use denote.Triple.Table.{entered}
 use Rattle.lending.specs.Params.{ParamKind, copied, relent, reref, Mach, val_of, MachFits, Machs, vals_of, MachsFit}
-use Rattle.lending.specs.LentWalk.{Valued, Outcome, two_ty, two_val, val-fits, lent_code, Left, Leaves, lent-walk}
+use Rattle.lending.specs.LentWalk.{Valued, Outcome, two_ty, two_val, val-fits, lent_code, Left, LeavesClosed, lent-walk-closed}
 
 -- ---- the types
 abbrev pub uint : (w : S.Width) → Valued (UInt w)
@@ -119,7 +119,7 @@ lent_slice {n} j ok w = record {
 abbrev pub shared-one : {n : ℕ} (j : ℕ) (ok : AllWithin n (j ∷ [])) (R : RattleType) → Pass {n = n} (shr_ref_to (j ∷ []) ok (plain (λ _. R)))
 shared-one {n} j ok R = record {
   kind = copied (S.ty_ref (named j) S.imm (pointee R.written));
-  mach = λ κs x. vptr x.ptr.0 x.ptr.1;
+  mach = λ κs x. vptr x.ref_ptr.0 x.ref_ptr.1;
   tells = λ κs. shr_Tells (named j) (meet_at n (j ∷ []) ok κs) R;
   fits = λ 𝓛 κs x is. (tt, tt);
 }
@@ -127,7 +127,7 @@ shared-one {n} j ok R = record {
 abbrev pub lent_one : {n : ℕ} (j : ℕ) (ok : AllWithin n (j ∷ [])) (R : RattleType) → Pass {n = n} (mut_ref_to (j ∷ []) ok (plain (λ _. R)))
 lent_one {n} j ok R = record {
   kind = reref (pointee R.written) j;
-  mach = λ κs x. x.ptr;
+  mach = λ κs x. x.ref_ptr;
   tells = λ κs. mut_Tells (named j) (meet_at n (j ∷ []) ok κs) R;
   fits = λ 𝓛 κs x is. (tt, tt);
 }
@@ -208,13 +208,13 @@ module _ {T R O : RattleType} {t : Valued T} {r : Valued R} (o : Outcome t r O) 
 
     -- what the function leaves
     abbrev Done : Val → SProp 𝓤
-    Done = Leaves o 𝓛 Tokens (Fins κs ss ls a.1) (lasts_of κs ss ls a.1) Said a.0.name κs.0 qs.0
+    Done = LeavesClosed o 𝓛 Tokens (Fins κs ss ls a.1) (lasts_of κs ss ls a.1) Said a.0.ref_ptr.0 a.0.ref_ptr.1 a.0.ghost_name κs.0 qs.0
 
   -- a run of `step` meets by value what the function is to meet
   abbrev pub Steps : Fun 𝓤 → Type 1
   Steps run = (κs : Lfts (suc n)) (qs : Shares (suc n)) (a : Args (signature T R ss) κs) (vss : Valss (types_at ss κs)) → ent 𝓤 (sep 𝓤 (Brought κs qs a vss) (emp 𝓤)) (run (t.val a.0.now ∷ flat (types_at ss κs) vss) (Stepped κs qs a))
 
-  module _ (ps : SlotsPass ss) (C : Calls 𝓤 H) (Λ : Loops 𝓤 H) (fm : FmC 𝓤 H 𝓛.laws C) (key : S.Name) (steps : Steps (C key)) where
+  module _ (ps : SlotsPass ss) (C : Calls 𝓤 H) (Λ : Loops 𝓤 H) (fm : FmC 𝓤 H 𝓛.laws C) (key : S.Callee) (steps : Steps (C key)) where
     -- the function's MIR, and the other parameters' machine values
     abbrev runs-code : Fun 𝓤
     runs-code = WpFn 𝓤 H C Λ (lent_code o (slot_kinds ss ps) (suc n) key)
@@ -228,7 +228,7 @@ module _ {T R O : RattleType} {t : Valued T} {r : Valued R} (o : Outcome t r O) 
     walk_at κs qs a are =
         let P : SProp 𝓤 = Brought κs qs a (spelt-out κs a) in
         subst (λ (us : List Val). ent 𝓤 (on_entry 𝓛 (signature T R ss) κs qs a (mut_vals a.0, spelt-out κs a)) (runs-code (mut_vals a.0 ++ us) (Done κs qs a))) (all-flat κs ss ps a.1)
-        (lent-walk o 𝓛 (Tokens κs qs a) (Fins κs ss ls a.1) (lasts_of κs ss ls a.1) (Said κs qs a) κs.0 qs.0 a.0.ref_ptr.0 a.0.ref_ptr.1 a.0.ghost_name (slot_kinds ss ps) (machs κs ss ps a.1) a.0.now C Λ
+        (lent-walk-closed o 𝓛 (Tokens κs qs a) (Fins κs ss ls a.1) (lasts_of κs ss ls a.1) (Said κs qs a) κs.0 qs.0 a.0.ref_ptr.0 a.0.ref_ptr.1 a.0.ghost_name (slot_kinds ss ps) (machs κs ss ps a.1) a.0.now C Λ
         (owns (types_at ss κs) a.1 (spelt-out κs a)) (all_fit κs 𝓛 ss ps a.1 are) fm (suc n) key
         (subst (λ (us : List Val). ent 𝓤 P (C key (t.val a.0.now ∷ us) (Stepped κs qs a))) (sym (all-flat κs ss ps a.1))
         (via 𝓤 (sep 𝓤 P (emp 𝓤)) (via 𝓤 (sep 𝓤 (emp 𝓤) P) (emp∗ 𝓤 P) (comm∗ 𝓤 (emp 𝓤) P)) (steps κs qs a (spelt-out κs a)))))
@@ -246,7 +246,7 @@ module _ {T R O : RattleType} {t : Valued T} {r : Valued R} (o : Outcome t r O) 
     {M : Type 1} {𝓤 : Ura M} (𝓛 : Logic 𝓤) (𝓜 : Model 𝓤 𝓛.H) (𝓡 : Running 𝓤 𝓛.H 𝓜) (Q : Ensures T R ss ls 𝓤) where
   open 𝓛 use {H}
 
-  pub lent-meets : (γ : Env) (own key : S.Name) (fn : S.Fn) → Closed 𝓤 H (tables 𝓤 H 𝓜 𝓡 γ).C (tables 𝓤 H 𝓜 𝓡 γ).Λ own fn → lent_code o (slot_kinds ss ps) (suc n) key ≡ fn → (step : Routine) → γ key ≡ step
+  pub lent-meets : (γ : Env) (own key : S.Callee) (fn : S.Fn) → Closed 𝓤 H (tables 𝓤 H 𝓜 𝓡 γ).C (tables 𝓤 H 𝓜 𝓡 γ).Λ own fn → lent_code o (slot_kinds ss ps) (suc n) key ≡ fn → (step : Routine) → γ key ≡ step
       → Steps o ss ls 𝓛 Q (𝓡.run step) → Meets 𝓛 (signature T R ss) (𝓡.run (γ own)) (promise T R ss ls 𝓛 Q)
   unfolding tables_of
   lent-meets γ own key fn closed is step calls steps =

@@ -4,7 +4,7 @@
 use Rattle.std.specs.Prelude.{◌≡◌, refl, ℕ, zero, suc, [], ◌∷◌, List, ◌++◌, map, get_or, T as Tᵇ}
 use Rattle.std.proofs.Common.{sym, subst}
 use seplogic.Ra.Ura.{Ura}
-use seplogic.Ra.TreeShare.{full_share}
+use base.Fraction.{full_share}
 use mir.Syntax as S
 use mir.Syntax.{named}
 use mir.Val.{Val, WT, has_ty, vptr}
@@ -188,6 +188,15 @@ module _ {M : Type 1} {𝓤 : Ura M} {𝓛 : Logic 𝓤} where
       → Sq 𝓛 (ParamsHeld 𝓤 ks (front_blocks (handed_types ks) σs bs) ms ∷ Rooms 𝓤 σs (back (handed_types ks) σs bs) ∷ Γ) G → Sq 𝓛 (Rooms 𝓤 (handed_types ks ++ σs) bs ∷ Γ) (passes (env_of (handed_types ks ++ σs) bs) (vals_of ks ms) G)
   stored [] σs bs ms fits k = pass0 ! $ nothing ! $ k
   stored (κ ∷ ks) σs bs ms fits k = split ! $ split ! $ pass1 ! (init ! 0 refl fits.0) $ move ! (2 ∷ []) $ stored ks σs bs.1 ms.1 fits.1 (move ! (2 ∷ 3 ∷ 0 ∷ []) $ join ! $ join ! $ k)
+
+  -- rooms of a list in two parts
+  pub rooms-apart : (τs σs : List S.Ty) (bs : CellBlocks (τs ++ σs)) {Γ : List (Item 𝓤)} {G : Goal 𝓤 H} → Sq 𝓛 (Rooms 𝓤 τs (front_blocks τs σs bs) ∷ Rooms 𝓤 σs (back τs σs bs) ∷ Γ) G → Sq 𝓛 (Rooms 𝓤 (τs ++ σs) bs ∷ Γ) G
+  rooms-apart [] σs bs k = nothing ! $ k
+  rooms-apart (τ ∷ τs) σs bs k = split ! $ move ! (1 ∷ []) $ rooms-apart τs σs bs.1 (move ! (2 ∷ 0 ∷ []) $ join ! $ k)
+
+  pub rooms-together : (τs σs : List S.Ty) (bs : CellBlocks (τs ++ σs)) {Γ : List (Item 𝓤)} {G : Goal 𝓤 H} → Sq 𝓛 (Rooms 𝓤 (τs ++ σs) bs ∷ Γ) G → Sq 𝓛 (Rooms 𝓤 τs (front_blocks τs σs bs) ∷ Rooms 𝓤 σs (back τs σs bs) ∷ Γ) G
+  rooms-together [] σs bs k = drop ! $ k
+  rooms-together (τ ∷ τs) σs bs k = split ! $ move ! (1 ∷ 2 ∷ []) $ rooms-together τs σs bs.1 (move ! (1 ∷ 0 ∷ []) $ join ! $ k)
 
   -- the slices are lent again
   module _ {C : Calls 𝓤 H} {Λ : Loops 𝓤 H} {q : Post 𝓤 H} (E : Env 𝓤 H) where

@@ -7,21 +7,21 @@ use Rattle.std.proofs.Common.{ap, sym, subst}
 use Prim.Native.Nat.{ℕ, zero, suc}
 use mathlib.Core.List.{[], ◌∷◌, List, ◌++◌, map}
 use seplogic.Ra.Ura.{Ura}
-use seplogic.Ra.TreeShare.{full_share}
+use base.Fraction.{full_share}
 use mir.Syntax as S
 use mir.Syntax.{named}
 use mir.Raw.{raw as raw_ty}
 use mir.Val.{Val, vptr}
 use base.Logic.{SProp, ent, sep, emp, ex, guard, id⊢, via, fst∗}
-use base.Fml.{GName, Lft, Share, Fml, ftrue, fsep, flft, flent, fres, fat, froom, fdies}
+use base.Fml.{GName, Fml, ftrue, fsep, flft, flent, fres, fat, froom, fdies}
 use prog.Wp.{Heap, Env, Calls, Loops, WpFn}
 use types.Logic.{Logic, sem}
-use types.Kit.{Sq, Item, Goal, prop, lands, at_ret, allocs, ‵, raw, ◌⊛◌, some, later, given, ◌$◌, ◌∵◌, !, qed, move, keep, use1, use3, split, join, pick, learn, check, rewrite, fsplit, fjoin, fpick, fpack, drop, frame, show, updating, now, await, done}
+use types.Kit.{Sq, Item, Goal, prop, lands, at_ret, allocs, ‵, raw, ◌⊛◌, some, later, given, ◌$◌, ◌∵◌, !, qed, move, use1, use3, split, join, pick, learn, check, rewrite, fsplit, fjoin, fpick, fpack, drop, frame, show, updating, now, await, done}
 use types.Tokens.{lft_new, lft_end}
 use types.Run.{look, init, forget, stop, load, addr, of_opd, and_then, no_more, assigns, land, returns, enter, params1, pass1, alloc1}
 use types.Part.{agg}
 use types.SemTy.{Body}
-use sound.WpLaws.{FmC}
+use sound.WpLaws.{FmC, fm→mono_c}
 use contract.Lifetimes.{Lfts, Shares, toks}
 use denote.RattleType.{RattleType, Valss, flat, owns}
 use denote.Laws.{Is, Makes, shows, valss}
@@ -33,8 +33,8 @@ use denote.Struct.Steps.{spelt}
 use denote.Signature.{Slot, Signature, plain, types_at}
 use denote.Triple.Entry.{Args, on_entry}
 use denote.Triple.Call.{calls_from}
-use Rattle.lending.specs.Params.{ParamKind, Machs, vals_of, MachsFit, handed_types, lents, here, past, lend_again, operands, CellBlocks, front_blocks, back, env_of, At, at_all, at_front, at_back, Rooms, ParamsHeld, Relent, from_at, allocated, freed, stored, lent_again, operands-read, operands-behind, held-room, relent-room}
-use Rattle.lending.specs.LentWalk.{Valued, Outcome, two_ty, two_val, fits_in, val-fits, Left, Leaves}
+use Rattle.lending.specs.Params.{ParamKind, Machs, vals_of, MachsFit, handed_types, lents, here, past, lend_again, operands, CellBlocks, front_blocks, back, env_of, At, at_all, at_front, at_back, Rooms, ParamsHeld, Relent, from_at, allocated, freed, stored, rooms-apart, rooms-together, lent_again, operands-read, operands-behind, held-room, relent-room}
+use Rattle.lending.specs.LentWalk.{Valued, Outcome, two_ty, two_val, fits_in, val-fits, Left, Leaves, LeavesClosed, closed-leaves}
 use Rattle.lending.specs.Lent.{SlotsPass, slot_kinds, machs, spells, all_told, all_fit, all-flat}
 
 -- an outcome is made of an answer and a record
@@ -53,15 +53,6 @@ module _ {M : Type 1} {𝓤 : Ura M} {𝓛 : Logic 𝓤} where
       → Sq 𝓛 Γ (allocs (map here τs ++ (S.local σ S.memory_slot ∷ map here σs)) Kt)
   allocated-slot [] σ σs {Γ} {Kt} k = alloc1 ! (λ b. allocated σs {Kt = λ E. Kt ((σ, b) ∷ E)} (λ bs. move ! (1 ∷ 2 ∷ 0 ∷ []) $ join ! $ join ! $ k (b, bs)))
   allocated-slot (τ ∷ τs) σ σs {Γ} {Kt} k = alloc1 ! (λ b. allocated-slot τs σ σs {Kt = λ E. Kt ((τ, b) ∷ E)} (λ bs. move ! (1 ∷ 2 ∷ 0 ∷ []) $ join ! $ join ! $ k (b, bs)))
-
-  -- rooms of a list in two parts
-  rooms-apart : (τs σs : List S.Ty) (bs : CellBlocks (τs ++ σs)) {Γ : List (Item 𝓤)} {G : Goal 𝓤 H} → Sq 𝓛 (Rooms 𝓤 τs (front_blocks τs σs bs) ∷ Rooms 𝓤 σs (back τs σs bs) ∷ Γ) G → Sq 𝓛 (Rooms 𝓤 (τs ++ σs) bs ∷ Γ) G
-  rooms-apart [] σs bs k = nothing ! $ k
-  rooms-apart (τ ∷ τs) σs bs k = split ! $ move ! (1 ∷ []) $ rooms-apart τs σs bs.1 (move ! (2 ∷ 0 ∷ []) $ join ! $ k)
-
-  rooms-together : (τs σs : List S.Ty) (bs : CellBlocks (τs ++ σs)) {Γ : List (Item 𝓤)} {G : Goal 𝓤 H} → Sq 𝓛 (Rooms 𝓤 (τs ++ σs) bs ∷ Γ) G → Sq 𝓛 (Rooms 𝓤 τs (front_blocks τs σs bs) ∷ Rooms 𝓤 σs (back τs σs bs) ∷ Γ) G
-  rooms-together [] σs bs k = drop ! $ k
-  rooms-together (τ ∷ τs) σs bs k = split ! $ move ! (1 ∷ 2 ∷ []) $ rooms-together τs σs bs.1 (move ! (1 ∷ 0 ∷ []) $ join ! $ k)
 
 module _ {T R O : RattleType} {t : Valued T} {r : Valued R} (o : Outcome t r O) (j : Joins o) where
   abbrev out-ty : S.Ty
@@ -95,10 +86,12 @@ module _ {T R O : RattleType} {t : Valued T} {r : Valued R} (o : Outcome t r O) 
     abbrev joining : S.Body
     joining = S.seq (S.assign (S.place at_x []) (S.rv_opd (S.copy (S.place at-m [])))) (S.seq (S.assign (S.place 0 []) (S.aggregate (S.copy (S.place (suc at-m) []) ∷ S.copy (S.place at_x []) ∷ []))) S.return)
 
-    abbrev pub taking_fn : ℕ → S.Name → S.Fn
+    abbrev pub taking_fn : ℕ → S.Callee → S.Fn
     taking_fn n key = record {
       lifetimes = n;
       outlives = [];
+      ty_params = [];
+      givens = 0;
       params = past (handed_types ks) 1;
       locals = map here (out-ty ∷ t.ty ∷ handed_types ks) ++ (S.local t.ty S.memory_slot ∷ map here lasting);
       body = S.seq (S.assign (S.place at-m []) (S.rv_opd (S.copy (S.place 1 [])))) (S.seq (S.assign (S.place (suc (suc at-m)) []) (S.addr_of (S.place at-m [])))
@@ -193,7 +186,7 @@ module _ {T R O : RattleType} {t : Valued T} {r : Valued R} (o : Outcome t r O) 
       abbrev Reached : ℕ → GName → ℕ → T.Denot → Fml → Fml
       Reached α γ b h Owns = fsep ((MutRef (named 0) (α ∷ []) T).own_val (record { ref_ptr = (b, zero); ghost_name = γ; now = h }) (vptr b zero ∷ [])) Owns
 
-      pub takes-lent : (h : T.Denot) (Owns : Fml) → MachsFit ks ms → FmC 𝓤 H 𝓛.laws C → (n : ℕ) (key : S.Name)
+      pub takes-lent : (h : T.Denot) (Owns : Fml) → MachsFit ks ms → FmC 𝓤 H 𝓛.laws C → (n : ℕ) (key : S.Callee)
           → ((α : ℕ) (γ : GName) (b : ℕ) → ent 𝓤 (sep 𝓤 (sep 𝓤 (A.lft (α ∷ []) full_share) Tok) (sem 𝓛 (Reached α γ b h Owns))) (C key (vptr b zero ∷ vals_of ks ms) (Leaves o 𝓛 Tok Z Lasts Q γ (α ∷ []) full_share)))
           → ent 𝓤 (sep 𝓤 Tok (sem 𝓛 (fsep (T.own_val h (t.val h ∷ [])) Owns))) (WpFn 𝓤 H C Λ (taking_fn ks n key) (t.val h ∷ vals_of ks ms) (Left o 𝓛 Tok Z Lasts Q))
       takes-lent h Owns fits fm n key met =
@@ -217,7 +210,7 @@ module _ {T R O : RattleType} {t : Valued T} {r : Valued R} (o : Outcome t r O) 
 
 -- ---- the same by a signature: where `f`, at the key, meets its contract over a reference, at whatever lifetime and name it is lent
 module _ {T R O : RattleType} {t : Valued T} {r : Valued R} (o : Outcome t r O) (j : Joins o) {n : ℕ} (ss : List (Slot n)) (ps : SlotsPass ss)
-    {M : Type 1} {𝓤 : Ura M} (𝓛 : Logic 𝓤) (C : Calls 𝓤 𝓛.H) (Λ : Loops 𝓤 𝓛.H) (fm : FmC 𝓤 𝓛.H 𝓛.laws C) (key : S.Name) where
+    {M : Type 1} {𝓤 : Ura M} (𝓛 : Logic 𝓤) (C : Calls 𝓤 𝓛.H) (Λ : Loops 𝓤 𝓛.H) (fm : FmC 𝓤 𝓛.H 𝓛.laws C) (key : S.Callee) where
   open 𝓛 use {H, A}
 
   abbrev signature : Signature
@@ -232,6 +225,17 @@ module _ {T R O : RattleType} {t : Valued T} {r : Valued R} (o : Outcome t r O) 
     Known = (α : ℕ) (γ : GName) (b : ℕ) (vss : Valss (types_at ss κs))
         → ent 𝓤 (sep 𝓤 (sep 𝓤 (A.lft (α ∷ []) full_share) Tokens) (sem 𝓛 (fsep ((MutRef (named 0) (α ∷ []) T).own_val (record { ref_ptr = (b, zero); ghost_name = γ; now = a.0 }) (vptr b zero ∷ [])) (owns (types_at ss κs) a.1 vss))))
         (C key (vptr b zero ∷ flat (types_at ss κs) vss) (Leaves o 𝓛 Tokens Z Lasts Q γ (α ∷ []) full_share))
+
+    -- `f` hands the borrow back too, closed, as its contract says
+    abbrev pub KnownClosed : Type 1
+    KnownClosed = (α : ℕ) (γ : GName) (b : ℕ) (vss : Valss (types_at ss κs))
+        → ent 𝓤 (sep 𝓤 (sep 𝓤 (A.lft (α ∷ []) full_share) Tokens) (sem 𝓛 (fsep ((MutRef (named 0) (α ∷ []) T).own_val (record { ref_ptr = (b, zero); ghost_name = γ; now = a.0 }) (vptr b zero ∷ [])) (owns (types_at ss κs) a.1 vss))))
+        (C key (vptr b zero ∷ flat (types_at ss κs) vss) (LeavesClosed o 𝓛 Tokens Z Lasts Q b zero γ (α ∷ []) full_share))
+
+    pub known : KnownClosed → Known
+    known h α γ b vss =
+        via 𝓤 (C key (vptr b zero ∷ flat (types_at ss κs) vss) (LeavesClosed o 𝓛 Tokens Z Lasts Q b zero γ (α ∷ []) full_share)) (h α γ b vss)
+        (fm→mono_c 𝓤 H 𝓛.laws C fm key (vptr b zero ∷ flat (types_at ss κs) vss) _ _ (closed-leaves o 𝓛 Tokens Z Lasts Q b zero γ (α ∷ []) full_share))
 
     pub taken_at : (vss : Valss (types_at signature.params κs)) → Known
         → ent 𝓤 (sep 𝓤 (on_entry 𝓛 signature κs qs a vss) (emp 𝓤)) (WpFn 𝓤 H C Λ (taking_fn o j (slot_kinds ss ps) n key) (flat (types_at signature.params κs) vss) (Left o 𝓛 Tokens Z Lasts Q))
