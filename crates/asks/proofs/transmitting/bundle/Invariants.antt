@@ -8,7 +8,7 @@ use Rattle.calls.specs.Transmit.{added_chosen}
 use Rattle.asks.proofs.transmitting.bundle.Given as goal
 
 abbrev pub invariant-loop-k : goal.invariant-loop-k
-invariant-loop-k l = Folding (added_chosen l.area l.count (places_of rail l.places)) (record { l.at = 12; l.out = l.initial.out }) l.chosen 26 l.k (record { l.at = l.at; l.out = l.out }) × (l.at ≤ length l.out) × (length l.out ≡ length l.initial.out) × (l.at ≤ 12 + 65532 * l.k)
+invariant-loop-k l = Folding (added_chosen l.area l.count (places_of rail l.places)) (record { at = 12; out = l.initial.out }) l.chosen 26 l.k (record { at = l.at; out = l.out }) × (l.at ≤ length l.out) × (length l.out ≡ length l.initial.out) × (l.at ≤ 12 + 65532 * l.k)
 
 abbrev pub decreases-loop-k : goal.decreases-loop-k
 decreases-loop-k l = 26 - l.k
