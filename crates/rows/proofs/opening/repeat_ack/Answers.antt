@@ -10,8 +10,8 @@ use Rattle.rows.proofs.opening.repeat_ack.Goals as goal
 
 pub returns-then-is_poor : goal.returns-then-is_poor
 unfolding repeat_ack
-returns-then-is_poor c = rw (← c.read_init.ensures, ← c.is_poor.ensures, c.if-is_poor.taken) (row-quiet-told c.args.space.now (refused (bare c.args.head) 8 NoCall) refl c.refused.ensures)
+returns-then-is_poor c = rw (← c.read_init.ensures, ← c.is_poor.ensures, c.if-is_poor.true) (row-quiet-told c.args.space.now (refused (bare c.args.head) 8 NoCall) refl c.refused.ensures)
 
 pub returns : goal.returns
 unfolding repeat_ack
-returns c = rw (← c.read_init.ensures, ← c.is_poor.ensures, c.if-is_poor.left) (row-written-told (accepted (bare c.args.head) NoEvent shutdown_ack_bytes) c.write_shutdown_ack-n.ensures c.accepted.ensures)
+returns c = rw (← c.read_init.ensures, ← c.is_poor.ensures, c.if-is_poor.false) (row-written-told (accepted (bare c.args.head) NoEvent shutdown_ack_bytes) c.write_shutdown_ack-n.ensures c.accepted.ensures)
