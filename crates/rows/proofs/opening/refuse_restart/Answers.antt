@@ -14,6 +14,9 @@ use Rattle.rows.proofs.opening.refuse_restart.Goals as goal
 pub slice_bounds-write_caused-count : goal.slice_bounds-write_caused-count
 slice_bounds-write_caused-count c = search (rules, wrote-within c.write_shutdown_ack-n.ensures)
 
+pub slice_bounds-write_caused-start : goal.slice_bounds-write_caused-start
+slice_bounds-write_caused-start c = search (rules, wrote-within c.write_shutdown_ack-n.ensures)
+
 pub overflow_add-n : goal.overflow_add-n
 overflow_add-n c = search (rules, few c.write_shutdown_ack-n.ensures shut-short, few c.write_caused-k.ensures shutting-short)
 
