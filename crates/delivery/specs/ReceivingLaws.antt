@@ -23,7 +23,7 @@ use Rattle.numbers.specs.KeepingRoomLaws.{count-numbers, any-numbers, length-num
 use Rattle.scans.specs.declared.Found.{Found}
 use Rattle.scans.specs.declared.Found.TheVariants.{At, Nothing}
 use Rattle.scans.specs.Scan.{pick, tick, count, any, find_from, find-within}
-use Rattle.scans.specs.Each.{All, all_set, clash, found_at, if-not}
+use Rattle.scans.specs.Each.{All, all_set, clash, found-at, if-not}
 use Rattle.holding.specs.declared.held.Held.{Held}
 use Rattle.holding.specs.declared.taking.Took.{Took}
 use Rattle.holding.specs.Held.{no_held, is_held_free, holds, any-holds}
@@ -164,7 +164,7 @@ module _ (T : Numbering) (P : Profile) (r : Receiving) (h : Held) (w : Receiving
             → (i : ℕ) × (find_from is_held_free 0 r.held ≡ At i) × (i < length r.held) × ((get_or r.held i no_held).used ≡ false)
         go Nothing e = absurd (omega (arith, full r.held 0 e, some-free))
         go (At i) e =
-            (i, e, rw (zero-add (length r.held)) at (find-within is_held_free r.held 0 i e), not-true (get_or r.held i no_held).used (found_at is_held_free no_held r.held i e))
+            (i, e, rw (zero-add (length r.held)) at (find-within is_held_free r.held 0 i e), not-true (get_or r.held i no_held).used (found-at is_held_free no_held r.held i e))
 
     -- the number comes, and nothing is held
     pub passed-sound : ReceivingSound T P (stray_passed T P r h.tsn.0)

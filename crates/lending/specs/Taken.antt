@@ -232,8 +232,8 @@ module _ {T R O : RattleType} {t : Valued T} {r : Valued R} (o : Outcome t r O) 
         → ent 𝓤 (sep 𝓤 (sep 𝓤 (A.lft (α ∷ []) full_share) Tokens) (sem 𝓛 (fsep ((MutRef (named 0) (α ∷ []) T).own_val (record { ref_ptr = (b, zero); ghost_name = γ; now = a.0 }) (vptr b zero ∷ [])) (owns (types_at ss κs) a.1 vss))))
         (C key (vptr b zero ∷ flat (types_at ss κs) vss) (LeavesClosed o 𝓛 Tokens Z Lasts Q b zero γ (α ∷ []) full_share))
 
-    pub known : KnownClosed → Known
-    known h α γ b vss =
+    pub known-closed : KnownClosed → Known
+    known-closed h α γ b vss =
         via 𝓤 (C key (vptr b zero ∷ flat (types_at ss κs) vss) (LeavesClosed o 𝓛 Tokens Z Lasts Q b zero γ (α ∷ []) full_share)) (h α γ b vss)
         (fm→mono_c 𝓤 H 𝓛.laws C fm key (vptr b zero ∷ flat (types_at ss κs) vss) _ _ (closed-leaves o 𝓛 Tokens Z Lasts Q b zero γ (α ∷ []) full_share))
 

@@ -14,7 +14,7 @@ use Rattle.std.proofs.Math.ListN.{get_or-map}
 use Rattle.scans.specs.declared.Found.{Found}
 use Rattle.scans.specs.declared.Found.TheVariants.{At, Nothing}
 use Rattle.scans.specs.Scan.{pick, find_from, fold_from}
-use Rattle.scans.specs.Each.{All, all_map, all-at, all_of, count_map, find-map, any-map, set-map, if-not, if-so, clash, found_at, replicate-kept}
+use Rattle.scans.specs.Each.{All, all_map, all-at, all_of, count_map, find-map, any-map, set-map, if-not, if-so, clash, found-at, replicate-kept}
 use Rattle.numbers.specs.declared.circle.Tsn.{Tsn}
 use Rattle.numbers.specs.declared.circle.Ssn.{Ssn}
 use Rattle.numbers.specs.Circle.{ssn0}
@@ -163,7 +163,7 @@ module _ (P : Profile) (h k : ℕ) where
           step Nothing e ih = refl
           step (At j) e ih =
               rw (down-at hs j)
-              (ih j (get_or hs j no_held) (all-at Good hs j no_held none-good ws) (continues-used first _ _ (found_at p1 no_held hs j e)))
+              (ih j (get_or hs j no_held) (all-at Good hs j no_held none-good ws) (continues-used first _ _ (found-at p1 no_held hs j e)))
 
     -- ---- the choice of a message
 

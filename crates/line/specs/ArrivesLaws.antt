@@ -14,7 +14,7 @@ use Rattle.scans.specs.declared.Found.{Found}
 use Rattle.scans.specs.declared.Found.TheVariants.{At, Nothing}
 use Rattle.scans.specs.Scan.{pick, any, find_from, bit_le, find-within}
 use Rattle.scans.specs.CountsLaws.{count_set}
-use Rattle.scans.specs.Each.{all_set, clash, neither, found_at}
+use Rattle.scans.specs.Each.{all_set, clash, neither, found-at}
 use Rattle.numbers.specs.declared.circle.Tsn.{Tsn}
 use Rattle.numbers.specs.declared.circle.Ssn.{Ssn}
 use Rattle.numbers.specs.declared.circle.Judgement.{Judgement}
@@ -23,7 +23,7 @@ use Rattle.numbers.specs.declared.keeping.Keeping.{Keeping}
 use Rattle.numbers.specs.Numbering.{line, lines, on}
 use Rattle.numbers.specs.Profile.{Profile}
 use Rattle.numbers.specs.Come.{run, shift}
-use Rattle.numbers.specs.ComeLaws.{run_at, shift-at, length_shift}
+use Rattle.numbers.specs.ComeLaws.{run-at, shift-at, length_shift}
 use Rattle.numbers.specs.Keeping.{offset_of, is_come, with_come, keeping_settled, marked_come, listed}
 use Rattle.numbers.specs.KeepingLaws.{OffsetSays, judged-offset, listed-point}
 use Rattle.holding.specs.declared.held.Chunk.{Chunk}
@@ -53,7 +53,7 @@ settle-came base p come m = go (dec_lt m base) (dec_le m p) (dec_le m (p + run c
     go (no l) (yes a) b = came-past base (p + run come) _ m (omega arith) (omega arith) ∙ sym (came-past base p come m (omega arith) a)
     go (no l) (no a) (yes b) =
         came-past base (p + run come) _ m (omega arith) b
-        ∙ sym (came-ahead base p come m (omega arith) (omega arith) ∙ run_at come (m - suc p) (omega arith))
+        ∙ sym (came-ahead base p come m (omega arith) (omega arith) ∙ run-at come (m - suc p) (omega arith))
     go (no l) (no a) (no b) =
         let e : run come + (m - suc (p + run come)) ≡ m - suc p = omega arith in
         came-ahead base (p + run come) _ m (omega arith) (omega arith)
@@ -132,7 +132,7 @@ module _ {P : Profile} {base streams : ℕ} {chunk : ℕ → Chunk} {size : ℕ 
     here = rw (zero-add (length hs)) at (find-within is_held_free hs 0 i free)
 
     empty : (get_or hs i no_held).used ≡ false
-    empty = not-true (get_or hs i no_held).used (found_at is_held_free no_held hs i free)
+    empty = not-true (get_or hs i no_held).used (found-at is_held_free no_held hs i free)
 
     copies' : (m : ℕ) → copies hs' m ≡ copies hs m + bit (eqb n m)
     copies' m =

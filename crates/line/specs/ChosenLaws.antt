@@ -15,7 +15,7 @@ use mir.Val.{bool_byte as bit}
 use Rattle.scans.specs.declared.Found.{Found}
 use Rattle.scans.specs.declared.Found.TheVariants.{At, Nothing}
 use Rattle.scans.specs.Scan.{pick, find_from, fold_from}
-use Rattle.scans.specs.Each.{All, all-at, clash, found_at}
+use Rattle.scans.specs.Each.{All, all-at, clash, found-at}
 use Rattle.numbers.specs.declared.circle.Ssn.{Ssn}
 use Rattle.numbers.specs.Numbering.{line, lines, on, key, key-line}
 use Rattle.numbers.specs.Profile.{Profile}
@@ -26,7 +26,7 @@ use Rattle.holding.specs.Message.{Run, broken, whole, Choice, none, one, is_of_o
 use Rattle.holding.specs.MessageLaws.{continues-holds}
 use Rattle.holding.specs.Taking.{emptied}
 use Rattle.line.specs.Runs.{copies}
-use Rattle.line.specs.CountLaws.{copies-cons, copies-nil, copies-set, copies_at, place_of, holds-none}
+use Rattle.line.specs.CountLaws.{copies-cons, copies-nil, copies-set, copies_at, place-of, holds-none}
 use Rattle.line.specs.Sender.{HonestSender}
 
 -- ---- small things
@@ -228,7 +228,7 @@ module _ (P : Profile) (base streams : ℕ) (chunk : ℕ → Chunk) (size : ℕ 
       next-is : (f i j : ℕ) → holds f (at i) ≡ true → find_from (continues first (on line (at i).tsn.0 1)) 0 hs ≡ At j → holds (suc f) (at j) ≡ true
       next-is f i j e q =
           let t : on line (at i).tsn.0 1 ≡ suc f = on_one (at i).tsn.0 ∙ ap suc (is_held f (at i) e).1 in
-          rw t at (continues-holds first _ (at j) (found_at _ no_held hs j q))
+          rw t at (continues-holds first _ (at j) (found-at _ no_held hs j q))
 
       -- a whole message
       pub follow-whole : (more f i : ℕ) (is : List ℕ) → holds f (at i) ≡ true → follow line hs first more i (at i) ≡ whole is
@@ -296,7 +296,7 @@ module _ (P : Profile) (base streams : ℕ) (chunk : ℕ → Chunk) (size : ℕ 
           go : Dec (0 < copies hs (suc f)) → copies hs (suc f) ≡ 0
           go (no n) = omega arith
           go (yes n) =
-              let p = place_of hs (suc f) n in
+              let p = place-of hs (suc f) n in
               let h = is_held (suc f) (at p.0) p.2 in
               let r : at p.0 ≡ as_held (chunk (suc f)) (size (suc f)) = (real-at p.0 (suc f) p.2).1 in
               absurd

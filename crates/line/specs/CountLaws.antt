@@ -102,10 +102,10 @@ below-le hs a = count_most (is_below a) hs
 
 -- ---- places
 
-pub place_of : (hs : List Held) (n : ℕ) → 1 ≤ copies hs n → (i : ℕ) × (i < length hs) × (holds n (get_or hs i no_held) ≡ true)
+pub place-of : (hs : List Held) (n : ℕ) → 1 ≤ copies hs n → (i : ℕ) × (i < length hs) × (holds n (get_or hs i no_held) ≡ true)
 unfolding copies
-place_of [] n h = absurd (omega arith)
-place_of (x ∷ hs) n h = go (holds n x) refl (place_of hs n)
+place-of [] n h = absurd (omega arith)
+place-of (x ∷ hs) n h = go (holds n x) refl (place-of hs n)
   where
     go : (t : Bool) → holds n x ≡ t → (1 ≤ copies hs n → (i : ℕ) × (i < length hs) × (holds n (get_or hs i no_held) ≡ true))
         → (i : ℕ) × (i < suc (length hs)) × (holds n (get_or (x ∷ hs) i no_held) ≡ true)

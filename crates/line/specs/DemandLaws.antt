@@ -13,7 +13,7 @@ use Rattle.scans.specs.declared.Found.{Found}
 use Rattle.scans.specs.declared.Found.TheVariants.{At, Nothing}
 use Rattle.scans.specs.Scan.{pick, tick, count, any, find_from, find-within}
 use Rattle.scans.specs.CountsLaws.{tick-bit, count_none, count_set}
-use Rattle.scans.specs.Each.{found_at, after-not}
+use Rattle.scans.specs.Each.{found-at, after-not}
 use Rattle.numbers.specs.declared.circle.Tsn.{Tsn}
 use Rattle.numbers.specs.declared.keeping.Keeping.{Keeping}
 use Rattle.numbers.specs.declared.circle.Judgement.TheVariants.{AheadWithin}
@@ -282,7 +282,7 @@ module _ {P : Profile} {base streams : ℕ} {chunk : ℕ → Chunk} {size : ℕ 
       go Nothing e q = absurd (omega (arith, q, not-held))
       go (At i) e q =
           omega
-          (arith, count_set is_held_free no_held r.held i c (omega (arith, find-within is_held_free r.held 0 i e)), ap bit (found_at is_held_free no_held r.held i e))
+          (arith, count_set is_held_free no_held r.held i c (omega (arith, find-within is_held_free r.held 0 i e)), ap bit (found-at is_held_free no_held r.held i e))
 
   window-less : (acknowledged_receiving P (arrived lines P r (as_held (chunk j) (size j)) streams).receiving).sack.window + P.payload ≡ (acknowledged_receiving P r).sack.window
   unfolding acknowledged_receiving receiving_sack

@@ -28,7 +28,7 @@ use Rattle.delivery.specs.declared.receiving.Receiving.{Receiving}
 use Rattle.delivery.specs.declared.receiving.Taken.{Taken as Left}
 use Rattle.delivery.specs.Receiving.{taken_by, taken_into}
 use Rattle.line.specs.Runs.{copies, chunks_handed_by, chunks_handed, is_ordered_in, ssn_of}
-use Rattle.line.specs.CountLaws.{bit-ge, copies-nil, below, is_below, below_suc, below-run, below-mono, below-le, count-empty, place_of}
+use Rattle.line.specs.CountLaws.{bit-ge, copies-nil, below, is_below, below_suc, below-run, below-mono, below-le, count-empty, place-of}
 use Rattle.line.specs.Sender.{HonestSender, agreed-few, starts, starts-at, ordinal, ordinal-lt}
 use Rattle.line.specs.ChosenLaws.{Real, Spanning, inside, inside-yes, inside_under, inside-over, inside_is, copies-emptied, copies-chunks, spanning-at, spanning-some, MessageReady, MessageChosen, AtMost, real-at, follow-whole, follow-broken, Lacks, Of, chosen-won, chosen-least}
 use Rattle.line.specs.LineSoundLaws.{LineSound, came, came-past, came-within, came-room, held-within, expected-least}
@@ -377,7 +377,7 @@ module _ {P : Profile} {base streams : ℕ} {chunk : ℕ → Chunk} {size : ℕ 
 
           go : Dec (p < least) → n < l.at + P.places
           go (yes m) = omega (arith, held-within send s n w.0, l.high)
-          go (no m) = found (place_of hs least (omega (arith, held (omega arith))))
+          go (no m) = found (place-of hs least (omega (arith, held (omega arith))))
             where
               found : (i : ℕ) × (i < length hs) × (holds least (get_or hs i no_held) ≡ true) → n < l.at + P.places
               found q = run (follow line hs (get_or hs q.0 no_held) P.places q.0 (get_or hs q.0 no_held)) refl

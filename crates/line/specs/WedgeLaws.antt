@@ -21,7 +21,7 @@ use Rattle.delivery.specs.Receiving.{low_of}
 use Rattle.delivery.specs.Arrival.{is_wedged}
 use Rattle.line.specs.Runs.{copies}
 use Rattle.line.specs.Sender.{HonestSender}
-use Rattle.line.specs.CountLaws.{below, below_suc, below_span, place_of}
+use Rattle.line.specs.CountLaws.{below, below_suc, below_span, place-of}
 use Rattle.line.specs.ChosenLaws.{AtMost, follow-broken, Lacks, chosen-least}
 use Rattle.line.specs.LineSoundLaws.{came, came-past, held-within, low_below}
 use Rattle.line.specs.ArrivesLaws.{SoundOf}
@@ -79,7 +79,7 @@ module _ {P : Profile} {base streams : ℕ} {chunk : ℕ → Chunk} {size : ℕ 
 
     -- the least is held
     here : (i : ℕ) × (i < length hs) × (holds least (get_or hs i no_held) ≡ true)
-    here = place_of hs least (omega (arith, s.once least, s.stays, ap bit (came-past base p r.keeping.come least s.from low)))
+    here = place-of hs least (omega (arith, s.once least, s.stays, ap bit (came-past base p r.keeping.come least s.from low)))
 
     not-broken : Lacks P base streams chunk size send hs s.real (get_or hs here.0 no_held) least P.places → ⊥
     not-broken w = go w.lack

@@ -13,7 +13,7 @@ use Rattle.scans.specs.declared.Found.{Found}
 use Rattle.scans.specs.declared.Found.TheVariants.{At, Nothing}
 use Rattle.scans.specs.Scan.{pick, count, find_from}
 use Rattle.scans.specs.CountsLaws.{count_most, count_set, count_at}
-use Rattle.scans.specs.Each.{All, clash, after-so, after-not, found_at}
+use Rattle.scans.specs.Each.{All, clash, after-so, after-not, found-at}
 use Rattle.numbers.specs.Numbering.{Numbering, on}
 use Rattle.numbers.specs.Profile.{Profile}
 use Rattle.numbers.specs.KeepingRoomLaws.{numbers_of, count-numbers, distinct-once}
@@ -264,7 +264,7 @@ module _ (T : Numbering) (hs : List Held) where
       rest n ih (At j) a b = tail (follow T hs first more j (at j)) refl b
         where
           c : Continues first (on T (at i).tsn.0 1) (at j)
-          c = continues-is first _ (at j) (found_at _ no_held hs j a)
+          c = continues-is first _ (at j) (found-at _ no_held hs j a)
 
           tail : (r : Run) → follow T hs first more j (at j) ≡ r → led i r ≡ whole is → (js : List ℕ) × (is ≡ i ∷ js) × Leads first (i ∷ js)
           tail broken e d = no_run d

@@ -10,7 +10,7 @@ use Rattle.places.specs.declared.sack.Sack.{Sack}
 use Rattle.places.specs.Places.{being, has_status, flight_of, window_payload, outstanding_offset, is_outstanding, is_sent, place_offset, is_empty, tallied, marked_for_resend, gets, reaches_three, missed, missed_all}
 use Rattle.places.specs.SackBlocks.{is_blocked}
 use Rattle.places.specs.Sack.{place_settled, is_newly, newly_bytes, newly_offset, sack_taken_in}
-use Rattle.places.specs.PlacesLaws.{unsent, flight-other, settled-unsent}
+use Rattle.places.specs.PlacesLaws.{unsent, settled-unsent}
 
 -- ---- as sums
 
@@ -102,7 +102,8 @@ module _ (p : Place) (h : p.status ≡ 0) where
   free-idle = rw (ne_eqb p.status 2 (λ e. omega arith)) (ne_eqb p.status 3 (λ e. omega arith))
 
   pub free-light : flight_of p ≡ 0
-  free-light = flight-other p (ne_eqb p.status 2 (λ e. omega arith))
+  unfolding flight_of
+  free-light = rw (ne_eqb p.status 2 (λ e. omega arith))
 
   pub free-last : (from : Tsn) → outstanding_offset from p ≡ 0
   unfolding outstanding_offset
