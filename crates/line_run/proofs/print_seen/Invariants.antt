@@ -6,4 +6,4 @@ abbrev pub invariant-loop-k : goal.invariant-loop-k
 invariant-loop-k l = Unit
 
 abbrev pub decreases-loop-k : goal.decreases-loop-k
-decreases-loop-k l = 32 - k
+decreases-loop-k l = 32 - l.k

@@ -4,7 +4,7 @@ use lib.ListN.{length}
 use Rattle.vectors_packets.proofs.many.Given as goal
 
 abbrev pub invariant-loop-at : goal.invariant-loop-at
-invariant-loop-at l = length l.at ≡ 1472
+invariant-loop-at l = length l.buf ≡ 1472
 
 abbrev pub decreases-loop-at : goal.decreases-loop-at
-decreases-loop-at l = 1472 - at
+decreases-loop-at l = 1472 - l.at
