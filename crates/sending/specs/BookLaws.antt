@@ -1,29 +1,23 @@
 -- The book that a record keeps to: nothing that happens changes it, and what it decides is growth, halving and T3 alone. Assumes nothing.
-use Rattle.std.specs.Prelude.{◌≡◌, ℕ, ◌^◌, ◌≤◌, Bool, true, false, ◌==◌, refl}
-use Rattle.std.proofs.Common.{ap, ◌∙◌, le-ltb}
+use Rattle.std.specs.Prelude.{◌≡◌, ℕ, ◌≤◌, Bool, true, ◌==◌, refl}
+use Rattle.std.proofs.Common.{◌∙◌, le-ltb}
 use Rattle.numbers.specs.declared.circle.Tsn.{Tsn}
 use Rattle.numbers.specs.declared.circle.StreamId.{StreamId}
-use Rattle.numbers.specs.Numbering.{ring, on}
 use Rattle.numbers.specs.Profile.{Profile}
-use Rattle.scans.specs.Scan.{pick}
 use Rattle.scans.specs.Upto.{pick-keeps, run-keeps}
-use Rattle.path.specs.Sizes.{Sizes, rail_sizes, book_sizes, sizes_of}
-use Rattle.path.specs.declared.path.Path.{Path}
-use Rattle.path.specs.declared.control.Control.{Control}
+use Rattle.path.specs.Sizes.{Sizes, rail_sizes, sizes_of}
 use Rattle.path.specs.Path as way
-use Rattle.path.specs.PathLaws.{path-same-sampled, same-backed, ended-control, rested-left, struck-none, unmoved-grew, heard-control}
+use Rattle.path.specs.PathLaws.{path-same-sampled, same-backed}
 use Rattle.places.specs.declared.place.Place.{Place}
 use Rattle.places.specs.declared.sack.Sack.{Sack}
-use Rattle.places.specs.declared.all.Missed.{Missed}
-use Rattle.places.specs.Places.{is_marked, missed_all, tallied}
-use Rattle.places.specs.Sack.{sack_taken_in}
+use Rattle.places.specs.Places.{is_marked}
 use Rattle.sending.specs.declared.sending.Sending.{Sending}
 use Rattle.sending.specs.declared.acknowledging.Answer.{Answer}
 use Rattle.sending.specs.declared.choosing.Chosen.{Chosen}
 use Rattle.sending.specs.declared.expiring.Expiry.{Expiry}
 use Rattle.sending.specs.Sending.{fresh_sending, moded, has_outstanding, sending_sampled, sending_backed_off, sending_heard}
 use Rattle.sending.specs.SendingBounds.{is_successive, is_bounded, is_sending_within}
-use Rattle.sending.specs.Acknowledge.{judged_point, is_moved, limit_of, is_closed_window, probe_answered, path_after, sack_accepted, acknowledged_sending, shut_of, shutdown_point}
+use Rattle.sending.specs.Acknowledge.{judged_point, sack_accepted, acknowledged_sending, shut_of, shutdown_point}
 use Rattle.sending.specs.Expiry.{overdue, sending_expired}
 use Rattle.sending.specs.HandIn.{refusal, waited, handed_in}
 use Rattle.sending.specs.Choose.{put, again, first_sent, sent, going, filling, fill_begun, packet_filled}
@@ -113,31 +107,3 @@ same-doubled m s = rw (same-backed m s.path)
 pub same-filled : (m : ℕ) (P : Profile) (s : Sending) → packet_filled (sizes_of m) P s ≡ packet_filled rail_sizes P s
 unfolding packet_filled fill_begun
 same-filled m P s = refl
-
--- ---- the older book
-
--- RFC 4960, section 7.2.2: a SACK that does not move the point leaves cwnd, ssthresh and partial bytes, unless a chunk reaches three misses by it
--- or it leaves nothing outstanding
-pub unmoved-after : (p : Path) (newly : ℕ) (last point : Tsn) → (path_after book_sizes p newly false false last true point).control ≡ p.control
-unfolding path_after
-unmoved-after p newly last point =
-    ended-control _ point
-    ∙ (ap (λ (q : Path). q.control) (rested-left _)
-    ∙ (ap (λ (q : Path). q.control) (struck-none book_sizes _ last)
-    ∙ unmoved-grew p newly))
-
-answered-control : (p : Path) (k : Sack) → (probe_answered p k).control ≡ p.control
-unfolding probe_answered
-answered-control p k = pick-keeps (λ (q : Path). q.control ≡ p.control) (is_closed_window k) _ _ (heard-control p) refl
-
-module _ (s : Sending) (k : Sack) where
-  abbrev missed_by : Missed
-  missed_by = missed_all s.acked (limit_of s k (sack_taken_in k s.acked s.places).highest) (sack_taken_in k s.acked s.places).places
-
-  pub old-unmoved : is_moved s.acked k.point ≡ false → missed_by.struck ≡ false → (tallied s.acked missed_by.places).left ≡ true
-      → (sack_accepted book_sizes s k).path.control ≡ s.path.control
-  unfolding sack_accepted
-  old-unmoved e f g =
-      rw (e, f, g)
-      (unmoved-after (probe_answered s.path k) (sack_taken_in k s.acked s.places).newly (record { 0 = on (ring (2 ^ 32)) s.acked.0 (tallied s.acked missed_by.places).last }) k.point
-      ∙ answered-control s.path k)

@@ -5,20 +5,17 @@ use Rattle.numbers.specs.declared.circle.Tsn.{Tsn}
 use Rattle.numbers.specs.declared.circle.StreamId.{StreamId}
 use Rattle.numbers.specs.Profile.{Profile}
 use Rattle.path.specs.Sizes.{Sizes, SizesFair, rail_sizes, sizes_of}
-use Rattle.places.specs.declared.sack.Sack.{Sack}
 use Rattle.sending.specs.declared.sending.Sending.{Sending}
 use Rattle.sending.specs.Sending.{fresh_sending, sending_sampled, sending_backed_off, sending_heard}
 use Rattle.sending.specs.HandIn.{handed_in}
 use Rattle.sending.specs.Choose.{packet_filled}
-use Rattle.sending.specs.Acknowledge.{acknowledged_sending, shutdown_point}
 use Rattle.sending.specs.Expiry.{sending_expired}
 use Rattle.sending.specs.SendingBounds.{is_sending_within, SendingSound}
 use Rattle.sending.specs.SendingBoundsLaws.{sending-test-sound, sending-sound-test, same-within}
 use Rattle.sending.specs.SoundLaws.{fresh-sending-sound, sampled-sound, doubled-sound, heard-sound, expired-sound}
-use Rattle.sending.specs.AcknowledgeLaws.{acknowledged-sending-sound, shutdown-point-sound}
 use Rattle.sending.specs.ChooseSoundLaws.{filled-sound}
 use Rattle.sending.specs.HandInSoundLaws.{handed-sound}
-use Rattle.sending.specs.TypedLaws.{SendingWhole, fresh-whole, sampled-whole, doubled-whole, heard-whole, expired-whole, acknowledged-whole, shutdown-whole, filled-whole, handed-whole}
+use Rattle.sending.specs.TypedLaws.{SendingWhole, fresh-whole, sampled-whole, doubled-whole, heard-whole, expired-whole, filled-whole, handed-whole}
 
 -- a record as its types have it, that passes the test
 pub record SendingKept (z : Sizes) (P : Profile) (s : Sending) : Type 0 where
@@ -33,7 +30,7 @@ pub kept-rail : (m : ℕ) (P : Profile) (s : Sending) → SendingKept (sizes_of 
 kept-rail m P s k = record { whole = k.whole; within = sym (same-within m P s) ∙ k.within }
 
 module _ (z : Sizes) (P : Profile) where
-  whole-kept : (s : Sending) → SendingWhole P s → SendingSound z P s → SendingKept z P s
+  pub whole-kept : (s : Sending) → SendingWhole P s → SendingSound z P s → SendingKept z P s
   whole-kept s w v = record { whole = w; within = sending-sound-test z P s (omega (arith, w.long)) v }
 
   module _ (f : SizesFair z) where
@@ -41,7 +38,7 @@ module _ (z : Sizes) (P : Profile) where
     fresh_kept t window m b few h = whole-kept (fresh_sending z P t window m) (fresh-whole z P t window m few h) (fresh-sending-sound z P f t window m b h)
 
     module _ (s : Sending) (k : SendingKept z P s) where
-      sound : SendingSound z P s
+      pub sound : SendingSound z P s
       sound = sending-test-sound z P s k.within
 
       pub expired-kept : SendingKept z P (sending_expired z s).sending
@@ -55,14 +52,6 @@ module _ (z : Sizes) (P : Profile) where
 
       pub heard-kept : SendingKept z P (sending_heard s)
       heard-kept = whole-kept (sending_heard s) (heard-whole P s k.whole) (heard-sound z P f s sound)
-
-      pub acknowledged-kept : (v : Sack) → v.point.0 < 2 ^ 32 → SendingKept z P (acknowledged_sending z s v).sending
-      acknowledged-kept v h =
-          whole-kept (acknowledged_sending z s v).sending (acknowledged-whole P s k.whole z v h) (acknowledged-sending-sound z P f s sound k.whole.typed.circle v h)
-
-      pub shutdown-kept : (point : Tsn) → point.0 < 2 ^ 32 → SendingKept z P (shutdown_point z s point).sending
-      shutdown-kept point h =
-          whole-kept (shutdown_point z s point).sending (shutdown-whole P s k.whole z point h) (shutdown-point-sound z P f s sound k.whole.typed.circle point h)
 
       pub filled-kept : SendingKept z P (packet_filled z P s).sending
       filled-kept = whole-kept (packet_filled z P s).sending (filled-whole z P s sound k.whole) (filled-sound z P s sound k.whole.typed)

@@ -1,28 +1,26 @@
 -- Laws of the sending side: flight is the sum over its chunks, the path stays within its bounds, and what is refused leaves all. Assumes nothing.
-use Rattle.std.specs.Prelude.{◌≡◌, ℕ, zero, suc, ◌<◌, Bool, true, false, List, length, replicate, ◌==◌, nat_eq, nat_lt}
+use Rattle.std.specs.Prelude.{◌≡◌, ℕ, zero, suc, ◌<◌, Bool, true, false, List, length, replicate, ◌==◌, nat_eq}
 use Rattle.std.proofs.Math.Path.{refl}
-use Rattle.std.proofs.Common.{sym, ap, ◌∙◌, arith, eqb-true, eq-eqb, ne_eqb, lt-ltb}
+use Rattle.std.proofs.Common.{sym, ◌∙◌, arith, eqb-true, ne_eqb}
 use Rattle.numbers.specs.declared.circle.Tsn.{Tsn}
 use Rattle.numbers.specs.declared.circle.StreamId.{StreamId}
-use Rattle.numbers.specs.declared.keeping.Blocks.{Blocks}
-use Rattle.numbers.specs.Profile.{Profile, rail}
+use Rattle.numbers.specs.Profile.{Profile}
 use Rattle.scans.specs.Scan.{pick, total}
 use Rattle.scans.specs.Upto.{pick-keeps}
 use Rattle.path.specs.Sizes.{Sizes, SizesFair}
 use Rattle.path.specs.declared.path.Path.{Path}
-use Rattle.path.specs.Path.{is_over, path_heard}
-use Rattle.path.specs.PathLaws.{PathWithin, fresh-within, grew-keeps, struck-keeps, rested-keeps, ended-keeps, expired-keeps, sampled-within, backed-within, fresh-flight, sampled-flight, backed-flight, heard-flight, heard-within, grew-tries, heard-tries, struck-tries, rested-tries, ended-tries}
+use Rattle.path.specs.Path.{is_over}
+use Rattle.path.specs.PathLaws.{PathWithin, fresh-within, expired-keeps, sampled-within, backed-within, fresh-flight, sampled-flight, backed-flight, heard-flight}
 use Rattle.places.specs.declared.place.Place.{Place}
 use Rattle.places.specs.declared.sack.Sack.{Sack}
 use Rattle.places.specs.Places.{flight_of}
-use Rattle.places.specs.Sack.{sack_taken_in}
 use Rattle.places.specs.PlacesLaws.{tallied-flight, flight-other}
 use Rattle.sending.specs.declared.sending.Sending.{Sending}
 use Rattle.sending.specs.declared.cutting.Message.{Message}
 use Rattle.sending.specs.declared.acknowledging.Answer.{Answer}
 use Rattle.sending.specs.declared.expiring.Expiry.{Expiry}
 use Rattle.sending.specs.Sending.{fresh_sending, no_place, with_flight, has_outstanding, sending_sampled, sending_backed_off, sending_heard}
-use Rattle.sending.specs.Acknowledge.{judged_point, is_closed_window, probe_answered, path_after, sack_accepted, acknowledged_sending, whole_sack, shut_of, shutdown_point}
+use Rattle.sending.specs.Acknowledge.{judged_point, sack_accepted, acknowledged_sending, shut_of, shutdown_point}
 use Rattle.sending.specs.Expiry.{overdue, sending_expired}
 use Rattle.sending.specs.Carry.{carry-total}
 use Rattle.sending.specs.HandIn.{takes, waiting_at, message_laid_out, waited, refusal, handed_in, handed_in_area}
@@ -100,31 +98,13 @@ handed-sums P s len stream unordered ppid streams h =
 
 -- ---- cwnd, ssthresh, partial bytes, RTO and tries within their bounds
 
-with-flight : (z : Sizes) (p : Path) (n : ℕ) → PathWithin z p → PathWithin z (with_flight p n)
+pub with-flight : (z : Sizes) (p : Path) (n : ℕ) → PathWithin z p → PathWithin z (with_flight p n)
 with-flight z p n w = record { controlled = w.controlled; clocked = w.clocked; tried = w.tried }
 
 module _ (z : Sizes) (f : SizesFair z) where
   pub fresh-path : (P : Profile) (t : Tsn) (window m : ℕ) → PathWithin z (fresh_sending z P t window m).path
   unfolding fresh_sending
   fresh-path P t window m = fresh-within z f
-
-  after-within : (p : Path) (newly : ℕ) (moved struck : Bool) (last : Tsn) (left : Bool) (point : Tsn) → PathWithin z p
-      → PathWithin z (path_after z p newly moved struck last left point)
-  unfolding path_after
-  after-within p newly moved struck last left point w =
-      ended-keeps z f _ point (rested-keeps z f _ left (struck-keeps z f _ struck last (grew-keeps z f p newly moved w)))
-
-  answered-within : (p : Path) (k : Sack) → PathWithin z p → PathWithin z (probe_answered p k)
-  unfolding probe_answered
-  answered-within p k w = pick-keeps (PathWithin z) (is_closed_window k) _ p (heard-within z p w) w
-
-  pub accepted-path : (s : Sending) (k : Sack) → PathWithin z s.path → PathWithin z (sack_accepted z s k).path
-  unfolding sack_accepted
-  accepted-path s k w = with-flight z _ _ (after-within (probe_answered s.path k) _ _ _ _ _ _ (answered-within s.path k w))
-
-  pub acknowledged-path : (s : Sending) (k : Sack) → PathWithin z s.path → PathWithin z (acknowledged_sending z s k).sending.path
-  unfolding acknowledged_sending
-  acknowledged-path s k w = pick-keeps (λ (t : Sending). PathWithin z t.path) (judged_point s k == 0) (sack_accepted z s k) s (accepted-path s k w) w
 
   pub overdue-path : (s : Sending) → PathWithin z s.path → PathWithin z (overdue z s).path
   unfolding overdue
@@ -144,38 +124,6 @@ module _ (z : Sizes) (f : SizesFair z) where
   pub doubled-path : (s : Sending) → PathWithin z s.path → PathWithin z (sending_backed_off z s).path
   unfolding sending_backed_off
   doubled-path s w = backed-within z f s.path w
-
--- ---- the count of tries
-
-after-tries : (z : Sizes) (p : Path) (newly : ℕ) (moved struck : Bool) (last : Tsn) (left : Bool) (point : Tsn)
-    → (path_after z p newly moved struck last left point).tries ≡ pick (nat_lt 0 newly) 0 p.tries
-unfolding path_after
-after-tries z p newly moved struck last left point = ended-tries _ point ∙ (rested-tries _ left ∙ (struck-tries z _ struck last ∙ grew-tries z p newly moved))
-
-answered-tries : (p : Path) (k : Sack) → (probe_answered p k).tries ≡ pick (is_closed_window k) 0 p.tries
-unfolding probe_answered
-answered-tries p k = go (is_closed_window k)
-  where
-    go : (t : Bool) → (pick t (path_heard p) p).tries ≡ pick t 0 p.tries
-    go true = heard-tries p
-    go false = refl
-
--- an accepted SACK ends it in two ways, and no other
-pub accepted-tries : (z : Sizes) (s : Sending) (k : Sack)
-    → (sack_accepted z s k).path.tries ≡ pick (nat_lt 0 (sack_taken_in k s.acked s.places).newly) 0 (pick (is_closed_window k) 0 s.path.tries)
-unfolding sack_accepted
-accepted-tries z s k =
-    after-tries z (probe_answered s.path k) _ _ _ _ _ _ ∙ ap (pick (nat_lt 0 (sack_taken_in k s.acked s.places).newly) 0) (answered-tries s.path k)
-
--- RFC 9260, section 6.1 A: whatever else it says, where less than a full chunk is advertised
-pub closed-window-tries : (z : Sizes) (s : Sending) (point : Tsn) (window : ℕ) (blocks : Blocks) → judged_point s (whole_sack point window blocks) ≡ 0 → window < rail.payload
-    → (acknowledged_sending z s (whole_sack point window blocks)).sending.path.tries ≡ 0
-unfolding acknowledged_sending is_closed_window
-closed-window-tries z s point window blocks e h =
-    let newly : ℕ = (sack_taken_in (whole_sack point window blocks) s.acked s.places).newly in
-    rw (eq-eqb (judged_point s (whole_sack point window blocks)) 0 e)
-    (accepted-tries z s (whole_sack point window blocks)
-    ∙ (ap (λ (t : Bool). pick (nat_lt 0 newly) 0 (pick t 0 s.path.tries)) (lt-ltb window rail.payload h) ∙ pick-keeps (λ (n : ℕ). n ≡ 0) (nat_lt 0 newly) 0 0 refl refl))
 
 -- ---- what is refused leaves all
 
