@@ -64,5 +64,7 @@ module _ {A B : Type 0} (f g : A → B) where
   one_by_one [] e = tt
   one_by_one (x ∷ xs) e = (cc, one_by_one xs cc)
 
+-- computed again, so that a wrong row fails each of the two by itself
 pub each_holds : All (λ (c : Case). case_answered c.given ≡ c.expected) table
-each_holds = one_by_one (λ (c : Case). case_answered c.given) (λ (c : Case). c.expected) table cases-hold
+unfolding on_circle on before far judged fresh_keeping offset_of is_come keeping_settled marked_come listed runs blocks_laid_out blocks_of block_list holds fresh_receiving is_low low_of is_repeat is_wedged judgement_of contradicts contradicts_next clashes is_contradicted verdict_of duplicate_noted stray_passed kept_at_place arrived receiving_sack fresh_control halved collapsed fresh_clock timed clock_sampled clock_doubled fresh_path sampled_by path_expired
+each_holds = one_by_one (λ (c : Case). case_answered c.given) (λ (c : Case). c.expected) table refl

@@ -11,7 +11,7 @@ use Rattle.holding.specs.Held.{no_held, holds}
 use Rattle.holding.specs.Message.{one, is_of_one, continues, follow, is_left_end, is_due_at, is_expected, opens, better_message, chosen}
 use Rattle.meaning.specs.Meant.{IsFirst, Stored, HeldOn}
 use Rattle.meaning.specs.Given.{AreaFits}
-use Rattle.meaning.specs.MeantLaws.{chosen-first}
+use Rattle.meaning.proofs.MeantLaws.{chosen-first}
 
 -- a chunk of stream 0 with a payload of 3 bytes
 abbrev part : Bool → Bool → Bool → ℕ → Held

@@ -19,7 +19,7 @@ use Rattle.holding.specs.Held.{no_held}
 use Rattle.holding.specs.Message.{Choice, none, one, chosen}
 use Rattle.holding.specs.Taking.{take_number, len_at, length_of, payload_at, copied, took_by, took, written_by, written}
 use Rattle.meaning.specs.Meant.{CanBeTaken, IsFirst, Stored}
-use Rattle.meaning.specs.MeantLaws.{chosen-taken, chosen-first, chosen_none}
+use Rattle.meaning.proofs.MeantLaws.{chosen-taken, chosen-first, chosen_none}
 use Rattle.meaning.specs.RunLaws.{used-within}
 use Rattle.meaning.specs.Given.{bytes_of, GivesMessage, AreaFits}
 
