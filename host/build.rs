@@ -38,9 +38,9 @@ fn repository() -> PathBuf {
 }
 
 fn prove(root: &Path) {
-    match Command::new(root.join("host/archive")).arg("face").status() {
+    match Command::new(root.join("host/archive")).arg("face_c").status() {
         Ok(status) if status.success() => {}
-        Ok(_) => give_up("'host/archive face' failed: run it to see why"),
+        Ok(_) => give_up("'host/archive face_c' failed: run it to see why"),
         Err(e) => give_up(&format!("cannot run host/archive, which proves and builds the library: {}", e)),
     }
 }

@@ -3,7 +3,7 @@
 use Prim.Native.Nat.{ℕ, zero, suc, ◌+◌}
 use mathlib.Core.Path.{◌≡◌, refl}
 use mathlib.Core.List.{List, [], ◌∷◌}
-use mir.Syntax.{Ty, ty_int, ty_bool, ty_float, ty_ptr, ty_ref, ty_array, ty_unit, ty_struct, ty_enum, ty_named, Tys, tnil, tcons}
+use mir.Syntax.{Ty, ty_int, ty_bool, ty_float, ty_ptr, ty_ref, ty_array, ty_unit, ty_struct, ty_enum, ty_param, ty_const, ty_array_p, ty_named, Tys, tnil, tcons}
 use prog.Memory.{align, size, up}
 use Rattle.kept.proofs.head.Kept.TheLaws as K'
 
@@ -18,7 +18,10 @@ parts (ty_array τ n) = tcons τ tnil
 parts ty_unit = tnil
 parts (ty_struct ν τs) = τs
 parts (ty_enum ν τss) = tnil
-parts (ty_named ν) = tnil
+parts (ty_param i) = tnil
+parts (ty_const n) = tnil
+parts (ty_array_p τ i) = tcons τ tnil
+parts (ty_named ν θ) = tnil
 
 abbrev nth : Tys → ℕ → Ty
 nth tnil k = ty_unit

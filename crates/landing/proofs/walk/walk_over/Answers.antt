@@ -20,7 +20,7 @@ pub loop-at-smaller : goal.loop-at-smaller
 loop-at-smaller c = search (rules, c.loop-at-test.true, c.size-at.ensures.1)
 
 pub loop-at-preserved : goal.loop-at-preserved
-loop-at-preserved c = (c.turn-after.ensures.1, search (rules, c.loop-at.invariant.1, c.area-1.given, c.slice_known-in-loop-at-1.given), search (rules, c.loop-at.invariant.2, c.scratch-1.given, c.slice_known-in-loop-at-2-1.given), folding-onward c.args.b _ _ (table_turn_of c.loop-at.w c.loop-at.held c.loop-at.next-in c.loop-at.places c.loop-at.next-out c.loop-at.auto c.loop-at.area c.loop-at.verdicts c.loop-at.scratch) c.loop-at.at c.loop-at.invariant.3 c.loop-at-test.true refl c.size-at.ensures.0 _ c.turn-after.ensures.0)
+loop-at-preserved c = (c.turn-after.ensures.1, search (rules, c.loop-at.invariant.1, c.area-1.given, c.slice_known-in-loop-at-1.given), search (rules, c.loop-at.invariant.2, c.scratch-1.given, c.slice_known-in-loop-at-2-1.given), folding-onward c.args.b _ _ (table_turn_of c.loop-at.w c.loop-at.held c.loop-at.next_in c.loop-at.places c.loop-at.next_out c.loop-at.kept c.loop-at.area c.loop-at.verdicts c.loop-at.scratch) c.loop-at.at c.loop-at.invariant.3 c.loop-at-test.true refl c.size-at.ensures.0 _ c.turn-after.ensures.0)
 
 pub shape_of-area : goal.shape_of-area
 shape_of-area c = c.loop-at.invariant.1
