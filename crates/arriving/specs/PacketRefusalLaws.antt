@@ -26,7 +26,8 @@ use Rattle.steps.specs.declared.verdict.Owed.TheVariants.{Nothing}
 use Rattle.steps.specs.Verdict.{done_with}
 use Rattle.steps.specs.Steps.{step_area}
 use Rattle.steps.specs.Lent.{heeded}
-use Rattle.steps.specs.LeftLaws.{step-left-all, step_left}
+use Rattle.steps.specs.LeftLaws.{step-left-all}
+use Rattle.steps.proofs.StepLeftLaws.{step_left}
 use Rattle.arriving.specs.declared.verdict.Verdict.{Verdict}
 use Rattle.arriving.specs.declared.walk.Walked.{Walked}
 use Rattle.arriving.specs.declared.arrival.Arrived.{Arrived}

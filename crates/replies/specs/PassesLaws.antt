@@ -23,7 +23,7 @@ use Rattle.steps.specs.declared.chunk.Beside.{Beside}
 use Rattle.steps.specs.declared.lent.Lent.{Lent}
 use Rattle.steps.specs.declared.lent.Echoed.{Echoed}
 use Rattle.steps.specs.Lent.{heeded}
-use Rattle.steps.specs.ReplyingLaws.{step-replies}
+use Rattle.steps.proofs.ReplyingLaws.{step-replies}
 use Rattle.arriving.specs.declared.walk.Walked.{Walked}
 use Rattle.arriving.specs.Walked.{Turn, walk_begun, is_due, beside_at, reply_room, chunk_step, reply_at, turned}
 use Rattle.arriving.specs.Arrival.{packet_walked, arrived_of, packet_out}
