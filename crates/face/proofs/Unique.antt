@@ -102,7 +102,7 @@ t3-unique κs a r q s t x y = let e = one_left (x [] [] []) (y [] [] []) in (λ 
 pub transmit-unique : (κs : _) (a : _) (r q : _) (s t : _) → transmit-reads.Post κs a r s → transmit-reads.Post κs a q t → (r ≡ q) × (s.1.1.1.1.1.1.0.now ≡ t.1.1.1.1.1.1.0.now) × (s.1.1.0.now ≡ t.1.1.0.now) × (s.1.1.1.0.now ≡ t.1.1.1.0.now) × (s.1.1.1.1.1.0.now ≡ t.1.1.1.1.1.0.now)
 transmit-unique κs a r q s t x y = let e = one_left (x [] []) (y [] []) in (λ i. record { number = (e.0 i).number; kept = (e.0 i).kept }, λ i. (e.0 i).words, λ i. (e.1 i).places, λ i. (e.1 i).next, λ i. (e.1 i).out)
 
--- Those that are lent the head have no such reading, since their walks are by hand: two outcomes that both meet a contract's own clauses are equal.
+-- The same of those that are lent the head, said of a contract's own clauses: two outcomes that both meet them are equal.
 module _ {M : Type 1} {𝓤 : Ura M} (𝓛 : Logic 𝓤) (at_mem : Memory → SProp 𝓤) (run : Routine → Fun 𝓤) where
   pub lent-sack-unique : (κs : _) (a : _) (r q : _) (s t : _)
       → ent 𝓤 (conj 𝓤 ((lent-sack.clauses 𝓛 at_mem run κs a).ensures tt r s) ((lent-sack.clauses 𝓛 at_mem run κs a).ensures tt q t))

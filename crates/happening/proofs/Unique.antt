@@ -19,7 +19,7 @@ pub run-coded-unique : (κs : _) (a : _) (r q : _) (s t : _) → run-coded-reads
     → (r ≡ q) × (s.1.1.1.0.now ≡ t.1.1.1.0.now) × (s.1.1.1.1.0.now ≡ t.1.1.1.1.0.now) × (s.1.1.1.1.1.0.now ≡ t.1.1.1.1.1.0.now) × (s.1.1.1.1.1.1.1.1.0.now ≡ t.1.1.1.1.1.1.1.1.0.now)
 run-coded-unique κs a r q s t x y = let e = x ∙ sym y in (λ i. (e i).ran, λ i. (e i).received, λ i. (e i).sent, λ i. (e i).verdicts, λ i. (e i).out)
 
--- It has no such reading, since its walk is by hand: two outcomes that both meet its contract's own clauses are equal.
+-- The same of the thin entry, said of its contract's own clauses: two outcomes that both meet them are equal.
 module _ {M : Type 1} {𝓤 : Ura M} (𝓛 : Logic 𝓤) (at_mem : Memory → SProp 𝓤) (run : Routine → Fun 𝓤) where
   pub happen-unique : (κs : _) (a : _) (r q : _) (s t : _)
       → ent 𝓤 (conj 𝓤 ((happen.clauses 𝓛 at_mem run κs a).ensures tt r s) ((happen.clauses 𝓛 at_mem run κs a).ensures tt q t))

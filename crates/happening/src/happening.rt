@@ -1,4 +1,4 @@
-// The thin entry, which `lending` proves from what `running::run_coded` promises.
+// The thin entry: what `running::run_coded` promises, over a record that is lent.
 ghost use Rattle.std.specs.Prelude.{◌≡◌};
 ghost use Rattle.events.specs.Event.{event_of};
 ghost use Rattle.happening.specs.TableHappening.{lent_table_buffers, left_of, ran_of, table_happened};

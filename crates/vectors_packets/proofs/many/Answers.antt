@@ -1,6 +1,5 @@
 use Rattle.octets.specs.BytesLaws.{length-laid}
 use borrow.Author.Rules.{rules}
-use Prim.Native.Nat.{◌-◌}
 use Rattle.vectors_packets.proofs.many.Goals as goal
 
 pub loop-at-preserved : goal.loop-at-preserved
