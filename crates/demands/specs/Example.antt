@@ -26,7 +26,7 @@ use Rattle.delivery.specs.Receiving.{fresh_receiving, is_low, low_of}
 use Rattle.delivery.specs.Contradiction.{contradicts, contradicts_next, clashes, is_contradicted}
 use Rattle.delivery.specs.Arrival as arrival
 use Rattle.line.specs.Runs.{arrive, start}
-use Rattle.line.specs.Example as sender
+use Rattle.line.proofs.Example as sender
 use Rattle.states.specs.declared.state.State.TheVariants.{Established}
 use Rattle.states.specs.Rows.{row_of}
 use Rattle.association.specs.declared.ends.Ends.{Ends}

@@ -10,9 +10,9 @@ use Rattle.delivery.specs.Receiving.{low_of}
 use Rattle.delivery.specs.ReceivingSack.{acknowledged_receiving}
 use Rattle.line.specs.Reduce.{reduce_chunk}
 use Rattle.line.specs.Runs.{arrive, ReceiverEvent, ReceiverLent, start, finally, reduce_event}
-use Rattle.line.specs.AgreementLaws.{rail-agrees}
+use Rattle.line.proofs.AgreementLaws.{rail-agrees}
 use Rattle.line.specs.Demand.{HostSaw, seen, ours, Premises, line_seen, lent_line_after, host_seen, host_after, given, Messages, Holds, state_after}
-use Rattle.line.specs.DemandLaws as receiver
+use Rattle.line.proofs.DemandLaws as receiver
 use Rattle.demands.specs.News.{News, numbered, given_in}
 use Rattle.demands.specs.Heard.{Heard, asks, Side, side_goes_on, said_on, circle_goes, circle_said}
 use Rattle.demands.specs.Stretch.{Call, after_all, news_told_in, window_told, Stretch, heard_in, side_in, reduce_news, reduce_side, line_start, line_heard, line_side, line_told, host_last, host_side, host_told}

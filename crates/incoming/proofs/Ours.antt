@@ -17,7 +17,7 @@ use Rattle.delivery.specs.Receiving.{low_of}
 use Rattle.line.specs.Reduce.{reduce_chunk}
 use Rattle.line.specs.Runs.{ReceiverEvent, arrive, take, sack, ReceiverLent, reduce_event}
 use Rattle.line.specs.Demand.{ReceiverStep, HostHanding, HostSaw, number, gave, told, seen, ours, reduce_seen, Premises, first, line_seen, lent_line_after, host_seen, given, Messages, state_after, Holds}
-use Rattle.line.specs.DemandLaws.{seen_none, seen-arrive, seen-take, seen-sack, demand-3}
+use Rattle.line.proofs.DemandLaws.{seen_none, seen-arrive, seen-take, seen-sack, demand-3}
 use Rattle.incoming.specs.declared.Incoming.{Incoming}
 use Rattle.incoming.specs.Incoming.{incoming_shown}
 use Rattle.incoming.proofs.Incoming.fresh.Reads as fresh-reads

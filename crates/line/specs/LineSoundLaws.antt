@@ -28,7 +28,7 @@ use Rattle.line.specs.Runs.{copies}
 use Rattle.line.specs.CountLaws.{bit-lt, bit-ge, below, is_below, below-run, below-le, all_held}
 use Rattle.line.specs.Sender.{HonestSender, starts, starts_is, ordinal-zero, ordinal, ordinal-suc, ordinal-slow}
 use Rattle.line.specs.ChosenLaws.{Real}
-use Rattle.line.specs.AgreeLaws.{NearHeld}
+use Rattle.line.specs.Near.{NearHeld}
 
 -- the circle's half is wide enough for what a receiver of so many places can hold
 abbrev pub Wide : Profile → ℕ → Type 0

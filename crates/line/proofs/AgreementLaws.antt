@@ -27,13 +27,13 @@ use Rattle.delivery.specs.Arrival.{is_wedged, verdict_of}
 use Rattle.delivery.specs.ReceivingSack.{acknowledged_receiving}
 use Rattle.line.specs.Runs.{ReceiverEvent, arrive, take, sack, EventAnswer, tells, Never, ReceiverLent, EventTurn, event_turn, start, answers, finally, reduce_event, reduce_answer, reduce_lent, Fair, copies, chunks_handed, takes_handed, joined_all, acknowledges, order_given, up_from, Genuine}
 use Rattle.line.specs.Sender.{HonestSender}
-use Rattle.line.specs.AgreeLaws.{fresh-receiving-law}
+use Rattle.line.proofs.AgreeLaws.{fresh-receiving-law}
 use Rattle.line.specs.LineSoundLaws.{Wide, near}
 use Rattle.line.specs.ArrivesLaws.{SoundOf, kept-once}
-use Rattle.line.specs.SequenceLaws.{take-alike, agree-along, near-along, clear-along, reduced-never, fresh-line-sound, fresh-next, sound-from, once-from, told-come, order_from, order-reduced, firsts-copies}
+use Rattle.line.proofs.SequenceLaws.{take-alike, agree-along, near-along, clear-along, reduced-never, fresh-line-sound, fresh-next, sound-from, once-from, told-come, order_from, order-reduced, firsts-copies}
 use Rattle.line.specs.WedgeLaws.{Few, not-wedged}
 use Rattle.line.specs.SidedLaws.{all-sided}
-use Rattle.line.specs.PayloadsLaws.{lodged-fresh, lodged-from, genuine}
+use Rattle.line.proofs.PayloadsLaws.{lodged-fresh, lodged-from, genuine}
 
 -- the premises: a profile, half a circle, a first number on the line, a sender, and a sequence of events
 module _ (P : Profile) (h : ℕ) (t : Tsn) (some : 0 < t.0) (streams : ℕ) (area : List ℕ) (chunk : ℕ → Chunk) (payload : ℕ → List ℕ)

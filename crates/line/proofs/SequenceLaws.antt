@@ -38,9 +38,10 @@ use Rattle.delivery.specs.Receiving.{fresh_receiving, taken_into}
 use Rattle.delivery.specs.Arrival.{verdict_of, duplicate_noted, stray_passed, kept_in, receiving_after, arrived, arrival_area, kept_at_place}
 use Rattle.delivery.specs.ReceivingSack.{receiving_sack, receiving_told, acknowledged_receiving}
 use Rattle.line.specs.Reduce.{reduce_held, reduce_ssn, reduce, reduce_taken}
-use Rattle.line.specs.Runs.{ReceiverEvent, arrive, take, sack, EventAnswer, judges, gives, tells, Never, ReceiverLent, EventTurn, event_turn, start, answers, finally, reduce_event, reduce_answer, reduce_lent, Fair, copies, chunks_handed, takes_handed, joined_all, is_ordered_in, ssn_of, order_given, up_from, acknowledges}
+use Rattle.line.specs.Runs.{ReceiverEvent, arrive, take, sack, EventAnswer, judges, gives, tells, Never, ReceiverLent, EventTurn, event_turn, answers, finally, reduce_event, reduce_answer, reduce_lent, Fair, copies, chunks_handed, takes_handed, joined_all, is_ordered_in, ssn_of, order_given, up_from, acknowledges}
 use Rattle.line.specs.Sender.{HonestSender}
-use Rattle.line.specs.AgreeLaws.{Near, arrived-law, area-law, taken-law, written-law, sack-law}
+use Rattle.line.specs.Near.{Near}
+use Rattle.line.proofs.AgreeLaws.{arrived-law, area-law, taken-law, written-law, sack-law}
 use Rattle.line.specs.CountLaws.{holds-none, copies-nil, copies-cons}
 use Rattle.line.specs.ChosenLaws.{Real}
 use Rattle.line.specs.LineSoundLaws.{LineSound, came, Wide, came-before, came-ahead, near}

@@ -41,16 +41,16 @@ use Rattle.line.specs.Reduce.{reduce_chunk, reduce_message, reduce_taken}
 use Rattle.line.specs.Runs.{ReceiverEvent, arrive, take, sack, EventAnswer, judges, gives, tells, ReceiverLent, EventTurn, event_turn, start, answers, finally, reduce_event, reduce_answer, reduce_lent, Fair, copies, chunks_handed, takes_handed, joined_all, is_ordered_in, ssn_of, order_given, up_from, chunks_from, Genuine}
 use Rattle.line.specs.Sender.{HonestSender, ordinal}
 use Rattle.line.specs.Demand.{Receiver, HostSaw, number, gave, seen, receiver_over, on_the_line, ours, reduce_seen, Premises, first, line_seen, lent_line_after, host_seen, host_after, GivenMessage, given_by, given, Span, IsThere, Match, ordinals, Messages, Holds, Demand, Demand3, state_after, told}
-use Rattle.line.specs.AgreeLaws.{fresh-receiving-law}
-use Rattle.line.specs.AgreementLaws as agreement
+use Rattle.line.proofs.AgreeLaws.{fresh-receiving-law}
+use Rattle.line.proofs.AgreementLaws as agreement
 use Rattle.line.specs.CountLaws.{copies-cons}
 use Rattle.line.specs.ChosenLaws.{holds-eqb}
 use Rattle.line.specs.ContradictionsLaws.{never-contradicted}
 use Rattle.line.specs.LineSoundLaws.{Wide, came-ahead, come-ahead, near}
 use Rattle.line.specs.ArrivesLaws.{SoundOf, kept-once}
-use Rattle.line.specs.SequenceLaws.{NearAlong, arrive-alike, take-alike, sack-alike, near-along, fresh-line-sound, sound-from, arrive-sound, acknowledged-line-sound, copies-append}
+use Rattle.line.proofs.SequenceLaws.{NearAlong, arrive-alike, take-alike, sack-alike, near-along, fresh-line-sound, sound-from, arrive-sound, acknowledged-line-sound, copies-append}
 use Rattle.line.specs.TakesLaws.{taken-line-sound}
-use Rattle.line.specs.PayloadsLaws.{Lodged, lodged-fresh, lodged-arrive, lodged-take, lodged-sack, genuine}
+use Rattle.line.proofs.PayloadsLaws.{Lodged, lodged-fresh, lodged-arrive, lodged-take, lodged-sack, genuine}
 
 -- ---- what the host sees
 

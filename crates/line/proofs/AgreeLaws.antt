@@ -40,15 +40,7 @@ use Rattle.delivery.specs.Contradiction.{is_contradicted}
 use Rattle.delivery.specs.ReceivingSack.{receiving_sack, receiving_told, acknowledged_receiving}
 use Rattle.line.specs.Reduce.{reduce_ssn, reduce_held, reduce, reduce_taken, reduce_sack}
 use Rattle.line.specs.ContradictionsLaws.{contradicted-law}
-
--- what is held in this place is near the point and, if ordered, near the next expected of its stream
-pub record NearHeld (h k : ℕ) (p : ℕ) (next : List Ssn) (c : Held) : Type 0 where
-  pub tsn : c.used ≡ true → NearerThan h p c.tsn.0
-  pub ssn : c.used ≡ true → c.unordered ≡ false → NearerThan k (get_or next c.stream.0 ssn0).0 c.ssn.0
-
--- the hypothesis of every step below
-abbrev pub Near : ℕ → ℕ → Receiving → Type 0
-Near h k r = All (NearHeld h k r.keeping.point.0 r.next) r.held
+use Rattle.line.specs.Near.{NearHeld, Near}
 
 left-used : (x : Held) → is_left_end x ≡ true → x.used ≡ true
 unfolding is_left_end

@@ -22,9 +22,9 @@ use Rattle.delivery.specs.Contradiction.{contradicts, contradicts_next, clashes,
 use Rattle.delivery.specs.Arrival.{is_repeat, is_wedged, judgement_of, verdict_of, duplicate_noted, stray_passed, arrived, arrival_area, kept_at_place}
 use Rattle.delivery.specs.ReceivingSack.{receiving_sack, acknowledged_receiving, receiving_told}
 use Rattle.line.specs.Runs.{ReceiverEvent, arrive, take, sack, start, Fair, bytes_from}
-use Rattle.line.specs.Example.{example_chunk_of, example_payload_of, single, example_last, example_first, example_initial, example_chunk, payload, honest, area, out, comes}
+use Rattle.line.proofs.Example.{example_chunk_of, example_payload_of, single, example_last, example_first, example_initial, example_chunk, payload, honest, area, out, comes}
 use Rattle.line.specs.Demand.{Receiver, HostSaw, number, gave, told, seen, receiver_over, Premises, GivenMessage, Span, IsThere, Match, Demand, Demand3, state_after}
-use Rattle.line.specs.DemandLaws.{demanded}
+use Rattle.line.proofs.DemandLaws.{demanded}
 use Rattle.line.specs.Builds.{refusing_receiver, unvarying, keeps_nothing, acknowledges_all, plain_tsn, plain_ssn, frees_taken, fills_above, at_rail}
 
 -- a sequence of calls

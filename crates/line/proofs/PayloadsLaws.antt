@@ -39,7 +39,7 @@ use Rattle.line.specs.CountLaws.{holds-none}
 use Rattle.line.specs.ChosenLaws.{Real, Spanning, real-at, spanning-at, spanning-some}
 use Rattle.line.specs.ArrivesLaws.{SoundOf}
 use Rattle.line.specs.TakesLaws.{Picks, picks, taken-line-sound}
-use Rattle.line.specs.SequenceLaws.{same_at, arrive-sound, acknowledged-line-sound}
+use Rattle.line.proofs.SequenceLaws.{same_at, arrive-sound, acknowledged-line-sound}
 
 -- ---- bytes laid beside others
 

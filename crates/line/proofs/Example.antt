@@ -32,7 +32,7 @@ use Rattle.delivery.specs.ReceivingSack.{receiving_sack, receiving_told, acknowl
 use Rattle.line.specs.Reduce.{reduce_ssn}
 use Rattle.line.specs.Sender.{HonestSender, starts, ordinal, ordinal-suc, ordinal-zero}
 use Rattle.line.specs.Runs.{ReceiverEvent, arrive, take, sack, judges, gives, tells, start, answers, reduce_event, reduce_answer, Fair}
-use Rattle.line.specs.AgreementLaws.{rail-agrees}
+use Rattle.line.proofs.AgreementLaws.{rail-agrees}
 
 -- a sender of messages of one chunk each, of stream 0: ordered ones, and from the number `loose` on unordered ones
 module _ (first loose : ℕ) where
