@@ -12,15 +12,16 @@ fn main() {
         return;
     }
     let root = repository();
-    let crates = root.join("crates");
     let archive = root.join("target/staticlib/liboilwhisper.a");
-    println!("cargo:rerun-if-changed={}", crates.display());
-    println!("cargo:rerun-if-changed={}", archive.display());
+    let sources = sources(&root);
+    for path in sources.iter().chain([&archive]) {
+        println!("cargo:rerun-if-changed={}", path.display());
+    }
     let arch = env::var("CARGO_CFG_TARGET_ARCH").unwrap_or_default();
     if arch != env::consts::ARCH {
         give_up(&format!("host/archive makes the proved library for this machine, which is {}, and cargo builds for {}", env::consts::ARCH, arch));
     }
-    if !is_up_to_date(&archive, &[crates, root.join("crates.txt"), root.join("host/archive")]) {
+    if !is_up_to_date(&archive, &sources) {
         prove(&root);
     }
     if let Some(folder) = archive.parent() {
@@ -35,6 +36,13 @@ fn repository() -> PathBuf {
         Some(root) => root.to_path_buf(),
         None => give_up("this crate stands in the repository's folder host, and that folder has no parent"),
     }
+}
+
+/// What the archive is made of. What the kit keeps in a crate's folder `out` is no source.
+fn sources(root: &Path) -> Vec<PathBuf> {
+    let crates = fs::read_dir(root.join("crates")).into_iter().flatten().flatten();
+    let folders = crates.flat_map(|folder| ["src", "specs", "proofs"].map(|part| folder.path().join(part)));
+    folders.filter(|folder| folder.exists()).chain([root.join("crates.txt"), root.join("host/archive")]).collect()
 }
 
 fn prove(root: &Path) {

@@ -186,7 +186,7 @@ fn only_answers_have_a_bool() {
 
 /// The exported functions of the proved crate, each without its promise and on one line.
 fn exported() -> Vec<String> {
-    let folder = Path::new(env!("CARGO_MANIFEST_DIR")).join("../crates/face/src");
+    let folder = Path::new(env!("CARGO_MANIFEST_DIR")).join("../crates/face_c/src");
     let sources = std::fs::read_dir(folder).expect("the proved crate has sources").flatten();
     let texts = sources.map(|source| std::fs::read_to_string(source.path()).expect("a source is text"));
     texts.flat_map(|text| declarations(&text.replace("\n    ensures", ";"), "pub extern \"C\" fn ow_")).collect()

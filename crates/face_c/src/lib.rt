@@ -1,5 +1,5 @@
-// What C links: each function of crate `face` that only pointers and numbers cross, under its own name. `include/oilwhisper.h` says it in C. A library exports no symbol
-// for C, so this static library does, and promises of each what `face` promises of it.
+// What a host in C or Rust links: the functions of `face` that only pointers and numbers cross, each under its own name and with its promise there. Only a static library
+// exports a name to C, and nothing in Rattle can rest on one. `include/oilwhisper.h` says it in C.
 #![tactic(auto)]
 
 ghost use Rattle.std.specs.Prelude.{[], ◌∷◌, ◌≡◌};
@@ -70,7 +70,35 @@ pub extern "C" fn ow_lent_arrive(
 ) -> u32
     ensures { Arrives k.old packet.now (lent_as tag tsn streams options) cookie.now (echoed_of word (made_as my_tag peer_tag streams_in streams_out my_tsn peer_tsn window my_tie peer_tie agreed)) (arrived_lent held.old next_in.old places.old next_out.old kept_cookie.old area.old verdicts.old out.old) (call_told_of result k.new told.new) (arrived_lent held.new next_in.new places.new next_out.new kept_cookie.new area.new verdicts.new out.new) }
 {
-    face::arrival::ow_lent_arrive(k, held, next_in, places, next_out, kept_cookie, area, verdicts, packet, tag, tsn, streams, options, cookie, word, my_tag, peer_tag, streams_in, streams_out, my_tsn, peer_tsn, window, my_tie, peer_tie, agreed, out, told)
+    face::arrival::ow_lent_arrive(
+        k,
+        held,
+        next_in,
+        places,
+        next_out,
+        kept_cookie,
+        area,
+        verdicts,
+        packet,
+        tag,
+        tsn,
+        streams,
+        options,
+        cookie,
+        word,
+        my_tag,
+        peer_tag,
+        streams_in,
+        streams_out,
+        my_tsn,
+        peer_tsn,
+        window,
+        my_tie,
+        peer_tie,
+        agreed,
+        out,
+        told,
+    )
 }
 
 // No more messages.
@@ -134,7 +162,9 @@ pub extern "C" fn ow_lent_hand_in(
 ) -> u32
     ensures { HandsIn k.old held.now message.now stream unordered ppid (handed_lent places.old area.old) (call_told_of result k.new told.new) (handed_lent places.new area.new) }
 {
-    face::handing::ow_lent_hand_in(k, held, places, area, message, stream, unordered, ppid, told)
+    face::handing::ow_lent_hand_in(
+        k, held, places, area, message, stream, unordered, ppid, told,
+    )
 }
 
 // A closed record at one of the host's ports, in one of the two books, whatever stood there.
@@ -172,9 +202,23 @@ pub extern "C" fn ow_lent_associate(
 ) -> u32
     ensures { Associates k.old tag tsn port streams (associated_lent (tables_lent held.old next_in.old places.old next_out.old kept_cookie.old) out.old) (call_told_of result k.new told.new) (associated_lent (tables_lent held.new next_in.new places.new next_out.new kept_cookie.new) out.new) }
 {
-    face::opening::ow_lent_associate(k, held, next_in, places, next_out, kept_cookie, tag, tsn, port, streams, out, told)
+    face::opening::ow_lent_associate(
+        k,
+        held,
+        next_in,
+        places,
+        next_out,
+        kept_cookie,
+        tag,
+        tsn,
+        port,
+        streams,
+        out,
+        told,
+    )
 }
 
+// What the host must know of a packet before it arrives.
 #[unsafe(no_mangle)]
 pub extern "C" fn ow_lent_peek(packet: &[u8], told: &mut [usize; 10]) -> u32
     ensures { (result ≡ seen_number (peeked packet.now)) × (told.new ≡ seen_words (peeked packet.now)) }
