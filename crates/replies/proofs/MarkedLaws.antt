@@ -12,7 +12,7 @@ use Rattle.calls.specs.Transmit.{chunk_bytes, transmitted, transmitted_out}
 use Rattle.calls.specs.Outcomes.{chosen_chunks}
 use Rattle.calls.specs.MarkLaws.{transmit-full}
 use Rattle.replies.specs.Sent.{chunks_in, some_of}
-use Rattle.replies.specs.SentLaws.{transmit-reads}
+use Rattle.replies.proofs.SentLaws.{transmit-reads}
 
 some_more : (x : List ℕ) (cs : List (List ℕ)) → 0 < length x → some_of cs ≡ cs → some_of (x ∷ cs) ≡ x ∷ cs
 some_more [] cs h e = absurd (omega arith)

@@ -56,7 +56,7 @@ use Rattle.replies.specs.Sent.{longest_sent, Passing, chunks_in, some_of, Output
 use Rattle.replies.specs.Sent.Passing.{untouched}
 use Rattle.replies.specs.Reply.{Shared}
 use Rattle.replies.specs.ReplyLaws.{shared-none, one-shared, shared-both, shared-as, sound-packed, shared-packed}
-use Rattle.replies.specs.PassesLaws.{seal-counts, reads-back, sealed-as, arrive-passes}
+use Rattle.replies.proofs.PassesLaws.{seal-counts, reads-back, sealed-as, arrive-passes}
 
 -- ---- a packet of one chunk
 
