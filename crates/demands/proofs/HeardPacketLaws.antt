@@ -32,7 +32,7 @@ use Rattle.arriving.specs.Arrival.{lent_number, packet_number, packet_refused, p
 use Rattle.demands.specs.News.{News, numbered, is_data, news_of_data}
 use Rattle.demands.specs.Heard.{Heard, chunk_heard, Hearing, listened, listened_over, Side, side_of, side_goes_on, said_on, circle_goes, circle_said}
 use Rattle.demands.specs.HeardLaws.{goes_none, said-none, goes-append, said-append, told-append}
-use Rattle.demands.specs.HeardChunkLaws.{pick-both, chunk-goes, chunk-tells, chunk-silent}
+use Rattle.demands.proofs.HeardChunkLaws.{pick-both, chunk-goes, chunk-tells, chunk-silent}
 
 -- what holds at a place, and is kept by the step there for the next, holds at the end
 over-at : {R : Type 0} (I : ℕ → R → Type 0) (Q : R → Type 0) (f : R → List ℕ → R) (s : List ℕ)

@@ -44,7 +44,7 @@ use Rattle.events.specs.declared.event.Event.TheVariants.{Packet}
 use Rattle.demands.specs.News.{numbered}
 use Rattle.demands.specs.Heard.{Heard, asks, chunk_heard, listened, listened_over, heard_of, side_goes_on, said_on, circle_goes}
 use Rattle.demands.specs.Stretch.{Host, Call, heard_in, side_in, begun_line, Stretch, host_told}
-use Rattle.demands.specs.HostDemandLaws.{host-demand-3}
+use Rattle.demands.proofs.HostDemandLaws.{host-demand-3}
 
 -- from port 5000 to ours, 5001, with our tag, 1; a DATA with B and E, its payload of two bytes
 abbrev packet : List ℕ

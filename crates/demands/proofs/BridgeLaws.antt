@@ -50,8 +50,8 @@ use Rattle.events.specs.HappenedLaws.{any-keeps, Each, each-event}
 use Rattle.demands.specs.News.{News, took, untaken, sacked, news_of_take, news_of}
 use Rattle.demands.specs.Heard.{Heard, asks, take-barred, begins, heard_of, Side, side_of, heard_taken_as, side_goes_on, said_on, circle_goes, circle_said}
 use Rattle.demands.specs.HeardLaws.{goes-append, said-append}
-use Rattle.demands.specs.HeardChunkLaws.{pick-both}
-use Rattle.demands.specs.HeardPacketLaws.{packet-heard}
+use Rattle.demands.proofs.HeardChunkLaws.{pick-both}
+use Rattle.demands.proofs.HeardPacketLaws.{packet-heard}
 use Rattle.demands.specs.Stretch.{Host, Call as HostCall, buffers_of, after_call, after_all, news_told_in, heard_in, side_in}
 
 module _ (a : Association) (b : Buffers) where

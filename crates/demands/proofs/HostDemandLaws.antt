@@ -18,8 +18,8 @@ use Rattle.demands.specs.Heard.{Heard, asks, Side, side_goes_on, said_on, circle
 use Rattle.demands.specs.Stretch.{Call, after_all, news_told_in, window_told, Stretch, heard_in, side_in, reduce_news, reduce_side, line_start, line_heard, line_side, line_told, host_last, host_side, host_told}
 use Rattle.demands.specs.HostDemand.{HostDemand3}
 use Rattle.demands.specs.HeardLaws.{goes-append, said-append}
-use Rattle.demands.specs.BridgeLaws.{calls-go, calls-tell}
-use Rattle.demands.specs.StretchLaws.{Stays, events_in, reduce_heard, woven, said-woven, goes-finally, goes_after, said-given, woven-reduced, events-reduced, stays-reduced, lined-reduced, lined-stays, lined-fair}
+use Rattle.demands.proofs.BridgeLaws.{calls-go, calls-tell}
+use Rattle.demands.proofs.StretchLaws.{Stays, events_in, reduce_heard, woven, said-woven, goes-finally, goes_after, said-given, woven-reduced, events-reduced, stays-reduced, lined-reduced, lined-stays, lined-fair}
 
 drop-behind : {A : Type 0} (xs ys : List A) → drop (length xs) (xs ++ ys) ≡ ys
 drop-behind [] ys = refl
