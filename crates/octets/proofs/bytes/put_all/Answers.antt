@@ -1,21 +1,13 @@
-use Prim.Native.Nat.{◌-◌}
-use Rattle.octets.specs.BytesLaws.{laying-none, laying-one, laying-full, laying-all}
+use Rattle.std.proofs.Common.{◌≡◌, ◌+◌, ◌-◌, arith, drop-drop, append_assoc}
+use Rattle.octets.specs.BytesLaws.{laid_at_once, laid_out}
 use Rattle.octets.proofs.bytes.put_all.Goals as goal
 
-pub loop-i-init : goal.loop-i-init
-loop-i-init c = laying-none _ _ _
+pub returns-then-at-out : goal.returns-then-at-out
+returns-then-at-out c =
+    let k = c.min-n.result in
+    let z : c.args.at + k - c.args.at ≡ k = omega arith in
+    rw (c.copy_from_slice.ensures.after, z, drop-drop, ← append_assoc)
+    (laid_at_once c.args.out.now c.args.at k c.args.src.now (omega arith) (omega arith) (λ h. omega arith))
 
-pub shape_of-out-then-out-j : goal.shape_of-out-then-out-j
-shape_of-out-then-out-j c = c.loop-i.invariant.long
-
-pub returns-then-out-j : goal.returns-then-out-j
-returns-then-out-j c = laying-full c.loop-i.invariant c.if-out-j.true
-
-pub loop-i-preserved : goal.loop-i-preserved
-loop-i-preserved c = laying-one c.loop-i.invariant c.loop-i-test.true
-
-pub shape_of-out : goal.shape_of-out
-shape_of-out c = c.loop-i.invariant.long
-
-pub returns : goal.returns
-returns c = laying-all c.loop-i.invariant c.loop-i-test.false
+pub returns-else-at-out : goal.returns-else-at-out
+returns-else-at-out c = laid_out _ _ _ c.if-at-out.false
