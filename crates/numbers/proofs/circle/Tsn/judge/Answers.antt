@@ -1,18 +1,20 @@
-use Rattle.std.proofs.Common.{le-ltb, lt-ltb}
+use Rattle.std.proofs.Common.{le-ltb, lt-ltb, arith}
 use Rattle.numbers.specs.Judgement.{judged}
 use Rattle.numbers.proofs.circle.Tsn.judge.Goals as goal
 
-pub returns-then-d-lt1 : goal.returns-then-d-lt1
+pub returns-in-Ahead : goal.returns-in-Ahead
 unfolding judged
-returns-then-d-lt1 c = rw (← c.distance.ensures, c.in-Ahead.is, lt-ltb _ _ c.if-d-lt1.true)
+returns-in-Ahead c =
+    rw (← c.distance.ensures, c.in-Ahead.is, le-ltb c.in-Ahead.d 1 (omega arith), lt-ltb _ _ c.if-room-d.true)
 
-pub returns-then-room-d : goal.returns-then-room-d
+pub returns-in-Ahead-2 : goal.returns-in-Ahead-2
 unfolding judged
-returns-then-room-d c = rw (← c.distance.ensures, c.in-Ahead.is, le-ltb _ _ c.if-d-lt1.false, lt-ltb _ _ c.if-room-d.true)
+returns-in-Ahead-2 c =
+    rw (← c.distance.ensures, c.in-Ahead.is, le-ltb c.in-Ahead.d 1 (omega arith), le-ltb _ _ c.if-room-d.false)
 
-pub returns-else-room-d : goal.returns-else-room-d
+pub returns-in-Ahead-3 : goal.returns-in-Ahead-3
 unfolding judged
-returns-else-room-d c = rw (← c.distance.ensures, c.in-Ahead.is, le-ltb _ _ c.if-d-lt1.false, le-ltb _ _ c.if-room-d.false)
+returns-in-Ahead-3 c = rw (← c.distance.ensures, c.in-Ahead.is, lt-ltb c.in-Ahead.d 1 (omega arith))
 
 pub returns-in-Behind : goal.returns-in-Behind
 unfolding judged

@@ -1,16 +1,11 @@
-use Rattle.std.proofs.Common.{◌≡◌, ◌-◌, ◌≤◌, false, length, arith, rules, le-ltb, lt-ltb}
-use lib.ListN.{get_or-eq_default}
-use Rattle.numbers.specs.Keeping.{offset_of, is_come}
+use Rattle.std.proofs.Common.{le-ltb, lt-ltb, arith, rules}
+use Rattle.numbers.specs.Keeping.{is_come, offset_of}
 use Rattle.numbers.proofs.keeping.Keeping.is_come.Goals as goal
 
-pub returns-then-offset-lt1 : goal.returns-then-offset-lt1
+pub returns-then-offset-gt0 : goal.returns-then-offset-gt0
 unfolding is_come offset_of
-returns-then-offset-lt1 c = rw (← c.ahead_of-offset.ensures, lt-ltb _ _ c.if-offset-lt1.true)
+returns-then-offset-gt0 c = rw (← c.ahead_of-offset.ensures, le-ltb _ _ c.if-offset-gt0.true) (search rules)
 
-pub returns-then-offset-gt-PLACES : goal.returns-then-offset-gt-PLACES
+pub returns-else-offset-gt0 : goal.returns-else-offset-gt0
 unfolding is_come offset_of
-returns-then-offset-gt-PLACES c = let come = c.args.self.come in let long : length come ≡ 128 = search rules in let past : length come ≤ c.ahead_of-offset.result - 1 = omega arith in rw (← c.ahead_of-offset.ensures, le-ltb _ _ c.if-offset-lt1.false, get_or-eq_default come false past)
-
-pub returns : goal.returns
-unfolding is_come offset_of
-returns c = rw (← c.ahead_of-offset.ensures, le-ltb _ _ c.if-offset-lt1.false)
+returns-else-offset-gt0 c = rw (← c.ahead_of-offset.ensures, lt-ltb c.ahead_of-offset.result 1 (omega arith), le-ltb 0 c.ahead_of-offset.result c.if-offset-gt0.false)

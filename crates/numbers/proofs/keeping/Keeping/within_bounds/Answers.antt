@@ -1,11 +1,10 @@
-use Rattle.std.proofs.Common.{◌-◌}
 use Rattle.numbers.specs.Keeping.{keeping_sound}
 use Rattle.numbers.proofs.keeping.Keeping.within_bounds.Goals as goal
 
-pub returns-then-self-offset0 : goal.returns-then-self-offset0
+pub returns-then-not-self : goal.returns-then-not-self
 unfolding keeping_sound
-returns-then-self-offset0 c = rw c.if-self-offset0.true
+returns-then-not-self c = rw c.if-not-self.true
 
-pub returns : goal.returns
+pub returns-else-not-self : goal.returns-else-not-self
 unfolding keeping_sound
-returns c = rw c.if-self-offset0.false
+returns-else-not-self c = rw c.if-not-self.false

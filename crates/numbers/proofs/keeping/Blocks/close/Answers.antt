@@ -1,6 +1,6 @@
 use Rattle.std.proofs.Common.{refl}
 use Rattle.numbers.specs.Blocks.{closed}
-use Rattle.numbers.proofs.keeping.close.Goals as goal
+use Rattle.numbers.proofs.keeping.Blocks.close.Goals as goal
 
 pub returns : goal.returns
 unfolding closed
