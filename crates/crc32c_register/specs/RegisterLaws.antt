@@ -1,6 +1,6 @@
 -- The register's laws: xor is associative, a bit's step goes over xor, and so four bytes are four looks into tables.
 -- Assumes nothing.
-use Rattle.std.specs.Prelude.{◌≡◌, refl, ℕ, zero, suc, ◌+◌, ◌-◌, ◌*◌, ◌/◌, ◌%◌, ◌^◌, ◌≤◌, ◌<◌, List, [], ◌∷◌, ◌++◌, length, get_or, drop}
+use Rattle.std.specs.Prelude.{◌≡◌, refl, ℕ, zero, suc, ◌+◌, ◌*◌, ◌/◌, ◌%◌, ◌^◌, ◌≤◌, ◌<◌, List, [], ◌∷◌, ◌++◌, length, get_or, drop}
 use Rattle.std.proofs.Common.{sym, ap, ap₂, ◌∙◌, mod-lt, mul-one, le_of_suc-le-suc, not-suc-le-zero, zero-lt-suc, zero-add, suc-add, add-suc, mod-eq_of_lt, add-one, arith, drop_of_length-le, drop-cons, pow_pos, shr-shr, lit<}
 use Rattle.std.proofs.Math.Arith.{bin_ind, digits_mod}
 use Rattle.std.proofs.Math.Pow.{split}

@@ -6,6 +6,6 @@ pub returns-then-s-lt12 : goal.returns-then-s-lt12
 unfolding packet_crc
 returns-then-s-lt12 c = rw (lt-ltb _ _ c.if-s-lt12.true) c.crc32c.ensures
 
-pub returns : goal.returns
+pub returns-else-s-lt12 : goal.returns-else-s-lt12
 unfolding packet_crc
-returns c = rw (le-ltb _ _ c.if-s-lt12.false) c.packet_with.ensures
+returns-else-s-lt12 c = rw (le-ltb _ _ c.if-s-lt12.false) c.packet_with.ensures
