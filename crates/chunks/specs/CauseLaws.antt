@@ -1,5 +1,5 @@
 -- Laws of error causes. Assumes nothing.
-use Rattle.std.specs.Prelude.{ℕ, ◌≤◌, length}
+use Rattle.std.specs.Prelude.{◌≤◌, length}
 use Rattle.std.proofs.Common.{arith}
 use Rattle.chunks.specs.declared.cause.Cause.{Cause}
 use Rattle.chunks.specs.declared.cause.Cause.TheVariants.{InvalidStream, StaleCookie, NoUserData, UserAbort, ProtocolViolation}

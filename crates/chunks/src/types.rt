@@ -1,6 +1,6 @@
 // The numbers that tell chunks, the causes of an ABORT or an ERROR, and the parameters that we write apart.
 
-// The types of chunks (RFC 9260 section 3.2, table 1).
+// The types of chunks (RFC 9260 section 3.2, table 1). `kind::Kind` is read from them; a writer takes the number, since an unknown kind has none of its own.
 pub const DATA: u8 = 0;
 
 pub const INIT: u8 = 1;

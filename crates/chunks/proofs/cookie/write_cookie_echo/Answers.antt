@@ -1,11 +1,11 @@
-use Rattle.chunks.specs.CookieLaws.{echo-is, echo-over, echo-none}
+use Rattle.std.proofs.Common.{rules, arith, ◌≤◌, length}
+use Rattle.chunks.specs.CookieLaws.{echo-is, echo-not}
 use Rattle.chunks.proofs.cookie.write_cookie_echo.Goals as goal
 
-pub returns-then-cookie-gt-LONGEST : goal.returns-then-cookie-gt-LONGEST
-returns-then-cookie-gt-LONGEST c = echo-over _ c.if-cookie-gt-LONGEST.true
-
-pub returns-then-cookie-eq0 : goal.returns-then-cookie-eq0
-returns-then-cookie-eq0 c = echo-none _ c.if-cookie-gt-LONGEST.false c.if-cookie-eq0.true
+pub returns-then-not-contains : goal.returns-then-not-contains
+returns-then-not-contains c = echo-not c.args.cookie.now (search rules)
 
 pub returns : goal.returns
-returns c = rw (echo-is _ c.if-cookie-gt-LONGEST.false c.if-cookie-eq0.false) c.write.ensures
+returns c =
+    let h : (1 ≤ length c.args.cookie.now) × (length c.args.cookie.now ≤ 256) = search rules in
+    rw (echo-is _ h.1 (λ e. omega (arith, e, h.0))) c.write.ensures
