@@ -1,6 +1,6 @@
 -- "Read both ways, with one meaning": an INIT or INIT ACK whose length counts the padding of its last parameter is read as the one whose
 -- length does not. Assumes nothing.
-use Rattle.std.specs.Prelude.{ℕ, ◌+◌, ◌-◌, ◌≤◌, ◌<◌, ◌≡◌, Bool, ltb, length, take, drop}
+use Rattle.std.specs.Prelude.{ℕ, ◌+◌, ◌-◌, ◌≤◌, ◌<◌, ◌≡◌, Bool, Option, ltb, length, take, drop}
 use Rattle.std.proofs.Math.Path.{refl, ap}
 use Rattle.std.proofs.Common.{sym, ◌∙◌, arith, length-append}
 use Rattle.std.proofs.Math.Bool.{true, false}
@@ -21,12 +21,12 @@ use Rattle.chunks.specs.InitChunk.{init_of}
 use Rattle.chunks.specs.InitLaws.{init-counting}
 use Rattle.chunks.specs.declared.frame.Part.{Part}
 use Rattle.chunks.specs.declared.init.Init.{Init}
-use Rattle.parameters.specs.declared.parameter.Step.{Step}
+use Rattle.parameters.specs.declared.parameter.Parameter.{Parameter}
 use Rattle.parameters.specs.Parameter.{treated, parameter_at, is_kind, ends_search, found_at, params_of, place_of, is_there, part_at, value_of}
 use Rattle.parameters.specs.Report.{Gathered, parameter_judged, gather_one, gather_all, ROOM, init_ack_bytes, error_parameters_bytes}
 
 -- the parameters b, one by one
-abbrev pub parameters_listed : List ℕ → List Step
+abbrev pub parameters_listed : List ℕ → List (Option Parameter)
 parameters_listed b = map (parameter_at b) (walk b 0)
 
 -- all that is read of the chunks s and t is the same: the fixed fields, each parameter, which types there are, where the first of a type
@@ -97,7 +97,7 @@ module _ {b c : List ℕ} (e : Padded b c) where
       (λ at m h g i q.
       ap (map (parameter_at c)) (walk-on c at g)
       ∙ (λ j. step_same at h g i j ∷ map (parameter_at c) (walk c (at + padded-size e at h i j)))
-      ∙ ap (λ (l : List Step). parameter_at b at ∷ l) q
+      ∙ ap (λ (l : List (Option Parameter)). parameter_at b at ∷ l) q
       ∙ sym (ap (map (parameter_at b)) (walk-on b at h))) w
 
   gather-same : (room : ℕ) (w : Bool) (acc : List ℕ) → AllInside b → gather_all room w acc c ≡ gather_all room w acc b

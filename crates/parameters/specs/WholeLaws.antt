@@ -1,5 +1,5 @@
 -- Cause 8 carries all that is to be reported of an INIT ACK that a packet can hold: more room would add nothing. Assumes nothing.
-use Rattle.std.specs.Prelude.{ℕ, ◌+◌, ◌-◌, ◌%◌, ◌<◌, ◌≤◌, ◌≡◌, refl, true, length, take, drop}
+use Rattle.std.specs.Prelude.{ℕ, ◌+◌, ◌%◌, ◌<◌, ◌≤◌, ◌≡◌, refl, true, Option, Some, None, length, take, drop}
 use Rattle.std.proofs.Math.Path.{sym, ap}
 use Rattle.std.proofs.Common.{◌∙◌, arith, le-ltb, length-drop, length-take-le}
 use Rattle.std.proofs.Math.Bool.{false}
@@ -14,8 +14,6 @@ use Rattle.chunks.specs.Frame.{chunk_end, behind}
 use Rattle.chunks.specs.BackLaws.{ended-within}
 use Rattle.chunks.specs.declared.kind.Handling.{Handling}
 use Rattle.chunks.specs.declared.kind.Handling.TheVariants.{Stop, StopAndReport, Skip, SkipAndReport}
-use Rattle.parameters.specs.declared.parameter.Treatment.{Treatment}
-use Rattle.parameters.specs.declared.parameter.Treatment.TheVariants.{Known, Unknown}
 use Rattle.parameters.specs.Parameter.{treated}
 use Rattle.parameters.specs.ReportLaws.{behind-long, judged-keeps}
 use Rattle.parameters.specs.Report.{fitted, Gathered, acted, parameter_judged, gather_one, gather_all, ROOM}
@@ -31,9 +29,9 @@ acted-same room rome acc p StopAndReport e = ap (λ (x : List ℕ). record { byt
 acted-same room rome acc p Skip e = refl
 acted-same room rome acc p SkipAndReport e = ap (λ (x : List ℕ). record { bytes = x; done = false }) e
 
-judged-same : (room rome : ℕ) (acc p : List ℕ) (t : Treatment) → fitted room acc p ≡ fitted rome acc p → parameter_judged room false acc p t ≡ parameter_judged rome false acc p t
-judged-same room rome acc p Known e = refl
-judged-same room rome acc p (Unknown h) e = acted-same room rome acc p h e
+judged-same : (room rome : ℕ) (acc p : List ℕ) (t : Option Handling) → fitted room acc p ≡ fitted rome acc p → parameter_judged room false acc p t ≡ parameter_judged rome false acc p t
+judged-same room rome acc p None e = refl
+judged-same room rome acc p (Some h) e = acted-same room rome acc p h e
 
 -- what is gathered ends no later than place `at`, padding counted; the parameter there, with what follows it, is t
 module _ (g : Gathered) (at : ℕ) (t : List ℕ) (f : at % 4 ≡ 0) (near : up4 (length g.bytes) ≤ at) (k : at + length t ≤ ROOM) where

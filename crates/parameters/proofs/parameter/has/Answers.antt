@@ -1,7 +1,6 @@
-use Rattle.parameters.specs.Parameter.{is_there, place_of}
-use Rattle.parameters.specs.ParameterLaws.{params-lent}
+use Rattle.std.proofs.Common.{◌∙◌}
+use Rattle.parameters.specs.ParameterLaws.{params-is, there-found}
 use Rattle.parameters.proofs.parameter.has.Goals as goal
 
 pub returns : goal.returns
-unfolding is_there place_of
-returns c = rw (c.first_of.ensures, params-lent _ _ c.parameters-p.ensures.0)
+returns c = c.is_some.ensures ∙ there-found _ _ (params-is c.args.s.now c.of.ensures c.parameters.ensures.0) _ c.first_of.ensures

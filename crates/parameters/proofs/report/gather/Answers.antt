@@ -1,20 +1,33 @@
-use borrow.Author.Rules.{rules}
-use native.Mathlib.Omega.{arith}
-use Prim.Native.Nat.{◌-◌}
-use mathlib.Core.Path.{refl}
-use mathlib.Core.Bool.{false}
-use Rattle.octets.specs.WalkLaws.{folding-none, folding-one, folding-end}
-use Rattle.parameters.specs.ReportLaws.{added-in, collected}
+use Rattle.std.proofs.Common.{rules, refl, sym, ap, ◌∙◌, true}
+use Rattle.octets.specs.WalkLaws.{folding-one, folding-end}
+use Rattle.parameters.specs.Parameter.{treated}
+use Rattle.parameters.specs.ReportLaws.{gather-known, gather-unknown, gather-stop, collected}
 use Rattle.parameters.proofs.report.gather.Goals as goal
+use Rattle.parameters.proofs.report.gather.Goals.{in-Some+else-is_stop, in_default}
 
-pub loop-at-init : goal.loop-at-init
-loop-at-init c = (omega arith, refl, folding-none _ _ _ _)
+pub returns-then-is_stop : goal.returns-then-is_stop
+returns-then-is_stop c =
+    collected {g = record { n = c.add-n.result; done = true }} c.add-n.ensures.within
+    (gather-stop _ _ c.loop-at.invariant.folding c.loop-at-test.true refl
+    (gather-unknown _ c.loop-at.invariant.long (c.in-Some.ensures ∙ ap treated c.get16.ensures) c.end.ensures.0 c.add-n.ensures (sym c.if-is_stop.true ∙ c.is_stop.ensures)))
 
 pub loop-at-preserved : goal.loop-at-preserved
-loop-at-preserved c = (c.add-g.ensures.within, search rules, folding-one c.loop-at.invariant.2 c.loop-at-test.true refl (added-in c.loop-at.invariant.1 c.add-g.ensures) c.size-at.ensures.0)
-
-pub shape_of-buf : goal.shape_of-buf
-shape_of-buf c = c.loop-at.invariant.1
+loop-at-preserved c = elim c.match-treatment_of.branch [
+  | in-Some+else-is_stop w ↦ record {
+    within = rw (w.n-is, w.buf-is) w.add-n.ensures.within;
+    long = search rules;
+    folding = rw (w.n-is, w.buf-is)
+        (folding-one c.loop-at.invariant.folding c.loop-at-test.true refl
+        (gather-unknown _ c.loop-at.invariant.long (w.in-Some.ensures ∙ ap treated c.get16.ensures) w.end.ensures.0 w.add-n.ensures (sym w.if-is_stop.false ∙ w.is_stop.ensures))
+        c.size-at.ensures.0);
+  }
+  | in_default w ↦ record {
+    within = rw (w.n-is, w.buf-is) c.loop-at.invariant.within;
+    long = search rules;
+    folding = rw (w.n-is, w.buf-is)
+        (folding-one c.loop-at.invariant.folding c.loop-at-test.true refl (gather-known _ _ _ _ (w.in_default.ensures ∙ ap treated c.get16.ensures)) c.size-at.ensures.0);
+  }
+]
 
 pub returns : goal.returns
-returns c = collected c.loop-at.invariant.0 (folding-end c.loop-at.invariant.2 c.loop-at-test.false)
+returns c = collected c.loop-at.invariant.within (folding-end c.loop-at.invariant.folding c.loop-at-test.false)

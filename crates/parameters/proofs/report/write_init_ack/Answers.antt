@@ -1,13 +1,12 @@
-use mathlib.Core.Path.{refl}
-use Rattle.parameters.specs.ParameterLaws.{params-lent}
-use Rattle.parameters.specs.ReportLaws.{init-ack-over, init-ack-none, init-ack-wrote}
+use Rattle.std.proofs.Common.{rules, refl, arith, ◌≤◌, length}
+use Rattle.parameters.specs.ParameterLaws.{params-is}
+use Rattle.parameters.specs.ReportLaws.{init-ack-not, init-ack-wrote}
 use Rattle.parameters.proofs.report.write_init_ack.Goals as goal
 
-pub returns-then-c-gt-LONGEST : goal.returns-then-c-gt-LONGEST
-returns-then-c-gt-LONGEST c = init-ack-over _ _ _ c.if-c-gt-LONGEST.true
-
-pub returns-then-c-eq0 : goal.returns-then-c-eq0
-returns-then-c-eq0 c = init-ack-none _ _ _ c.if-c-gt-LONGEST.false c.if-c-eq0.true
+pub returns-then-not-contains : goal.returns-then-not-contains
+returns-then-not-contains c = init-ack-not c.args.v c.args.cookie.now c.args.s.now (search rules)
 
 pub returns : goal.returns
-returns c = init-ack-wrote c.args.v c.args.cookie.now c.args.s.now c.if-c-gt-LONGEST.false c.if-c-eq0.false _ refl c.put16.ensures c.put16-2.ensures c.put_all.ensures (params-lent _ _ c.parameters-p.ensures.0) c.gather-n.ensures c.write_fields.ensures
+returns c =
+    let h : (1 ≤ length c.args.cookie.now) × (length c.args.cookie.now ≤ 256) = search rules in
+    init-ack-wrote c.args.v c.args.cookie.now c.args.s.now h.1 (λ e. omega (arith, e, h.0)) _ refl c.put16.ensures c.put16-2.ensures c.put_all.ensures (params-is c.args.s.now c.of.ensures c.parameters.ensures.0) c.gather-n.ensures c.write_fields.ensures

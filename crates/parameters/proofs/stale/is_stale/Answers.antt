@@ -1,19 +1,10 @@
-use Prim.Native.Nat.{◌+◌, ◌-◌}
-use lib.ListN.{take, drop}
-use borrow.Author.Tests.{lt-ltb, le-ltb}
-use Rattle.octets.specs.BytesLaws.{part-is}
-use Rattle.parameters.specs.Stale.{stale_in}
-use Rattle.parameters.specs.ParameterLaws.{lent-part}
+use Rattle.std.proofs.Common.{◌∙◌, ap}
+use Rattle.chunks.specs.Frame.{bytes_in}
+use Rattle.parameters.specs.StaleLaws.{stale-there, stale-past}
 use Rattle.parameters.proofs.stale.is_stale.Goals as goal
 
-pub returns-then-crooked : goal.returns-then-crooked
-unfolding stale_in
-returns-then-crooked c = rw (← lent-part _ _ c.causes-p.ensures.0, ← c.first_end-at.ensures, lt-ltb _ _ c.if-at-b.true, ← part-is (take (c.causes-p.result.at + c.causes-p.result.len - c.causes-p.result.at) (drop c.causes-p.result.at c.args.s.now)) c.first_end-at.result, ← c.crooked.ensures, c.if-crooked.true)
-
 pub returns-then-at-b : goal.returns-then-at-b
-unfolding stale_in
-returns-then-at-b c = rw (← lent-part _ _ c.causes-p.ensures.0, ← c.first_end-at.ensures, lt-ltb _ _ c.if-at-b.true, ← part-is (take (c.causes-p.result.at + c.causes-p.result.len - c.causes-p.result.at) (drop c.causes-p.result.at c.args.s.now)) c.first_end-at.result, ← c.crooked.ensures, c.if-crooked.false)
+returns-then-at-b c = stale-there c.args.s.now (c.of-b.ensures ∙ ap (bytes_in c.args.s.now) c.causes.ensures.0) c.first_item-at.ensures.0 c.if-at-b.true c.crooked.ensures
 
-pub returns : goal.returns
-unfolding stale_in
-returns c = rw (← lent-part _ _ c.causes-p.ensures.0, ← c.first_end-at.ensures, le-ltb _ _ c.if-at-b.false)
+pub returns-else-at-b : goal.returns-else-at-b
+returns-else-at-b c = stale-past c.args.s.now (c.of-b.ensures ∙ ap (bytes_in c.args.s.now) c.causes.ensures.0) c.first_item-at.ensures.0 c.if-at-b.false
