@@ -1,41 +1,25 @@
--- What the loop that compares two texts keeps, and that the digits of the kit are a number's. Assumes nothing.
-use Rattle.std.specs.Prelude.{ℕ, zero, suc, ◌+◌, ◌-◌, ◌*◌, ◌/◌, ◌%◌, ◌^◌, ◌<◌, ◌≤◌, ◌≡◌, refl, true, false, List, [], ◌∷◌, ◌++◌, length, drop, get_or, eqb, ltb}
-use Rattle.std.proofs.Common.{ap, ◌∙◌, arith, lt-ltb, le-ltb, eq-eqb, ne_eqb, drop_of_length-le}
+-- That the comparison of the library is ours, and that the digits of the kit are a number's. Assumes nothing.
+use Rattle.std.specs.Prelude.{ℕ, zero, suc, ◌-◌, ◌*◌, ◌/◌, ◌%◌, ◌^◌, ◌<◌, ◌≤◌, ◌≡◌, refl, Bool, true, false, ◌&&◌, List, [], ◌∷◌, eqb}
+use Rattle.std.proofs.Common.{arith, lt-ltb, le-ltb}
 use Rattle.std.proofs.Math.Nat.{pow-succ'}
 use Rattle.std.proofs.Math.Decide.{dec_le}
+use Rattle.std.specs.Cmp.Lexicographic.{pointwise}
 use Rattle.io.specs.Digits.{hex_digit_ascii, last_digits, IsDigitCount}
-use Rattle.scans.specs.Scan.{pick, drop_at}
+use Rattle.scans.specs.Scan.{pick}
 use Rattle.pages.specs.Page.{is_same, letter_of, decimal_in, decimal_of}
 
--- ---- two texts of one length
+-- ---- two texts
 
--- the first i bytes are the same
-pub record Comparing (s t : List ℕ) (i : ℕ) : Type 0 where
-  pub long : length s ≡ length t
-  pub rest : is_same (drop i s) (drop i t) ≡ is_same s t
-
-pub same-long : (s t : List ℕ) → (length s ≡ length t → ⊥) → is_same s t ≡ false
-same-long [] [] n = absurd (n refl)
-same-long [] (y ∷ ys) n = refl
-same-long (x ∷ xs) [] n = refl
-same-long (x ∷ xs) (y ∷ ys) n = rw (same-long xs ys (λ e. n (ap suc e))) (go (eqb x y))
+-- "the same bytes", in the words of the library
+pub same-is : (s t : List ℕ) → pointwise eqb s t ≡ is_same s t
+same-is [] [] = refl
+same-is [] (y ∷ ys) = refl
+same-is (x ∷ xs) [] = refl
+same-is (x ∷ xs) (y ∷ ys) = rw (same-is xs ys) (go (eqb x y))
   where
-    go : (t : _) → pick t false false ≡ false
+    go : (t : Bool) → (t && is_same xs ys) ≡ pick t (is_same xs ys) false
     go true = refl
     go false = refl
-
-module _ {s t : List ℕ} {i : ℕ} (w : Comparing s t i) where
-  here : i < length s → pick (eqb (get_or s i 0) (get_or t i 0)) (is_same (drop (i + 1) s) (drop (i + 1) t)) false ≡ is_same s t
-  here h = rw (drop_at s i 0 h, drop_at t i 0 (omega (arith, w.long))) at w.rest
-
-  pub same-no : i < length s → (get_or s i 0 ≡ get_or t i 0 → ⊥) → false ≡ is_same s t
-  same-no h n = rw (ne_eqb (get_or s i 0) (get_or t i 0) n) at (here h)
-
-  pub same_more : i < length s → get_or s i 0 ≡ get_or t i 0 → Comparing s t (i + 1)
-  same_more h e = record { long = w.long; rest = rw (eq-eqb (get_or s i 0) (get_or t i 0) e) at (here h) }
-
-  pub same_end : length s ≤ i → true ≡ is_same s t
-  same_end h = rw (drop_of_length-le s {i = i} h, drop_of_length-le t {i = i} (omega (arith, w.long))) at w.rest
 
 -- ---- digits
 

@@ -3,7 +3,7 @@ ghost use Rattle.std.specs.Prelude.{◌≡◌, [], ◌∷◌};
 ghost use Rattle.pages.specs.Reading.{astray, plus_of};
 ghost use Rattle.pages.specs.Page.{is_same, said_at, letter_of, decimal_of, named_at, byte_text, spaced_at, rows_at, packet_at, answer_at};
 
-use octets::{get8, part};
+use octets::part;
 
 // The descriptor of the standard output.
 const STANDARD_OUTPUT: i32 = 1;
@@ -11,33 +11,31 @@ const STANDARD_OUTPUT: i32 = 1;
 // Bytes of a packet that are shown, of a longer one its first.
 const SHOWN: usize = 160;
 
-// Where a text is that is not as it should be: past the end of every line.
+// Where a text is that is not as it should be: past the end of every line. A place and no Option: each part that is said hands it on to the next, and only
+// the last is looked at.
 const ASTRAY: usize = 1000000;
 
+#[tactic(auto, unfolding(crate::specs::Reading::plus_of))]
 pub fn plus(a: usize, b: usize) -> usize
     ensures { result ≡ plus_of a b }
 {
-    if a < ASTRAY {
-        if b < ASTRAY {
-            return a + b;
-        }
-        return a;
-    }
-    a
+    if a < ASTRAY && b < ASTRAY { a + b } else { a }
 }
 
 pub fn text(s: &[u8]) {
     io::write_all(STANDARD_OUTPUT, s);
 }
 
+#[tactic(auto, unfolding(crate::specs::Page::said_at))]
 pub fn say(should: &[u8], at: usize, s: &[u8]) -> usize
     ensures { result ≡ said_at should.now at s.now }
 {
     text(s);
     if same(part(should, at, s.len()), s) {
-        return plus(at, s.len());
+        plus(at, s.len())
+    } else {
+        ASTRAY
     }
-    ASTRAY
 }
 
 pub fn say_number(should: &[u8], at: usize, n: u64) -> usize
@@ -56,16 +54,15 @@ pub fn say_named(should: &[u8], at: usize, name: &[u8], n: u64) -> usize
     say_number(should, to, n)
 }
 
+#[tactic(auto, unfolding(crate::specs::Page::letter_of))]
 fn letter(n: u8) -> u8
     ensures { result ≡ letter_of n }
 {
-    if n < 10 {
-        return 48 + n;
+    match n {
+        0..=9 => b'0' + n,
+        10..=15 => b'a' + (n - 10),
+        _ => b'?',
     }
-    if n < 16 {
-        return 87 + n;
-    }
-    63
 }
 
 fn say_byte(should: &[u8], at: usize, b: u8) -> usize
@@ -75,24 +72,24 @@ fn say_byte(should: &[u8], at: usize, b: u8) -> usize
 }
 
 // Every fourth byte has a space before it.
+#[tactic(auto, unfolding(crate::specs::Page::spaced_at))]
 fn say_spaced(should: &[u8], at: usize, i: usize, b: u8) -> usize
     ensures { result ≡ spaced_at should.now at i b }
 {
-    if i % 4 == 0 {
-        let to = say(should, at, b" ");
-        return say_byte(should, to, b);
-    }
-    say_byte(should, at, b)
+    let to = if i % 4 == 0 {
+        say(should, at, b" ")
+    } else {
+        at
+    };
+    say_byte(should, to, b)
 }
 
 fn say_rows(should: &[u8], at: usize, s: &[u8]) -> usize
     ensures { result ≡ rows_at should.now at s.now }
 {
     let mut to = at;
-    let mut i = 0;
-    while i < s.len() {
-        to = say_spaced(should, to, i, get8(s, i));
-        i += 1;
+    for (i, b) in s.iter().enumerate() {
+        to = say_spaced(should, to, i, *b);
     }
     to
 }
@@ -112,27 +109,19 @@ pub fn say_packet(should: &[u8], at: usize, s: &[u8]) -> usize
 pub fn same(s: &[u8], t: &[u8]) -> bool
     ensures { result ≡ is_same s.now t.now }
 {
-    if s.len() != t.len() {
-        return false;
-    }
-    let mut i = 0;
-    while i < s.len() {
-        if get8(s, i) != get8(t, i) {
-            return false;
-        }
-        i += 1;
-    }
-    true
+    s == t
 }
 
 // A number of document 01, or ok.
+#[tactic(auto, unfolding(crate::specs::Page::answer_at))]
 pub fn say_answer(should: &[u8], at: usize, number: u8) -> usize
     ensures { result ≡ answer_at should.now at number }
 {
     if number == 0 {
-        return say(should, at, b"ok");
+        say(should, at, b"ok")
+    } else {
+        say_named(should, at, b"no ", u64::from(number))
     }
-    say_named(should, at, b"no ", number as u64)
 }
 
 // Of a line that the program does not read: it is not as it should be.
@@ -147,9 +136,9 @@ pub fn say_unread(should: &[u8]) -> usize
 pub fn compare(should: &[u8], end: usize) {
     text(b" | ");
     text(should);
-    if end == should.len() {
-        text(b" same\n");
-        return;
-    }
-    text(b" DIFFERS\n");
+    text(if end == should.len() {
+        b" same\n"
+    } else {
+        b" DIFFERS\n"
+    });
 }

@@ -1,11 +1,11 @@
-use borrow.Author.Tests.{eq-eqb, ne_eqb}
-use Rattle.pages.specs.Reading.{half_put}
+use Rattle.std.proofs.Common.{eq-eqb, ne_eqb, lt-ltb}
+use Rattle.pages.specs.Reading.{half_put, high_of}
 use Rattle.pages.proofs.reading.put_half.Goals as goal
-
-pub returns-then-n-eq0 : goal.returns-then-n-eq0
-unfolding half_put
-returns-then-n-eq0 c = rw (eq-eqb _ _ c.if-n-eq0.true, ← c.high.ensures) (λ i. record { out = c.put8.ensures i; half = c.plus.ensures i })
+use Rattle.pages.proofs.reading.put_half.Goals.{then-n-eq0, else-n-eq0}
 
 pub returns : goal.returns
-unfolding half_put
-returns c = rw (ne_eqb _ _ c.if-n-eq0.false, ← c.get8.ensures, ← c.joined.ensures) (λ i. record { out = c.put8-2.ensures i; half = c.plus-2.ensures i })
+unfolding half_put high_of
+returns c = elim c.if-n-eq0.branch [
+  | then-n-eq0 w ↦ rw (eq-eqb _ _ w.if-n-eq0.true, lt-ltb _ _ c.requires, ← w.byte-is) (λ i. record { out = c.put8.ensures i; half = c.plus.ensures i })
+  | else-n-eq0 w ↦ rw (ne_eqb _ _ w.if-n-eq0.false, ← w.get8.ensures, ← w.joined-byte.ensures, ← w.byte-is) (λ i. record { out = c.put8.ensures i; half = c.plus.ensures i })
+]

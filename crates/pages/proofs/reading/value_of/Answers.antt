@@ -1,14 +1,11 @@
-use mathlib.Core.Path.{refl, ap, ◌∙◌}
-use Rattle.pages.specs.Reading.{grown_by, digit_of}
-use Prim.Native.Nat.{◌-◌}
-use Rattle.pages.specs.ReadingLaws.{value-more, value-end}
+use Rattle.std.proofs.Common.{ap, ◌∙◌}
+use Rattle.pages.specs.Reading.{grown_by}
+use Rattle.pages.specs.ReadingLaws.{value-more, grown-none}
 use Rattle.pages.proofs.reading.value_of.Goals as goal
+use Rattle.pages.proofs.reading.value_of.Goals.{in-Some, in_default}
 
-pub loop-i-init : goal.loop-i-init
-loop-i-init c = record { rest = refl }
-
-pub loop-i-preserved : goal.loop-i-preserved
-loop-i-preserved c = value-more c.loop-i.invariant c.loop-i-test.true (c.grown-n.ensures ∙ ap (grown_by _ _) (c.digit.ensures ∙ ap digit_of c.get8.ensures))
-
-pub returns : goal.returns
-returns c = value-end c.loop-i.invariant c.loop-i-test.false
+pub loop-b-preserved : goal.loop-b-preserved
+loop-b-preserved c = elim c.match-digit.branch [
+  | in-Some w ↦ value-more c.loop-b.invariant c.loop-b-test.true (w.n-is ∙ w.grown-n.ensures ∙ ap (grown_by _ _) w.in-Some.ensures.0)
+  | in_default w ↦ value-more c.loop-b.invariant c.loop-b-test.true (w.n-is ∙ grown-none _ _ w.in_default.ensures)
+]
