@@ -1,5 +1,5 @@
 -- What a SACK, misses and T3 find in a table, and that the words they leave show the places that the definitions have. Assumes nothing.
-use Rattle.std.specs.Prelude.{ℕ, ◌*◌, ◌≤◌, ◌≡◌, refl, Bool, true, false, List, map, length}
+use Rattle.std.specs.Prelude.{ℕ, ◌*◌, ◌≤◌, ◌≡◌, refl, Bool, false, List, map, length}
 use Rattle.std.proofs.Common.{sym, ◌∙◌, eqb-true}
 use Rattle.numbers.specs.declared.circle.Tsn.{Tsn}
 use Rattle.numbers.specs.Profile.{Profile}

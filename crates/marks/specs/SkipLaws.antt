@@ -1,7 +1,7 @@
 -- A loop that passes over an element which adds nothing. Assumes nothing.
-use Rattle.std.specs.Prelude.{ℕ, ◌+◌, ◌<◌, ◌≡◌, refl, Bool, true, false, List, get_or, ltb}
+use Rattle.std.specs.Prelude.{ℕ, ◌+◌, ◌<◌, ◌≡◌, refl, Bool, true, false, List, get_or}
 use Rattle.std.proofs.Common.{sym, ap, ◌∙◌, arith, le-ltb}
-use Rattle.scans.specs.Scan.{pick, either, Summing, sum_more, Asking, ask-more}
+use Rattle.scans.specs.Scan.{either, Summing, sum_more, Asking, ask-more}
 use Rattle.scans.specs.Upto.{larger, Topping, top-more}
 
 pub sum-skip : {A : Type 0} {g : A → ℕ} {b : ℕ} {xs : List A} {n i acc : ℕ} → Summing g b xs n i acc → (d : A) → i < n → g (get_or xs i d) ≡ 0 → Summing g b xs n (i + 1) acc

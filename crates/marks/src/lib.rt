@@ -11,7 +11,7 @@ ghost use Rattle.tables.specs.PlaceStates.{states_by};
 ghost use Rattle.marks.specs.MarkingLaws.{never, missing};
 
 use numbers::{Rail, Tsn};
-use places::{Place, Sack, Tally, all, sack};
+use places::{Place, Sack, Tally, sack};
 
 // What a SACK newly acknowledges: the bytes, and the highest offset.
 #[derive(Clone, Copy)]
@@ -36,28 +36,20 @@ pub fn taken_in(k: Sack, t: &mut [u32; 1024], from: Tsn) -> Took
 {
     let mut newly: u32 = 0;
     let mut highest: u32 = 0;
-    let mut i: usize = 0;
-    while i < Rail::PLACES {
+    for i in 0..Rail::PLACES {
         if tables::place::status_at(t, i) == Place::FREE {
-            i += 1;
-        } else {
-            let p = tables::place::place_at(t, i);
-            let q = k.settled(p);
-            if q.status == p.status {
-                tables::place::put_state(t, i, q);
-                i += 1;
-            } else {
-                newly += sack::newly_bytes(p, q);
-                highest = path::measure::greater(highest, sack::newly_offset(p, q, from));
-                tables::place::put_state(t, i, q);
-                i += 1;
-            }
+            continue;
         }
+        let p = tables::place::place_at(t, i);
+        let q = k.settled(p);
+        tables::place::put_state(t, i, q);
+        if q.status == p.status {
+            continue;
+        }
+        newly += sack::newly_bytes(p, q);
+        highest = highest.max(sack::newly_offset(p, q, from));
     }
-    Took {
-        newly: newly,
-        highest: highest,
-    }
+    Took { newly, highest }
 }
 
 // Misses, and the sums over the places that they leave.
@@ -69,34 +61,23 @@ pub fn missed_all(t: &mut [u32; 1024], from: Tsn, limit: u64) -> Missing
     let mut flight: u32 = 0;
     let mut left = false;
     let mut last: u32 = 0;
-    let mut i: usize = 0;
-    while i < Rail::PLACES {
+    for i in 0..Rail::PLACES {
         if tables::place::status_at(t, i) == Place::FREE {
-            i += 1;
-        } else {
-            let p = tables::place::place_at(t, i);
-            if p.gets(from, limit) {
-                let q = p.missed(from, limit);
-                struck = all::either(struck, p.reaches(from, limit));
-                flight += q.flight();
-                left = all::either(left, q.is_outstanding());
-                last = path::measure::greater(last, q.last(from));
-                tables::place::put_state(t, i, q);
-                i += 1;
-            } else {
-                flight += p.flight();
-                left = all::either(left, p.is_outstanding());
-                last = path::measure::greater(last, p.last(from));
-                tables::place::put_state(t, i, p);
-                i += 1;
-            }
+            continue;
         }
+        let p = tables::place::place_at(t, i);
+        let q = p.missed(from, limit);
+        struck |= p.reaches(from, limit);
+        flight += q.flight();
+        left |= q.is_outstanding();
+        last = last.max(q.last(from));
+        tables::place::put_state(t, i, q);
     }
     Missing {
-        struck: struck,
-        flight: flight,
-        left: left,
-        last: last,
+        struck,
+        flight,
+        left,
+        last,
     }
 }
 
@@ -106,13 +87,10 @@ pub fn marked_all(t: &mut [u32; 1024]) -> u32
     ensures t_after { t.new ≡ states_by rail never marked_for_resend t.old }
 {
     let mut flight: u32 = 0;
-    let mut i: usize = 0;
-    while i < Rail::PLACES {
-        let p = tables::place::place_at(t, i);
-        let q = p.marked();
+    for i in 0..Rail::PLACES {
+        let q = tables::place::place_at(t, i).marked();
         flight += q.flight();
         tables::place::put_state(t, i, q);
-        i += 1;
     }
     flight
 }
@@ -125,20 +103,18 @@ pub fn tallied(t: &[u32; 1024], from: Tsn) -> Tally
     let mut payload: u32 = 0;
     let mut left = false;
     let mut last: u32 = 0;
-    let mut i: usize = 0;
-    while i < Rail::PLACES {
+    for i in 0..Rail::PLACES {
         let p = tables::place::place_at(t, i);
         flight += p.flight();
         payload += p.payload();
-        left = all::either(left, p.is_outstanding());
-        last = path::measure::greater(last, p.last(from));
-        i += 1;
+        left |= p.is_outstanding();
+        last = last.max(p.last(from));
     }
     Tally {
-        flight: flight,
-        payload: payload,
-        left: left,
-        last: last,
+        flight,
+        payload,
+        left,
+        last,
     }
 }
 
@@ -147,13 +123,9 @@ pub fn having(t: &[u32; 1024], status: u8) -> usize
     ensures { (result ≡ count (has_status status) (places_of rail t.now)) × (result ≤ 128) }
 {
     let mut n: usize = 0;
-    let mut i: usize = 0;
-    while i < Rail::PLACES {
+    for i in 0..Rail::PLACES {
         if tables::place::status_at(t, i) == status {
             n += 1;
-            i += 1;
-        } else {
-            i += 1;
         }
     }
     n
@@ -163,6 +135,5 @@ pub fn having(t: &[u32; 1024], status: u8) -> usize
 pub fn is_empty(t: &[u32; 1024]) -> bool
     ensures { result ≡ is_empty (places_of rail t.now) }
 {
-    let n = having(t, Place::FREE);
-    n == Rail::PLACES
+    having(t, Place::FREE) == Rail::PLACES
 }

@@ -1,9 +1,9 @@
 -- What a pass over all places needs: what is asked of the places, as sums over them, also where each is replaced; a place that is given another state keeps
 -- its chunk; a free place stays and adds nothing. Assumes nothing.
-use Rattle.std.specs.Prelude.{ℕ, ◌+◌, ◌<◌, ◌≡◌, refl, Bool, true, false, not, List, [], ◌∷◌, map, eqb, ltb}
+use Rattle.std.specs.Prelude.{ℕ, ◌+◌, ◌<◌, ◌≡◌, refl, Bool, true, false, not, ◌||◌, List, [], ◌∷◌, map, eqb, ltb}
 use Rattle.std.proofs.Common.{ap, arith, ne_eqb, ltb-true}
 use Rattle.numbers.specs.declared.circle.Tsn.{Tsn}
-use Rattle.scans.specs.Scan.{pick, any, total, count}
+use Rattle.scans.specs.Scan.{pick, either, any, total, count}
 use Rattle.scans.specs.Upto.{larger, largest}
 use Rattle.places.specs.declared.place.Place.{Place}
 use Rattle.places.specs.declared.sack.Sack.{Sack}
@@ -165,3 +165,8 @@ module _ (from : Tsn) (limit : ℕ) (p : Place) (e : gets from limit p ≡ false
   pub unreached : reaches_three from limit p ≡ false
   unfolding reaches_three
   unreached = rw e
+
+-- a flag that is raised with no branch
+pub or-either : (a b : Bool) → (a || b) ≡ either a b
+or-either true b = refl
+or-either false b = refl

@@ -1,4 +1,3 @@
-use Prim.Native.Nat.{◌-◌}
 use Rattle.numbers.specs.Profile.{rail}
 use Rattle.scans.specs.Scan.{Counting}
 use Rattle.places.specs.Places.{has_status}
@@ -7,6 +6,3 @@ use Rattle.marks.proofs.having.Given as goal
 
 abbrev pub invariant-loop-i : goal.invariant-loop-i
 invariant-loop-i l = Counting (has_status l.status) (places_of rail l.t) 128 l.i l.n
-
-abbrev pub decreases-loop-i : goal.decreases-loop-i
-decreases-loop-i l = 128 - l.i

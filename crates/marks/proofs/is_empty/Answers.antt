@@ -3,4 +3,4 @@ use Rattle.tables.specs.OpenLaws.{by-law}
 use Rattle.marks.proofs.is_empty.Goals as goal
 
 pub returns : goal.returns
-returns c = by-law (empty-is _) (rw c.having-n.ensures.0)
+returns c = by-law (empty-is _) (rw c.having.ensures.0)

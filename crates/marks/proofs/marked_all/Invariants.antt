@@ -1,4 +1,3 @@
-use Prim.Native.Nat.{◌-◌}
 use Rattle.numbers.specs.Profile.{rail}
 use Rattle.scans.specs.Scan.{Summing}
 use Rattle.places.specs.Places.{flight_of, marked_for_resend}
@@ -9,6 +8,3 @@ use Rattle.marks.proofs.marked_all.Given as goal
 
 abbrev pub invariant-loop-i : goal.invariant-loop-i
 invariant-loop-i l = Stating rail never marked_for_resend l.initial.t l.i l.t × Summing (λ p. flight_of (marked_for_resend p)) 65551 (places_of rail l.initial.t) 128 l.i l.flight
-
-abbrev pub decreases-loop-i : goal.decreases-loop-i
-decreases-loop-i l = 128 - l.i

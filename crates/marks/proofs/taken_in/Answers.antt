@@ -1,17 +1,18 @@
 use borrow.Author.Rules.{rules}
-use Prim.Native.Nat.{ℕ, ◌-◌}
+use Prim.Native.Nat.{ℕ}
 use lib.Dec.{eqb}
 use mathlib.Core.Path.{sym, ap, ◌∙◌}
 use borrow.Author.Tests.{eq-eqb, ne_eqb}
 use Rattle.numbers.specs.Profile.{rail}
-use Rattle.scans.specs.Upto.{top_start, top-more, top-end}
+use Rattle.scans.specs.Upto.{larger, top_start, top-more, top-end}
 use Rattle.scans.specs.Scan.{sum-start, sum_more, sum-end}
+use Rattle.path.specs.LeastLaws.{max-larger}
 use Rattle.places.specs.declared.place.Place.{Place}
-use Rattle.places.specs.Sack.{place_settled, newly_offset}
+use Rattle.places.specs.Sack.{place_settled}
 use Rattle.places.specs.PassLaws.{taken-newly, taken-highest, free_bytes, free-offset, same_bytes, same-offset}
 use Rattle.tables.specs.PlaceWords.{vacant}
 use Rattle.tables.specs.PlaceWordsLaws.{places-long}
-use Rattle.tables.specs.PlaceStates.{state-start, state-next, state-more, state-skip, state-end}
+use Rattle.tables.specs.PlaceStates.{state-start, state-next, state-more, state-skip}
 use Rattle.marks.specs.SkipLaws.{sum-skip, top-skip}
 use Rattle.marks.proofs.taken_in.Goals as goal
 
@@ -28,7 +29,7 @@ pub overflow_add-newly : goal.overflow_add-newly
 overflow_add-newly c = search (rules, c.loop-i.invariant.1.below, c.loop-i.invariant.1.within, c.loop-i-test.true, c.newly_bytes-newly.ensures.1)
 
 pub loop-i-preserved : goal.loop-i-preserved
-loop-i-preserved c = let w = c.loop-i.invariant in let h = c.loop-i-test.true in let e = c.place_at-p.ensures in let f = e ∙ state-next w.0 h in let s = c.settled-q.ensures in (state-more w.0 h (ap (λ (s : ℕ). eqb s 0) (sym c.status_at.ensures) ∙ ne_eqb _ _ c.if-status_at-eq-FREE.false) (s ∙ ap (place_settled c.args.k) e) c.put_state-else-q-p.ensures, sum_more w.1 vacant _ h (rw f at (rw s at c.newly_bytes-newly.ensures.0)) c.newly_bytes-newly.ensures.1, top-more w.2 vacant _ h (rw f at (rw (c.newly_offset.ensures, s) at c.greater-highest.ensures)))
+loop-i-preserved c = let w = c.loop-i.invariant in let h = c.loop-i-test.true in let e = c.place_at-p.ensures in let f = e ∙ state-next w.0 h in let s = c.settled-q.ensures in (state-more w.0 h (ap (λ (s : ℕ). eqb s 0) (sym c.status_at.ensures) ∙ ne_eqb _ _ c.if-status_at-eq-FREE.false) (s ∙ ap (place_settled c.args.k) e) c.put_state.ensures, sum_more w.1 vacant _ h (rw f at (rw s at c.newly_bytes-newly.ensures.0)) c.newly_bytes-newly.ensures.1, top-more w.2 vacant _ h (c.max-highest.ensures ∙ max-larger c.loop-i.highest c.newly_offset.result ∙ ap (λ (n : ℕ). larger c.loop-i.highest n) (rw f at (rw s at c.newly_offset.ensures))))
 
-pub returns : goal.returns
-returns c = let w = c.loop-i.invariant in let d = c.loop-i-test.false in record { newly_after = (sum-end w.1 d ∙ sym (taken-newly _ _ _), top-end w.2 d ∙ sym (taken-highest _ _ _)); t_after = state-end w.0 d }
+pub returns-clause-newly_after : goal.returns-clause-newly_after
+returns-clause-newly_after c = let w = c.loop-i.invariant in let d = c.loop-i-test.false in (sum-end w.1 d ∙ sym (taken-newly _ _ _), top-end w.2 d ∙ sym (taken-highest _ _ _))
