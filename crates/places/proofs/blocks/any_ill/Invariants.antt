@@ -1,10 +1,6 @@
-use Prim.Native.Nat.{◌-◌}
 use Rattle.scans.specs.Upto.{Trying}
 use Rattle.places.specs.SackBlocks.{is_ill}
 use Rattle.places.proofs.blocks.any_ill.Given as goal
 
 abbrev pub invariant-loop-j : goal.invariant-loop-j
-invariant-loop-j l = Trying (is_ill l.b l.room) l.n l.j
-
-abbrev pub decreases-loop-j : goal.decreases-loop-j
-decreases-loop-j l = l.n - l.j
+invariant-loop-j l = Trying (is_ill l.b l.room) l.j-end l.j

@@ -1,11 +1,11 @@
-use borrow.Author.Tests.{lt-ltb, le-ltb}
+use borrow.Author.Tests.{lt-ltb, le-ltb, lt-leb}
 use Rattle.places.specs.SackBlocks.{block_has}
 use Rattle.places.proofs.blocks.block_has.Goals as goal
 
-pub returns-then-d-a : goal.returns-then-d-a
+pub returns-then-from-d : goal.returns-then-from-d
 unfolding block_has
-returns-then-d-a c = rw (lt-ltb _ _ c.if-d-a.true)
+returns-then-from-d c = rw (← c.from.ensures, le-ltb _ _ c.if-from-d.true, c.from-then-from-d.ensures)
 
-pub returns : goal.returns
+pub returns-else-from-d : goal.returns-else-from-d
 unfolding block_has
-returns c = rw (le-ltb _ _ c.if-d-a.false)
+returns-else-from-d c = rw (← c.from.ensures, lt-ltb _ _ c.if-from-d.false, lt-leb _ _ c.if-from-d.false)

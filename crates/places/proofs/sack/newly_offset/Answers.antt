@@ -5,6 +5,6 @@ pub returns-then-is_newly : goal.returns-then-is_newly
 unfolding newly_offset
 returns-then-is_newly c = rw (← c.is_newly.ensures, c.if-is_newly.true) c.offset.ensures
 
-pub returns : goal.returns
+pub returns-else-is_newly : goal.returns-else-is_newly
 unfolding newly_offset
-returns c = rw (← c.is_newly.ensures, c.if-is_newly.false)
+returns-else-is_newly c = rw (← c.is_newly.ensures, c.if-is_newly.false)

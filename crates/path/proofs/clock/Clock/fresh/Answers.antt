@@ -3,4 +3,4 @@ use Rattle.path.proofs.clock.Clock.fresh.Goals as goal
 
 pub returns : goal.returns
 unfolding fresh_clock
-returns c = rw c.rto_start-rto.ensures
+returns c = rw c.of.ensures

@@ -3,4 +3,4 @@ use Rattle.path.proofs.control.Control.fresh.Goals as goal
 
 pub returns : goal.returns
 unfolding fresh_control
-returns c = rw c.start-cwnd.ensures
+returns c = rw c.of.ensures

@@ -6,6 +6,6 @@ pub returns-then-mode-eq-MODE : goal.returns-then-mode-eq-MODE
 unfolding grown_open
 returns-then-mode-eq-MODE c = rw c.if-mode-eq-MODE.true c.grown_old.ensures
 
-pub returns : goal.returns
+pub returns-else-mode-eq-MODE : goal.returns-else-mode-eq-MODE
 unfolding grown_open
-returns c = rw (ne_eqb _ _ c.if-mode-eq-MODE.false) c.grown_steady.ensures
+returns-else-mode-eq-MODE c = rw (ne_eqb _ _ c.if-mode-eq-MODE.false) c.grown_steady.ensures

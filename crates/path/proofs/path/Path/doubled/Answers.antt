@@ -3,4 +3,4 @@ use Rattle.path.proofs.path.Path.doubled.Goals as goal
 
 pub returns : goal.returns
 unfolding backed_off
-returns c = rw c.doubled-u.ensures
+returns c = rw c.doubled-self.ensures

@@ -5,6 +5,6 @@ pub returns-then-is_reached : goal.returns-then-is_reached
 unfolding recovery_ended
 returns-then-is_reached c = rw (← c.is_reached.ensures, c.if-is_reached.true)
 
-pub returns : goal.returns
+pub returns-else-is_reached : goal.returns-else-is_reached
 unfolding recovery_ended
-returns c = rw (← c.is_reached.ensures, c.if-is_reached.false)
+returns-else-is_reached c = rw (← c.is_reached.ensures, c.if-is_reached.false)

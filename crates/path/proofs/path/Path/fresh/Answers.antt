@@ -3,4 +3,4 @@ use Rattle.path.proofs.path.Path.fresh.Goals as goal
 
 pub returns : goal.returns
 unfolding fresh_path
-returns c = rw (c.fresh-clock.ensures, c.fresh-control.ensures)
+returns c = rw (c.fresh.ensures, c.fresh-2.ensures)

@@ -4,8 +4,8 @@ use Rattle.path.proofs.path.Path.grew.Goals as goal
 
 pub returns-then-newly-gt0 : goal.returns-then-newly-gt0
 unfolding grew
-returns-then-newly-gt0 c = rw (lt-ltb _ _ c.if-newly-gt0.true, c.grown-m.ensures, c.is_free-free.ensures)
+returns-then-newly-gt0 c = rw (lt-ltb _ _ c.if-newly-gt0.true, c.grown-self.ensures, c.is_free-free.ensures)
 
-pub returns : goal.returns
+pub returns-else-newly-gt0 : goal.returns-else-newly-gt0
 unfolding grew
-returns c = rw (le-ltb _ _ c.if-newly-gt0.false, c.grown-m.ensures, c.is_free-free.ensures)
+returns-else-newly-gt0 c = rw (le-ltb _ _ c.if-newly-gt0.false, c.grown-self.ensures, c.is_free-free.ensures)

@@ -1,5 +1,5 @@
-use Rattle.path.specs.Path.{path_heard}
 use mathlib.Core.Path.{refl}
+use Rattle.path.specs.Path.{path_heard}
 use Rattle.path.proofs.path.Path.heard.Goals as goal
 
 pub returns : goal.returns

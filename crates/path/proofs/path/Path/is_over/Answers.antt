@@ -1,5 +1,5 @@
-use Rattle.path.specs.Path.{is_over}
 use mathlib.Core.Path.{refl}
+use Rattle.path.specs.Path.{is_over}
 use Rattle.path.proofs.path.Path.is_over.Goals as goal
 
 pub returns : goal.returns

@@ -1,10 +1,10 @@
 use Rattle.path.specs.Path.{rested_by}
 use Rattle.path.proofs.path.Path.rested.Goals as goal
 
-pub returns-then-left : goal.returns-then-left
+pub returns-then-not-left : goal.returns-then-not-left
 unfolding rested_by
-returns-then-left c = rw c.if-left.true
+returns-then-not-left c = rw c.if-not-left.true
 
-pub returns : goal.returns
+pub returns-else-not-left : goal.returns-else-not-left
 unfolding rested_by
-returns c = rw c.if-left.false
+returns-else-not-left c = rw c.if-not-left.false

@@ -3,4 +3,4 @@ use Rattle.path.proofs.path.Path.sampled.Goals as goal
 
 pub returns : goal.returns
 unfolding sampled_by
-returns c = rw c.sampled-u.ensures
+returns c = rw c.sampled-self.ensures

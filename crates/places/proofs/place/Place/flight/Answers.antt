@@ -7,6 +7,6 @@ pub returns-then-self-eq-FLYING : goal.returns-then-self-eq-FLYING
 unfolding flight_of
 returns-then-self-eq-FLYING c = (rw (eq-eqb _ _ c.if-self-eq-FLYING.true) c.weight.ensures.0, c.weight.ensures.1)
 
-pub returns : goal.returns
+pub returns-else-self-eq-FLYING : goal.returns-else-self-eq-FLYING
 unfolding flight_of
-returns c = (rw (ne_eqb _ _ c.if-self-eq-FLYING.false), omega arith)
+returns-else-self-eq-FLYING c = (rw (ne_eqb _ _ c.if-self-eq-FLYING.false), omega arith)

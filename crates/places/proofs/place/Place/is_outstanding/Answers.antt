@@ -6,6 +6,6 @@ pub returns-then-self-eq-FLYING : goal.returns-then-self-eq-FLYING
 unfolding is_outstanding
 returns-then-self-eq-FLYING c = rw (eq-eqb _ _ c.if-self-eq-FLYING.true)
 
-pub returns : goal.returns
+pub returns-else-self-eq-FLYING : goal.returns-else-self-eq-FLYING
 unfolding is_outstanding
-returns c = rw (ne_eqb _ _ c.if-self-eq-FLYING.false)
+returns-else-self-eq-FLYING c = rw (ne_eqb _ _ c.if-self-eq-FLYING.false)

@@ -6,6 +6,6 @@ pub returns-then-self-eq-BLOCKED : goal.returns-then-self-eq-BLOCKED
 unfolding is_sent
 returns-then-self-eq-BLOCKED c = rw (eq-eqb _ _ c.if-self-eq-BLOCKED.true)
 
-pub returns : goal.returns
+pub returns-else-self-eq-BLOCKED : goal.returns-else-self-eq-BLOCKED
 unfolding is_sent
-returns c = rw (ne_eqb _ _ c.if-self-eq-BLOCKED.false) c.is_outstanding.ensures
+returns-else-self-eq-BLOCKED c = rw (ne_eqb _ _ c.if-self-eq-BLOCKED.false) c.is_outstanding.ensures

@@ -5,6 +5,6 @@ pub returns-then-is_outstanding : goal.returns-then-is_outstanding
 unfolding outstanding_offset
 returns-then-is_outstanding c = rw (← c.is_outstanding.ensures, c.if-is_outstanding.true) c.offset.ensures
 
-pub returns : goal.returns
+pub returns-else-is_outstanding : goal.returns-else-is_outstanding
 unfolding outstanding_offset
-returns c = rw (← c.is_outstanding.ensures, c.if-is_outstanding.false)
+returns-else-is_outstanding c = rw (← c.is_outstanding.ensures, c.if-is_outstanding.false)

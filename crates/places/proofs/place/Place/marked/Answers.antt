@@ -6,6 +6,6 @@ pub returns-then-is_outstanding : goal.returns-then-is_outstanding
 unfolding marked_for_resend is_outstanding
 returns-then-is_outstanding c = rw (sym c.is_outstanding.ensures ∙ c.if-is_outstanding.true)
 
-pub returns : goal.returns
+pub returns-else-is_outstanding : goal.returns-else-is_outstanding
 unfolding marked_for_resend is_outstanding
-returns c = rw (sym c.is_outstanding.ensures ∙ c.if-is_outstanding.false)
+returns-else-is_outstanding c = rw (sym c.is_outstanding.ensures ∙ c.if-is_outstanding.false)

@@ -1,6 +1,0 @@
-use Rattle.sending.specs.Acknowledge.{path_after}
-use Rattle.sending.proofs.acknowledging.path_after.Goals as goal
-
-pub returns : goal.returns
-unfolding path_after
-returns c = rw (c.ended.ensures, c.rested-c.ensures, c.struck-b.ensures, c.grew-a.ensures)
