@@ -1,5 +1,5 @@
 -- "sent packet at most 548": the chunks that are chosen fit the room of a packet. Assumes nothing.
-use Rattle.std.specs.Prelude.{◌≡◌, ℕ, zero, suc, ◌+◌, ◌-◌, ◌≤◌, Bool, true, false, List, [], ◌∷◌, get_or, set, replicate, ◌==◌, nat_le, nat_lt, slice_index_or, slice_set, refl}
+use Rattle.std.specs.Prelude.{◌≡◌, ℕ, zero, suc, ◌+◌, ◌≤◌, Bool, true, false, List, [], ◌∷◌, get_or, replicate, ◌==◌, nat_le, nat_lt, slice_index_or, slice_set, refl}
 use Rattle.std.proofs.Common.{arith, lt-ltb, le-ltb, ltb-false}
 use Rattle.numbers.specs.Profile.{Profile}
 use Rattle.scans.specs.Scan.{pick}

@@ -9,7 +9,7 @@ use Rattle.scans.specs.Scan.{bit_le, pick}
 use Rattle.scans.specs.Each.{All}
 use Rattle.numbers.specs.Profile.{Profile}
 use Rattle.octets.specs.Bytes.{laid}
-use Rattle.octets.specs.BytesLaws.{laid_one, laid_nil, length-laid}
+use Rattle.octets.specs.BytesLaws.{laid_one, length-laid}
 use Rattle.holding.specs.declared.held.Held.{Held}
 use Rattle.holding.specs.Held.{no_held}
 use Rattle.tables.specs.WordsLaws.{laid-step, laid-below, laid-above, laid_in, less-or-more, low_bit, shown_from, shown-long, shown-at, shown-touched}

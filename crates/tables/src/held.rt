@@ -34,34 +34,17 @@ pub fn held_at(t: &[u32; WORDS], i: usize) -> Held
 {
     if i < Rail::PLACES {
         let at = 4 * i;
-        return decode(t[at], t[at + 1], t[at + 2], t[at + 3]);
+        decode(t[at], t[at + 1], t[at + 2], t[at + 3])
+    } else {
+        Held::none()
     }
-    Held::none()
-}
-
-// Whether a place is used, by its last word.
-fn is_odd(last: u32) -> bool
-    ensures { result ≡ eqb (last % 2) 1 }
-{
-    last % 2 == 1
 }
 
 // Whether the place i is used: one word is read.
 pub fn is_used(t: &[u32; WORDS], i: usize) -> bool
     ensures { result ≡ (get_or (held_of rail t.now) i no_held).used }
 {
-    if i < Rail::PLACES {
-        let at = 4 * i;
-        return is_odd(t[at + 3]);
-    }
-    false
-}
-
-// The number that a word is.
-fn tsn_of(word: u32) -> Tsn
-    ensures { result.0 ≡ word % 4294967296 }
-{
-    Tsn(word)
+    i < Rail::PLACES && t[4 * i + 3] % 2 == 1
 }
 
 // The number in the place i: one word is read.
@@ -69,43 +52,25 @@ fn tsn_at(t: &[u32; WORDS], i: usize) -> Tsn
     ensures { result.0 ≡ (get_or (held_of rail t.now) i no_held).tsn.0 }
 {
     if i < Rail::PLACES {
-        let at = 4 * i;
-        return tsn_of(t[at]);
+        Tsn(t[4 * i])
+    } else {
+        Tsn(0)
     }
-    Tsn(0)
 }
 
 // Whether the chunk of the number is in the place i: two words are read.
 pub fn is_of(t: &[u32; WORDS], i: usize, tsn: Tsn) -> bool
     ensures { result ≡ holds tsn.0 (get_or (held_of rail t.now) i no_held) }
 {
-    if is_used(t, i) {
-        let there = tsn_at(t, i);
-        if there.0 == tsn.0 {
-            return true;
-        }
-        return false;
-    }
-    false
-}
-
-// A flag as a number.
-fn flag(b: bool) -> u32
-    ensures { (result ≡ bit b) × (result ≤ 1) }
-{
-    b as u32
+    is_used(t, i) && tsn_at(t, i).0 == tsn.0
 }
 
 // Stream, length and flags of a place as a word.
 fn last_of(h: Held) -> u32
     ensures { result ≡ last_word h }
 {
-    let u = flag(h.used);
-    let b = flag(h.begin);
-    let e = flag(h.end);
-    let o = flag(h.unordered);
-    let len = h.len as u32 % 4096;
-    h.stream.0 as u32 * 65536 + len * 16 + u + b * 2 + e * 4 + o * 8
+    let flags = h.used as u32 + h.begin as u32 * 2 + h.end as u32 * 4 + h.unordered as u32 * 8;
+    u32::from(h.stream.0) * 65536 + u32::from(h.len) % 4096 * 16 + flags
 }
 
 // The chunk in the place i.
@@ -115,7 +80,7 @@ pub fn put_held(t: &mut [u32; WORDS], i: usize, h: Held)
     if i < Rail::PLACES {
         let at = 4 * i;
         t[at] = h.tsn.0;
-        t[at + 1] = h.ssn.0 as u32;
+        t[at + 1] = u32::from(h.ssn.0);
         t[at + 2] = h.ppid;
         t[at + 3] = last_of(h);
     }
@@ -125,13 +90,7 @@ pub fn put_held(t: &mut [u32; WORDS], i: usize, h: Held)
 pub fn free_held(t: &mut [u32; WORDS], i: usize)
     ensures { t.new ≡ held_freed rail t.old i }
 {
-    if i < Rail::PLACES {
-        let at = 4 * i;
-        t[at] = 0;
-        t[at + 1] = 0;
-        t[at + 2] = 0;
-        t[at + 3] = 0;
-    }
+    put_held(t, i, Held::none());
 }
 
 // Every place is free, and nothing is left in one.

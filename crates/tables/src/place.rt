@@ -38,16 +38,10 @@ pub fn place_at(t: &[u32; WORDS], i: usize) -> Place
 {
     if i < Rail::PLACES {
         let at = 8 * i;
-        return decode(t[at], t[at + 1], t[at + 2], t[at + 3], t[at + 4], t[at + 5]);
+        decode(t[at], t[at + 1], t[at + 2], t[at + 3], t[at + 4], t[at + 5])
+    } else {
+        decode(0, 0, 0, 0, 0, 0)
     }
-    decode(0, 0, 0, 0, 0, 0)
-}
-
-// A place's status, by its word.
-fn status_of(state: u32) -> u8
-    ensures { result ≡ state % 256 }
-{
-    (state % 256) as u8
 }
 
 // The status of the place i: one word is read.
@@ -55,35 +49,25 @@ pub fn status_at(t: &[u32; WORDS], i: usize) -> u8
     ensures { result ≡ (place_at rail t.now i).status }
 {
     if i < Rail::PLACES {
-        let at = 8 * i;
-        return status_of(t[at + 5]);
+        (t[8 * i + 5] % 256) as u8
+    } else {
+        Place::FREE
     }
-    Place::FREE
-}
-
-// A flag as a number.
-fn flag(b: bool) -> u32
-    ensures { (result ≡ bit b) × (result ≤ 1) }
-{
-    b as u32
 }
 
 // A chunk's stream, length and flags as a word.
 fn shape_of(c: Chunk) -> u32
     ensures { result ≡ shape_of c }
 {
-    let b = flag(c.begin);
-    let e = flag(c.end);
-    let u = flag(c.unordered);
-    let len = c.len as u32 % 4096;
-    c.stream.0 as u32 * 65536 + len * 16 + b + e * 2 + u * 4
+    let flags = c.begin as u32 + c.end as u32 * 2 + c.unordered as u32 * 4;
+    u32::from(c.stream.0) * 65536 + u32::from(c.len) % 4096 * 16 + flags
 }
 
 // A place's misses and status as a word.
 fn state_of(p: Place) -> u32
     ensures { result ≡ state_word p }
 {
-    p.misses as u32 * 256 + p.status as u32
+    u32::from(p.misses) * 256 + u32::from(p.status)
 }
 
 // The place i. Its last two words stay.
@@ -95,7 +79,7 @@ pub fn put_place(t: &mut [u32; WORDS], i: usize, p: Place)
         let c = p.chunk;
         t[at] = c.tsn.0;
         t[at + 1] = c.order;
-        t[at + 2] = c.ssn.0 as u32;
+        t[at + 2] = u32::from(c.ssn.0);
         t[at + 3] = c.ppid;
         t[at + 4] = shape_of(c);
         t[at + 5] = state_of(p);
@@ -107,8 +91,7 @@ pub fn put_state(t: &mut [u32; WORDS], i: usize, p: Place)
     ensures { t.new ≡ state_put rail t.old i p }
 {
     if i < Rail::PLACES {
-        let at = 8 * i;
-        t[at + 5] = state_of(p);
+        t[8 * i + 5] = state_of(p);
     }
 }
 

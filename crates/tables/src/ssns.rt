@@ -6,21 +6,11 @@ ghost use Rattle.tables.specs.Ssns.{ssns_of, ssn_put};
 
 use numbers::{Rail, Ssn};
 
-// The number that a word is.
-fn ssn_of(word: u16) -> Ssn
-    ensures { result.0 ≡ word % 65536 }
-{
-    Ssn(word)
-}
-
 // The SSN of the stream i; past the last 0.
 pub fn ssn_at(t: &[u16; Rail::STREAMS], i: usize) -> Ssn
     ensures { result ≡ get_or (ssns_of rail t.now) i ssn0 }
 {
-    if i < Rail::STREAMS {
-        return ssn_of(t[i]);
-    }
-    Ssn(0)
+    if i < Rail::STREAMS { Ssn(t[i]) } else { Ssn(0) }
 }
 
 // The SSN of the stream i.
