@@ -19,14 +19,6 @@ use Rattle.tables.specs.PlaceWords.{places_of, place_at}
 use Rattle.tables.specs.PlaceWordsLaws.{places-long}
 use Rattle.sender.specs.Seen.{is_blank, blank_for}
 
--- one, and one more
-pub blank-two : (P : Profile) (ws : List ℕ) (i : ℕ) → blank_for P ws i 2 ≡ pick (is_blank (place_at P ws i)) (is_blank (place_at P ws (i + 1))) false
-blank-two P ws i = ap (λ (b : Bool). pick (is_blank (place_at P ws i)) b false) (go (is_blank (place_at P ws (i + 1))))
-  where
-    go : (b : Bool) → pick b true false ≡ b
-    go true = refl
-    go false = refl
-
 -- so many, and so many more
 pub blank-add : (P : Profile) (ws : List ℕ) (a i b : ℕ) → blank_for P ws i (a + b) ≡ pick (blank_for P ws i a) (blank_for P ws (i + a) b) false
 blank-add P ws zero i b =
@@ -39,6 +31,17 @@ blank-add P ws (suc a) i b = let z : suc a + b ≡ suc (a + b) = omega arith in 
         → pick u (blank_for P ws (i + 1) (a + b)) false ≡ pick (pick u (blank_for P ws (i + 1) a) false) (blank_for P ws (i + suc a) b) false
     go e true = e ∙ ap (λ (k : ℕ). pick (blank_for P ws (i + 1) a) (blank_for P ws k b) false) (omega arith)
     go e false = refl
+
+-- a pass that has come to j of the places before e
+module _ (P : Profile) (ws : List ℕ) (j e : ℕ) {r : Bool} (w : blank_for P ws j (e - j) ≡ r) where
+  pub blank_next : j < e → is_blank (place_at P ws j) ≡ true → blank_for P ws (j + 1) (e - (j + 1)) ≡ r
+  blank_next h t = rw t at (upto-one (blank_for P ws j) e j w h)
+
+  pub blank-stop : j < e → is_blank (place_at P ws j) ≡ false → false ≡ r
+  blank-stop h t = rw t at (upto-one (blank_for P ws j) e j w h)
+
+  pub blank-done : e ≤ j → true ≡ r
+  blank-done h = upto-end (blank_for P ws j) e j w h
 
 -- what the test of eight says
 pub blank-eight : (P : Profile) (ws : List ℕ) (i : ℕ) {y : Bool} → y ≡ pick (ltb 120 i) false (blank_for P ws i 8) → y ≡ true → (i ≤ 120) × (blank_for P ws i 8 ≡ true)

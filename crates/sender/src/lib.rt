@@ -13,7 +13,7 @@ ghost use Rattle.sender.specs.Seen.{sending_shown, sender_head, is_blank, blank_
 
 use numbers::{Rail, Tsn};
 use path::{BookPath, Path};
-use places::{Place, all};
+use places::Place;
 use sending::bounds;
 use sending::bounds::Survey;
 
@@ -34,15 +34,13 @@ impl Sender {
     pub fn fresh(start: Tsn, advertised: u32, mode: u8) -> Sender
         ensures { result ≡ sender_head (fresh_sending (sizes_of mode) rail start advertised mode) }
     {
-        let point = start.after(4294967295);
-        let path = Path::fresh(mode);
         Sender {
-            acked: point,
+            acked: start.after(4294967295),
             next_tsn: start,
-            advertised: advertised,
+            advertised,
             oldest: 0,
-            path: path,
-            mode: mode,
+            path: Path::fresh(mode),
+            mode,
         }
     }
 
@@ -50,20 +48,14 @@ impl Sender {
     pub fn room(self) -> u32
         ensures { result ≡ sent_above_point (sending_shown rail self [] []) }
     {
-        let d = numbers::keeping::ahead_of(self.acked, self.next_tsn);
-        if d < 1 {
-            return 0;
-        }
-        d - 1
+        numbers::keeping::ahead_of(self.acked, self.next_tsn).saturating_sub(1)
     }
 
     // A round trip of so many milliseconds was measured.
     pub fn sampled(mut self, sample: u32) -> Sender
         ensures { result ≡ sender_head (sending_sampled rail_sizes (sending_shown rail self [] []) sample) }
     {
-        let p = self.path;
-        let q = p.sampled(sample);
-        self.path = q;
+        self.path = self.path.sampled(sample);
         self
     }
 
@@ -71,9 +63,7 @@ impl Sender {
     pub fn doubled(mut self) -> Sender
         ensures { result ≡ sender_head (sending_backed_off rail_sizes (sending_shown rail self [] [])) }
     {
-        let p = self.path;
-        let q = p.doubled();
-        self.path = q;
+        self.path = self.path.doubled();
         self
     }
 
@@ -81,9 +71,7 @@ impl Sender {
     pub fn heard(mut self) -> Sender
         ensures { result ≡ sender_head (sending_heard (sending_shown rail self [] [])) }
     {
-        let p = self.path;
-        let q = p.heard();
-        self.path = q;
+        self.path = self.path.heard();
         self
     }
 }
@@ -93,32 +81,7 @@ fn is_blank(t: &[u32; 1024], i: usize) -> bool
     ensures { result ≡ is_blank (place_at rail t.now i) }
 {
     let p = tables::place::place_at(t, i);
-    if p.status == Place::FREE {
-        return p.misses == 0;
-    }
-    false
-}
-
-// Whether the two places from i on are.
-fn are_two_blank(t: &[u32; 1024], i: usize) -> bool
-    requires { i < 128 }
-    ensures { result ≡ blank_for rail t.now i 2 }
-{
-    if is_blank(t, i) {
-        return is_blank(t, i + 1);
-    }
-    false
-}
-
-// Whether the four places from i on are.
-fn are_four_blank(t: &[u32; 1024], i: usize) -> bool
-    requires { i < 126 }
-    ensures { result ≡ blank_for rail t.now i 4 }
-{
-    if are_two_blank(t, i) {
-        return are_two_blank(t, i + 2);
-    }
-    false
+    p.status == Place::FREE && p.misses == 0
 }
 
 // Whether eight places from i on are there, and are free with no misses. Most are: eight words are read for them.
@@ -128,29 +91,27 @@ fn are_blank(t: &[u32; 1024], i: usize) -> bool
     if 120 < i {
         return false;
     }
-    if are_four_blank(t, i) {
-        return are_four_blank(t, i + 4);
+    for j in i..i + 8 {
+        if !is_blank(t, j) {
+            return false;
+        }
     }
-    false
+    true
 }
 
-// How many places from the first on are free with no misses, counted by eights.
+// How many places from the first on are free with no misses, counted by eights: past the last eight there are none.
 fn blank_before(t: &[u32; 1024]) -> usize
     ensures { (blank_for rail t.now 0 result ≡ true) × (result ≤ 128) }
 {
     let mut i: usize = 0;
-    while i < Rail::PLACES {
-        if are_blank(t, i) {
-            i += 8;
-        } else {
-            return i;
-        }
+    while are_blank(t, i) {
+        i += 8;
     }
     i
 }
 
 // What one pass finds, where the places before `start` are free with no misses. Each arm does only what a place of its status asks for: where many are
-// used, most are in flight. Whether eight are free is asked of none that is in flight.
+// used, most are in flight. Whether eight are free is asked of none that is in flight. A `for` doesn't fit: the pass goes on by one or by eight.
 fn survey_of(t: &[u32; 1024], start: usize, acked: Tsn, oldest: u32) -> Survey
     requires { (blank_for rail t.now 0 start ≡ true) × (start ≤ 128) }
     ensures { Surveyed rail acked oldest (places_of rail t.now) result }
@@ -166,30 +127,22 @@ fn survey_of(t: &[u32; 1024], start: usize, acked: Tsn, oldest: u32) -> Survey
     let mut i: usize = start;
     while i < Rail::PLACES {
         let p = tables::place::place_at(t, i);
+        if p.status != Place::FLYING && are_blank(t, i) {
+            i += 8;
+            continue;
+        }
+        i += 1;
+        v.odd = bounds::or_odd(v.odd, p);
         if p.status == Place::FLYING {
-            v.odd = bounds::or_odd(v.odd, p);
             v.flight += p.weight();
             v.sent += 1;
-            let j = bounds::spot_of(p.offset(acked) as u64);
-            v.seen_sent[j] = true;
-            i += 1;
-        } else if are_blank(t, i) {
-            i += 8;
-        } else if p.status == Place::FREE {
-            v.odd = bounds::or_odd(v.odd, p);
-            i += 1;
+            v.seen_sent[bounds::spot_of(u64::from(p.offset(acked)))] = true;
         } else if p.status == Place::WAITING {
-            v.odd = bounds::or_odd(v.odd, p);
             v.waiting += 1;
-            let k = bounds::spot_of(bounds::key_of(p, false, acked, oldest));
-            v.seen_waiting[k] = true;
-            i += 1;
-        } else {
-            v.odd = bounds::or_odd(v.odd, p);
+            v.seen_waiting[bounds::spot_of(bounds::key_of(p, false, acked, oldest))] = true;
+        } else if p.status != Place::FREE {
             v.sent += p.is_sent() as usize;
-            let j = bounds::spot_of(bounds::key_of(p, true, acked, oldest));
-            v.seen_sent[j] = true;
-            i += 1;
+            v.seen_sent[bounds::spot_of(bounds::key_of(p, true, acked, oldest))] = true;
         }
     }
     v
@@ -201,10 +154,8 @@ fn has_gap(seen: &[bool; bounds::SPOTS], n: usize) -> bool
     ensures { result ≡ has_gap seen.now n }
 {
     let mut gap = false;
-    let mut j: usize = 0;
-    while j < n {
-        gap = all::either(gap, !seen[j]);
-        j += 1;
+    for j in 0..n {
+        gap |= !seen[j];
     }
     gap
 }
@@ -214,50 +165,35 @@ fn is_successive(seen: &[bool; bounds::SPOTS], many: usize, n: u32) -> bool
     requires { many ≤ 128 }
     ensures { result ≡ pick (eqb many n) (not (has_gap seen.now n)) false }
 {
-    if many == n as usize {
-        return !has_gap(seen, many);
-    }
-    false
+    many == n as usize && !has_gap(seen, many)
 }
 
 // Whether path and places are within their bounds, which both books have alike. Where every place is free nothing is noted.
 fn is_bounded(s: Sender, t: &[u32; 1024]) -> bool
     ensures { (ns : List ℕ) → result ≡ is_bounded rail_sizes rail (sending_shown rail s t.now ns) }
 {
-    let p = s.path;
-    if p.is_within() {
-        let start = blank_before(t);
-        if Rail::PLACES <= start {
-            if p.flight == 0 {
-                return numbers::keeping::ahead_of(s.acked, s.next_tsn) == 1;
-            }
-            return false;
-        }
-        let v = survey_of(t, start, s.acked, s.oldest);
-        if v.flight == p.flight {
-            if v.odd {
-                return false;
-            }
-            let d = numbers::keeping::ahead_of(s.acked, s.next_tsn);
-            if d < 1 {
-                return false;
-            }
-            if is_successive(&v.seen_sent, v.sent, s.room()) {
-                return is_successive(&v.seen_waiting, v.waiting, v.waiting as u32);
-            }
-            return false;
-        }
+    if !s.path.is_within() {
         return false;
     }
-    false
+    let start = blank_before(t);
+    let ahead = numbers::keeping::ahead_of(s.acked, s.next_tsn);
+    if Rail::PLACES <= start {
+        return s.path.flight == 0 && ahead == 1;
+    }
+    let v = survey_of(t, start, s.acked, s.oldest);
+    if v.flight != s.path.flight {
+        return false;
+    }
+    if v.odd || ahead < 1 {
+        return false;
+    }
+    is_successive(&v.seen_sent, v.sent, s.room())
+        && is_successive(&v.seen_waiting, v.waiting, v.waiting as u32)
 }
 
 // Whether the sending side is within its bounds, whatever the next SSNs: its mode too is one that there is.
 pub fn is_within(s: Sender, t: &[u32; 1024]) -> bool
     ensures { (ns : List ℕ) → result ≡ is_sending_within rail_sizes rail (sending_shown rail s t.now ns) }
 {
-    if BookPath::MODE < s.mode {
-        return false;
-    }
-    is_bounded(s, t)
+    s.mode <= BookPath::MODE && is_bounded(s, t)
 }

@@ -1,6 +1,4 @@
-use Prim.Native.Nat.{◌-◌, ◌≤◌}
-use mathlib.Core.Bool.{true}
-use mathlib.Core.Path.{◌≡◌}
+use Rattle.std.proofs.Common.{◌≡◌, ◌-◌, ◌≤◌, true}
 use Rattle.numbers.specs.Profile.{rail}
 use Rattle.sender.specs.Seen.{blank_for}
 use Rattle.sender.proofs.blank_before.Given as goal

@@ -3,4 +3,4 @@ use Rattle.sending.specs.SendingTableLaws.{doubled-is}
 use Rattle.sender.proofs.Sender.doubled.Goals as goal
 
 pub returns : goal.returns
-returns c = rw (c.doubled-q.ensures, doubled-is rail_sizes _)
+returns c = rw (c.doubled-self.ensures, doubled-is rail_sizes _)

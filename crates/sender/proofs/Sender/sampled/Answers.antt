@@ -3,4 +3,4 @@ use Rattle.sending.specs.SendingTableLaws.{sampled-is}
 use Rattle.sender.proofs.Sender.sampled.Goals as goal
 
 pub returns : goal.returns
-returns c = rw (c.sampled-q.ensures, sampled-is rail_sizes _ _)
+returns c = rw (c.sampled-self.ensures, sampled-is rail_sizes _ _)
