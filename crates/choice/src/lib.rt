@@ -34,9 +34,10 @@ fn better(b: Best, i: usize, p: Place, acked: Tsn, oldest: u32) -> Best
 {
     let k = choosing::rank(p, acked, oldest);
     if k < b.rank {
-        return Best { rank: k, place: i };
+        Best { rank: k, place: i }
+    } else {
+        b
     }
-    b
 }
 
 // The best of all places.
@@ -44,14 +45,12 @@ fn best_of(t: &[u32; 1024], acked: Tsn, oldest: u32) -> Best
     ensures { (result ≡ best_place acked oldest (places_of rail t.now)) × (result.place < 128) }
 {
     let mut b = Best {
-        rank: 8589934592,
+        rank: Best::NONE,
         place: 0,
     };
-    let mut i: usize = 0;
-    while i < Rail::PLACES {
+    for i in 0..Rail::PLACES {
         let p = tables::place::place_at(t, i);
         b = better(b, i, p, acked, oldest);
-        i += 1;
     }
     b
 }
@@ -61,24 +60,14 @@ fn goes(s: Sender, l: Load, b: Best, p: Place) -> bool
     ensures { result ≡ goes (loaded_by (sending_shown rail s [] []) l) b p }
 {
     let path = s.path;
-    let k = path.control;
-    if 8589934592 <= b.rank {
-        return false;
-    }
-    if k.cwnd <= path.flight {
+    if Best::NONE <= b.rank || path.control.cwnd <= path.flight {
         return false;
     }
     if l.room < choosing::size(p) {
         return false;
     }
-    if b.rank < 4294967296 {
-        return true;
-    }
-    if path.flight == 0 {
-        return true;
-    }
-    let window = path::measure::less(s.advertised, l.payload);
-    p.chunk.len as u32 <= window
+    let window = s.advertised.saturating_sub(l.payload);
+    b.rank < Best::WAITING || path.flight == 0 || u32::from(p.chunk.len) <= window
 }
 
 // SSN 0 if unordered.
@@ -86,28 +75,21 @@ fn next_ssn(ns: &[u16; 128], c: Chunk) -> Ssn
     ensures { result ≡ next_ssn rail (ssns_of rail ns.now) c }
 {
     if c.unordered {
-        return Ssn(0);
+        Ssn(0)
+    } else {
+        tables::ssns::ssn_at(ns, usize::from(c.stream.0))
     }
-    tables::ssns::ssn_at(ns, c.stream.0 as usize)
 }
 
 // The SSN rises when the last chunk of an ordered message is first sent.
 fn count_on(ns: &mut [u16; 128], p: Place)
     ensures { ns.new ≡ counted_in rail ns.old p }
 {
-    if p.status == Place::MARKED {
-        return;
-    }
     let c = p.chunk;
-    if c.unordered {
-        return;
-    }
-    if c.end {
-        let i = c.stream.0 as usize;
-        let n = tables::ssns::ssn_at(ns, i);
-        let m = n.after(1);
-        tables::ssns::put_ssn(ns, i, m);
-        return;
+    if p.status != Place::MARKED && !c.unordered && c.end {
+        let i = usize::from(c.stream.0);
+        let n = tables::ssns::ssn_at(ns, i).after(1);
+        tables::ssns::put_ssn(ns, i, n);
     }
 }
 
@@ -115,17 +97,11 @@ fn count_on(ns: &mut [u16; 128], p: Place)
 fn sent_place(s: Sender, ns: &[u16; 128], mut p: Place) -> Place
     ensures { result ≡ sent_place rail s ns.now p }
 {
-    if p.status == Place::MARKED {
-        p.status = Place::FLYING;
-        return p;
+    if p.status != Place::MARKED {
+        p.chunk.ssn = next_ssn(ns, p.chunk);
+        p.chunk.tsn = s.next_tsn;
     }
-    let mut c = p.chunk;
-    let n = next_ssn(ns, c);
-    let t = s.next_tsn;
-    c.tsn = t;
-    c.ssn = n;
     p.status = Place::FLYING;
-    p.chunk = c;
     p
 }
 
@@ -143,16 +119,11 @@ fn sent_head(mut s: Sender, p: Place) -> Sender
     requires { s.path.flight ≤ 4294900000 }
     ensures { (result ≡ sent_head s p) × (result.path.flight ≤ s.path.flight + 65551) }
 {
-    let before = s.path;
-    let path = flown(before, p);
-    s.path = path;
-    if p.status == Place::MARKED {
-        return s;
+    s.path = flown(s.path, p);
+    if p.status != Place::MARKED {
+        s.next_tsn = s.next_tsn.after(1);
+        s.oldest = s.oldest.wrapping_add(1);
     }
-    let t = s.next_tsn;
-    let u = t.after(1);
-    s.next_tsn = u;
-    s.oldest = std::num::wrapping_add_u32(s.oldest, 1);
     s
 }
 
@@ -161,10 +132,10 @@ fn tsn_of(s: Sender, p: Place) -> Tsn
     ensures { result ≡ tsn_of (sending_shown rail s [] []) p }
 {
     if p.status == Place::MARKED {
-        let c = p.chunk;
-        return c.tsn;
+        p.chunk.tsn
+    } else {
+        s.next_tsn
     }
-    s.next_tsn
 }
 
 // The packet with place i more, which holds p.
@@ -172,17 +143,13 @@ fn loaded(s: Sender, mut l: Load, i: usize, p: Place) -> Load
     requires { (i < 128) × (l.count < 26) × (l.payload ≤ 4294900000) }
     ensures { (result ≡ load_after s l i p) × (result.count ≡ l.count + 1) × (result.payload ≤ l.payload + 65535) }
 {
-    let n = l.count;
-    let t = tsn_of(s, p);
-    let first = choosing::first_of(l, t);
-    let resent = choosing::is_again(l, p);
-    l.payload += p.chunk.len as u32;
-    l.room = path::measure::less(l.room, choosing::size(p));
-    l.places[n] = i as u16;
-    l.count = n + 1;
-    l.resent = resent;
-    l.first = first;
-    l.last = t;
+    l.last = tsn_of(s, p);
+    l.first = choosing::first_of(l, l.last);
+    l.resent = choosing::is_again(l, p);
+    l.payload += u32::from(p.chunk.len);
+    l.room = l.room.saturating_sub(choosing::size(p));
+    l.places[l.count] = i as u16;
+    l.count += 1;
     l
 }
 
@@ -192,9 +159,7 @@ pub fn choose(mut s: Sender, t: &mut [u32; 1024], ns: &mut [u16; 128]) -> Packed
     ensures t_after { (t.new ≡ (filled_in rail_sizes rail s t.old ns.old).words) × (ns.new ≡ (filled_in rail_sizes rail s t.old ns.old).ns) }
 {
     let w = marks::tallied(t, s.acked);
-    let mut path = s.path;
-    path.flight = w.flight;
-    s.path = path;
+    s.path.flight = w.flight;
     let mut l = Load {
         payload: w.payload,
         room: RailPath::ROOM,
@@ -204,21 +169,17 @@ pub fn choose(mut s: Sender, t: &mut [u32; 1024], ns: &mut [u16; 128]) -> Packed
         first: Tsn(0),
         last: Tsn(0),
     };
-    let mut n: usize = 0;
-    while n < RailPath::BUNDLED {
+    for _n in 0..RailPath::BUNDLED {
         let b = best_of(t, s.acked, s.oldest);
-        let at = b.place;
-        let p = tables::place::place_at(t, at);
-        if goes(s, l, b, p) {
-            l = loaded(s, l, at, p);
-            let q = sent_place(s, ns, p);
-            tables::place::put_place(t, at, q);
-            count_on(ns, p);
-            s = sent_head(s, p);
-            n += 1;
-        } else {
+        let p = tables::place::place_at(t, b.place);
+        if !goes(s, l, b, p) {
             return Packed { head: s, load: l };
         }
+        l = loaded(s, l, b.place, p);
+        let q = sent_place(s, ns, p);
+        tables::place::put_place(t, b.place, q);
+        count_on(ns, p);
+        s = sent_head(s, p);
     }
     Packed { head: s, load: l }
 }

@@ -1,4 +1,4 @@
-use Rattle.std.proofs.Common.{◌-◌, refl, ap, ◌∙◌, arith}
+use Rattle.std.proofs.Common.{refl, ap, ◌∙◌, arith}
 use Rattle.scans.specs.Scan.{fold_more, fold_end}
 use Rattle.numbers.specs.Profile.{rail}
 use Rattle.sending.specs.Choose.{better_place}

@@ -1,4 +1,4 @@
-use Rattle.std.proofs.Common.{◌-◌, ◌<◌}
+use Rattle.std.proofs.Common.{◌<◌}
 use Rattle.scans.specs.Scan.{Folding}
 use Rattle.numbers.specs.Profile.{rail}
 use Rattle.sending.specs.Choose.{better_place}
@@ -7,6 +7,3 @@ use Rattle.choice.proofs.best_of.Given as goal
 
 abbrev pub invariant-loop-i : goal.invariant-loop-i
 invariant-loop-i l = Folding (better_place l.acked l.oldest) l.initial.b (places_of rail l.t) 128 l.i l.b × (l.b.place < 128)
-
-abbrev pub decreases-loop-i : goal.decreases-loop-i
-decreases-loop-i l = 128 - l.i

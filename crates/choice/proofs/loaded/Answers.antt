@@ -1,8 +1,8 @@
-use Rattle.std.proofs.Common.{◌-◌, ◌∙◌, arith}
+use Rattle.std.proofs.Common.{◌∙◌, arith, rules}
 use Rattle.sending.specs.SendingTableLaws.{tsn-is}
 use Rattle.choice.specs.Fill.{load_after}
 use Rattle.choice.proofs.loaded.Goals as goal
 
 pub returns : goal.returns
 unfolding load_after
-returns c = (rw (c.less.ensures, c.size.ensures, c.is_again-resent.ensures, c.first_of-first.ensures, c.tsn_of-t.ensures ∙ tsn-is _ _), omega arith, omega (arith, c.struct_known-1.given))
+returns c = (rw (c.saturating_sub.ensures, c.size.ensures, c.is_again.ensures, c.first_of-l.ensures, c.tsn_of-l.ensures ∙ tsn-is _ _, c.from.ensures), omega arith, rw c.from.ensures (search rules))

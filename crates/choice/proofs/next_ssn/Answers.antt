@@ -6,5 +6,5 @@ use Rattle.choice.proofs.next_ssn.Goals as goal
 pub returns-then-c : goal.returns-then-c
 returns-then-c c = sym (next-none rail _ _ c.if-c.true)
 
-pub returns : goal.returns
-returns c = c.ssn_at.ensures ∙ sym (next-at rail _ _ c.if-c.false)
+pub returns-else-c : goal.returns-else-c
+returns-else-c c = (rw c.from.ensures at c.ssn_at.ensures) ∙ sym (next-at rail _ _ c.if-c.false)
