@@ -28,7 +28,7 @@ fn decode(tsn: u32, number: u32, ppid: u32, last: u32) -> Held
     }
 }
 
-// The place i; past the last one that is free.
+// The place i; past the last one that is free. `place` has its like: each names its own words, and a trait for both would be longer than the two.
 pub fn held_at(t: &[u32; WORDS], i: usize) -> Held
     ensures { result ≡ get_or (held_of rail t.now) i no_held }
 {
