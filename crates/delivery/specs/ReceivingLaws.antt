@@ -1,7 +1,7 @@
 -- The laws of receiving: a fresh record is within its bounds and every call keeps it so; a chunk that passes the checks finds a free place; a
 -- number that has come is answered 11 from then on, and 24 where it is opposite; a refused call leaves all but what 01's table names. Over either numbering.
 -- Assumes nothing.
-use Rattle.std.specs.Prelude.{ℕ, zero, suc, ◌+◌, ◌-◌, ◌<◌, ◌≤◌, ◌≡◌, Bool, not, List, [], ◌∷◌, ◌⊎◌, length, set, replicate, get_or, ltb, eqb}
+use Rattle.std.specs.Prelude.{ℕ, zero, suc, ◌+◌, ◌-◌, ◌<◌, ◌≤◌, ◌≡◌, Bool, not, List, [], ◌∷◌, ◌⊎◌, length, set, replicate, get_or, ltb, eqb, Option, Some, None}
 use Rattle.std.proofs.Math.Path.{refl, ap, subst}
 use Rattle.std.proofs.Common.{sym, ◌∙◌, inl, inr, ⊎_elim, arith, zero-add, le-ltb}
 use Rattle.std.proofs.Math.Bool.{true, false}
@@ -20,8 +20,6 @@ use Rattle.numbers.specs.Keeping as keeping
 use Rattle.numbers.specs.ReachLaws.{On, Short}
 use Rattle.numbers.specs.KeepingLaws as number
 use Rattle.numbers.specs.KeepingRoomLaws.{count-numbers, any-numbers, length-numbers, all-numbers, is_late, is_among, Distinct, has_room, bound-kept, bound-kept-unheld, count-filled, count-freed, distinct-filled, distinct-freed}
-use Rattle.scans.specs.declared.Found.{Found}
-use Rattle.scans.specs.declared.Found.TheVariants.{At, Nothing}
 use Rattle.scans.specs.Scan.{pick, tick, count, any, find_from, find-within}
 use Rattle.scans.specs.Each.{All, all_set, clash, found-at, if-not}
 use Rattle.holding.specs.declared.held.Held.{Held}
@@ -148,22 +146,22 @@ module _ (T : Numbering) (P : Profile) (r : Receiving) (h : Held) (w : Receiving
         omega
         (arith, length-numbers is_used number_in r.held, w.long, has_room T r.keeping w.numbers.point P.places h.tsn.0 ts (all-numbers is_used number_in (On T) r.held w.each) s.apart within.0 new-number.0 low-room low-here)
 
-    pub finds-place : (i : ℕ) × (find_from is_held_free 0 r.held ≡ At i) × (i < length r.held) × ((get_or r.held i no_held).used ≡ false)
+    pub finds-place : (i : ℕ) × (find_from is_held_free 0 r.held ≡ Some i) × (i < length r.held) × ((get_or r.held i no_held).used ≡ false)
     finds-place = go (find_from is_held_free 0 r.held) refl
       where
-        full : (hs : List Held) (i : ℕ) → find_from is_held_free i hs ≡ Nothing → count is_used hs ≡ length hs
+        full : (hs : List Held) (i : ℕ) → find_from is_held_free i hs ≡ None → count is_used hs ≡ length hs
         full [] i e = refl
         full (x ∷ hs) i e = used x.used e (full hs (i + 1))
           where
-            used : (u : Bool) → pick (not u) (At i) (find_from is_held_free (i + 1) hs) ≡ Nothing
-                → (find_from is_held_free (i + 1) hs ≡ Nothing → count is_used hs ≡ length hs) → tick u (count is_used hs) ≡ suc (length hs)
+            used : (u : Bool) → pick (not u) (Some i) (find_from is_held_free (i + 1) hs) ≡ None
+                → (find_from is_held_free (i + 1) hs ≡ None → count is_used hs ≡ length hs) → tick u (count is_used hs) ≡ suc (length hs)
             used true q ih = ap suc (ih q)
             used false q ih = let z : ◌≡◌ {A = ℕ} 0 1 = cc in absurd (omega arith)
 
-        go : (f : Found) → find_from is_held_free 0 r.held ≡ f
-            → (i : ℕ) × (find_from is_held_free 0 r.held ≡ At i) × (i < length r.held) × ((get_or r.held i no_held).used ≡ false)
-        go Nothing e = absurd (omega (arith, full r.held 0 e, some-free))
-        go (At i) e =
+        go : (f : Option ℕ) → find_from is_held_free 0 r.held ≡ f
+            → (i : ℕ) × (find_from is_held_free 0 r.held ≡ Some i) × (i < length r.held) × ((get_or r.held i no_held).used ≡ false)
+        go None e = absurd (omega (arith, full r.held 0 e, some-free))
+        go (Some i) e =
             (i, e, rw (zero-add (length r.held)) at (find-within is_held_free r.held 0 i e), not-true (get_or r.held i no_held).used (found-at is_held_free no_held r.held i e))
 
     -- the number comes, and nothing is held
@@ -214,9 +212,9 @@ module _ (N : Numberings) (P : Profile) (r : Receiving) (w : ReceivingShaped N.t
   unfolding arrived
   arrived-shaped h streams on = go (verdict_of N P r h streams)
     where
-      place : (f : Found) → ReceivingShaped N.tsn P (kept_in N.tsn P r h f)
-      place (At i) = kept-shaped i h on
-      place Nothing = passed-shaped h.tsn.0
+      place : (f : Option ℕ) → ReceivingShaped N.tsn P (kept_in N.tsn P r h f)
+      place (Some i) = kept-shaped i h on
+      place None = passed-shaped h.tsn.0
 
       go : (v : Verdict) → ReceivingShaped N.tsn P (receiving_after N.tsn P r h v)
       go Kept = place (find_from is_held_free 0 r.held)
@@ -265,7 +263,7 @@ arrived-sound N P r h streams wide w s on u = go (verdict_of N P r h streams) re
 -- a chunk that passes the checks finds a free place
 pub kept-placed : (N : Numberings) (P : Profile) (r : Receiving) (h : Held) (streams : ℕ) → Short N.tsn (P.places + P.places) → ReceivingShaped N.tsn P r → ReceivingSound N.tsn P r
     → On N.tsn h.tsn.0 → verdict_of N P r h streams ≡ Kept
-    → (i : ℕ) × (find_from is_held_free 0 r.held ≡ At i) × (i < length r.held) × ((get_or r.held i no_held).used ≡ false)
+    → (i : ℕ) × (find_from is_held_free 0 r.held ≡ Some i) × (i < length r.held) × ((get_or r.held i no_held).used ≡ false)
 kept-placed N P r h streams wide w s on e = finds-place N.tsn P r h w on wide (kept-coming N P r h streams e).0 s
 
 -- ---- a take
@@ -379,9 +377,9 @@ arrived-comes N P r h streams wide w on =
     (λ e. rw e (place (find_from is_held_free 0 r.held) (kept-coming N P r h streams e).0))
     (λ e. rw e (number.known-marked (comes N.tsn P r h w on wide (stray-coming N P r h streams e))))
   where
-    place : (f : Found) → Coming N.tsn P r h streams → number.is_known N.tsn (kept_in N.tsn P r h f).keeping h.tsn.0 ≡ true
-    place (At i) c = number.known-marked (comes N.tsn P r h w on wide c)
-    place Nothing c = number.known-marked (comes N.tsn P r h w on wide c)
+    place : (f : Option ℕ) → Coming N.tsn P r h streams → number.is_known N.tsn (kept_in N.tsn P r h f).keeping h.tsn.0 ≡ true
+    place (Some i) c = number.known-marked (comes N.tsn P r h w on wide c)
+    place None c = number.known-marked (comes N.tsn P r h w on wide c)
 
 -- and stays known through every arrival, as long as it does not lie ahead beyond every offset, as what is half a circle behind does
 module _ (N : Numberings) (P : Profile) (r : Receiving) (wide : Short N.tsn (P.places + P.places)) (w : ReceivingShaped N.tsn P r) (y : ℕ) (hy : On N.tsn y)
@@ -412,9 +410,9 @@ module _ (N : Numberings) (P : Profile) (r : Receiving) (wide : Short N.tsn (P.p
   unfolding arrived duplicate_noted stray_passed kept_at_place
   arrived-known h streams on = go (verdict_of N P r h streams)
     where
-      place : (f : Found) → keeping.offset_of N.tsn (kept_in N.tsn P r h f).keeping y ≤ P.places → number.is_known N.tsn (kept_in N.tsn P r h f).keeping y ≡ true
-      place (At i) l = marked-known h.tsn.0 on l
-      place Nothing l = marked-known h.tsn.0 on l
+      place : (f : Option ℕ) → keeping.offset_of N.tsn (kept_in N.tsn P r h f).keeping y ≤ P.places → number.is_known N.tsn (kept_in N.tsn P r h f).keeping y ≡ true
+      place (Some i) l = marked-known h.tsn.0 on l
+      place None l = marked-known h.tsn.0 on l
 
       go : (v : Verdict) → keeping.offset_of N.tsn (receiving_after N.tsn P r h v).keeping y ≤ P.places → number.is_known N.tsn (receiving_after N.tsn P r h v).keeping y ≡ true
       go Kept l = place (find_from is_held_free 0 r.held) l

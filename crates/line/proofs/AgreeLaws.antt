@@ -2,7 +2,7 @@
 -- one's sequence number within half its circle of the next expected of its stream. Once for every size of the two circles and every profile.
 -- Assumes nothing.
 use Prim.Native.Nat.{ℕ, zero, suc, ◌+◌, ◌-◌, ◌%◌, ◌<◌, ◌≤◌}
-use Rattle.std.specs.Prelude.{◌≡◌, Bool, set, get_or, eqb, leb, ltb}
+use Rattle.std.specs.Prelude.{◌≡◌, Bool, set, get_or, eqb, leb, ltb, Option, Some, None}
 use Rattle.std.proofs.Math.Path.{refl, ap}
 use Rattle.std.proofs.Common.{sym, ◌∙◌, arith}
 use Rattle.std.proofs.Math.Bool.{true, false, not, beq}
@@ -11,8 +11,6 @@ use Rattle.std.proofs.Math.Nat.{zero-mod}
 use Rattle.std.proofs.Math.Decide.{dec_le}
 use borrow.Author.Tests.{not-false, eqb-true, le-leb, lt-leb}
 use Rattle.std.proofs.Math.ListN.{get_or-map}
-use Rattle.scans.specs.declared.Found.{Found}
-use Rattle.scans.specs.declared.Found.TheVariants.{At, Nothing}
 use Rattle.scans.specs.Scan.{pick, find_from, fold_from}
 use Rattle.scans.specs.Each.{All, all_map, all-at, all_of, count_map, find-map, any-map, set-map, if-not, if-so, clash, found-at, replicate-kept}
 use Rattle.numbers.specs.declared.circle.Tsn.{Tsn}
@@ -148,12 +146,12 @@ module _ (P : Profile) (h k : ℕ) where
           look : find_from (continues (down first) (on (ring n) (cur.tsn.0 % n) 1)) 0 (map down hs) ≡ find_from p1 0 hs
           look = find-map down p1 _ 0 hs (all_map (continues-law cur.tsn.0 (gc.tsn uc)) hs ws)
 
-          step : (f : Found) → find_from p1 0 hs ≡ f
+          step : (f : Option ℕ) → find_from p1 0 hs ≡ f
               → ((j : ℕ) (x : Held) → Good x → x.used ≡ true → follow (ring n) (map down hs) (down first) more j (down x) ≡ follow line hs first more j x)
               → onward over f
               ≡ onward (λ (j : ℕ). follow line hs first more j (get_or hs j no_held)) f
-          step Nothing e ih = refl
-          step (At j) e ih =
+          step None e ih = refl
+          step (Some j) e ih =
               rw (down-at hs j)
               (ih j (get_or hs j no_held) (all-at Good hs j no_held none-good ws) (continues-used first _ _ (found-at p1 no_held hs j e)))
 
@@ -328,9 +326,9 @@ module _ (P : Profile) (h k : ℕ) where
       unfolding duplicate_noted stray_passed kept_at_place
       after-law Kept = rw (free_law r.held) (place (find_from is_held_free 0 r.held))
         where
-          place : (f : Found) → kept_in (ring n) P (reduce n m r) (down c) f ≡ reduce n m (kept_in line P r c f)
-          place (At i) = rw (marked-law h r.keeping c.tsn.0 w P, set-map down r.held i c)
-          place Nothing = rw (marked-law h r.keeping c.tsn.0 w P)
+          place : (f : Option ℕ) → kept_in (ring n) P (reduce n m r) (down c) f ≡ reduce n m (kept_in line P r c f)
+          place (Some i) = rw (marked-law h r.keeping c.tsn.0 w P, set-map down r.held i c)
+          place None = rw (marked-law h r.keeping c.tsn.0 w P)
       after-law Empty = refl
       after-law Long = refl
       after-law Opposite = refl

@@ -1,6 +1,6 @@
 -- Demand 3 holds of ours. Assumes nothing.
 use Prim.Native.Nat.{ℕ, zero, suc, ◌+◌, ◌-◌, ◌*◌, ◌^◌, ◌<◌, ◌≤◌}
-use Rattle.std.specs.Prelude.{◌≡◌, Bool, true, not, length, eqb}
+use Rattle.std.specs.Prelude.{◌≡◌, Bool, true, not, length, eqb, Option, Some, None}
 use Rattle.std.proofs.Math.Path.{refl, sym, ap}
 use Rattle.std.proofs.Common.{◌∙◌, subst, mod-eq_of_lt, arith}
 use Rattle.std.proofs.Math.Bool.{false}
@@ -9,8 +9,6 @@ use mir.Val.{bool_byte as bit}
 use Rattle.std.proofs.Math.Nat.{add-mod_right, mul-suc}
 use borrow.Author.Tests.{le-leb, le-ltb, eq-eqb, eqb-true, ne_eqb}
 use Rattle.std.proofs.Math.ListN.{get_or}
-use Rattle.scans.specs.declared.Found.{Found}
-use Rattle.scans.specs.declared.Found.TheVariants.{At, Nothing}
 use Rattle.scans.specs.Scan.{pick, tick, count, any, find_from, find-within}
 use Rattle.scans.specs.CountsLaws.{tick-bit, count_none, count_set}
 use Rattle.scans.specs.Each.{found-at, after-not}
@@ -29,7 +27,7 @@ use Rattle.holding.specs.declared.held.Chunk.{Chunk}
 use Rattle.holding.specs.declared.held.Held.{Held}
 use Rattle.holding.specs.declared.taking.Message.{Message}
 use Rattle.holding.specs.declared.taking.Answer.{Answer as Taking}
-use Rattle.holding.specs.declared.taking.Answer.TheVariants.{Taken, Nothing as None, Short}
+use Rattle.holding.specs.declared.taking.Answer.TheVariants.{Taken, Nothing, Short}
 use Rattle.holding.specs.Held.{no_held, as_held, holds, holds-is, is_held_free}
 use Rattle.delivery.specs.declared.receiving.Receiving.{Receiving}
 use Rattle.delivery.specs.declared.arrival.Verdict.{Verdict}
@@ -146,7 +144,7 @@ module _ {P : Profile} {base streams : ℕ} {chunk : ℕ → Chunk} (payload : �
   module _ (out : List ℕ) (gs : List GivenMessage) (css : List Held) (os : ℕ → List ℕ) where
     step : (t : Taking) (now : List ℕ) (cs : List Held) → Genuine base chunk payload out cs t now → Indexed m base chunk payload gs css os
         → Indexed m base chunk payload (given_by out (reduce_taken m t) now gs) (cs ++ css) (λ q. pick (is_ordered_in q t) (ssn_of t ∷ os q) (os q))
-    step None now cs g i = record { index = i.index; there = i.there; once = λ j. omega (arith, i.once j, copies-append cs css j); order = i.order }
+    step Nothing now cs g i = record { index = i.index; there = i.there; once = λ j. omega (arith, i.once j, copies-append cs css j); order = i.order }
     step (Short z) now cs g i = record { index = i.index; there = i.there; once = λ j. omega (arith, i.once j, copies-append cs css j); order = i.order }
     step (Taken x) now cs g i = record {
       index = s ∷ i.index;
@@ -197,9 +195,9 @@ after-bounded : (P : Profile) (r : Receiving) (c : Held) (v : Verdict) → Bound
 unfolding duplicate_noted stray_passed kept_at_place
 after-bounded P r c Kept b = place (find_from is_held_free 0 r.held)
   where
-    place : (f : Found) → Bounded P (kept_in line P r c f).keeping
-    place (At i) = marked-bounded line P r.keeping c.tsn.0 b
-    place Nothing = marked-bounded line P r.keeping c.tsn.0 b
+    place : (f : Option ℕ) → Bounded P (kept_in line P r c f).keeping
+    place (Some i) = marked-bounded line P r.keeping c.tsn.0 b
+    place None = marked-bounded line P r.keeping c.tsn.0 b
 after-bounded P r c Duplicate b = listed-bounded P r.keeping c.tsn b
 after-bounded P r c Stray b = marked-bounded line P r.keeping c.tsn.0 b
 after-bounded P r c Empty b = b
@@ -278,9 +276,9 @@ module _ {P : Profile} {base streams : ℕ} {chunk : ℕ → Chunk} {size : ℕ 
       c : Held
       c = as_held (chunk j) (size j)
 
-      go : (f : Found) → find_from is_held_free 0 r.held ≡ f → copies (kept_in line P r c f).held j ≡ 1 → count is_held_free (kept_in line P r c f).held + 1 ≡ count is_held_free r.held
-      go Nothing e q = absurd (omega (arith, q, not-held))
-      go (At i) e q =
+      go : (f : Option ℕ) → find_from is_held_free 0 r.held ≡ f → copies (kept_in line P r c f).held j ≡ 1 → count is_held_free (kept_in line P r c f).held + 1 ≡ count is_held_free r.held
+      go None e q = absurd (omega (arith, q, not-held))
+      go (Some i) e q =
           omega
           (arith, count_set is_held_free no_held r.held i c (omega (arith, find-within is_held_free r.held 0 i e)), ap bit (found-at is_held_free no_held r.held i e))
 

@@ -1,5 +1,5 @@
 -- The payload of each held chunk lies in its place of the area, so that a take writes the bytes that the sender cut. Assumes nothing.
-use Rattle.std.specs.Prelude.{ℕ, zero, suc, ◌+◌, ◌-◌, ◌*◌, ◌<◌, ◌≤◌, ◌≡◌, Bool, take as first, set, get_or}
+use Rattle.std.specs.Prelude.{ℕ, zero, suc, ◌+◌, ◌-◌, ◌*◌, ◌<◌, ◌≤◌, ◌≡◌, Bool, take as first, set, get_or, Option, Some, None}
 use Rattle.std.proofs.Math.Path.{refl, ap}
 use Rattle.std.proofs.Common.{sym, ◌∙◌, subst, zero-add, mul-suc, mul-le-mul_left, arith, length-append, get_or-set_same, get_or-set_other, length-take-le, drop_at}
 use Rattle.std.proofs.Math.Bool.{true, false}
@@ -10,8 +10,6 @@ use Rattle.std.proofs.Math.ListN.{length, drop}
 use Rattle.std.proofs.lemmas.List.{drop-set-add, take-set-le}
 use Rattle.std.proofs.Math.Seq.{take-append_seam}
 use Rattle.std.proofs.Math.Dec.{ltb}
-use Rattle.scans.specs.declared.Found.{Found}
-use Rattle.scans.specs.declared.Found.TheVariants.{At, Nothing}
 use Rattle.scans.specs.Scan.{pick, find_from, find-within}
 use Rattle.scans.specs.Each.{All, clash}
 use Rattle.numbers.specs.declared.circle.Tsn.{Tsn}
@@ -221,9 +219,9 @@ module _ {P : Profile} {base streams : ℕ} {chunk : ℕ → Chunk} (payload : �
         go : (v : Verdict) → verdict_of lines P r x streams ≡ v → Lodged P payload (stored_by P r.held l.area (payload n) v) (receiving_after line P r x v).held
         go Kept e = place (find_from is_held_free 0 r.held) refl (kept-coming lines P r x streams e).0.fits
           where
-            place : (f : Found) → find_from is_held_free 0 r.held ≡ f → length (payload n) ≤ P.payload → Lodged P payload (payload_stored P l.area (payload n) f) (kept_in line P r x f).held
-            place (At i) q fits = lodged-put w i n (chunk n) (send.number n lb) (rw (zero-add (length r.held)) at (find-within is_held_free r.held 0 i q)) long fits
-            place Nothing q fits = w
+            place : (f : Option ℕ) → find_from is_held_free 0 r.held ≡ f → length (payload n) ≤ P.payload → Lodged P payload (payload_stored P l.area (payload n) f) (kept_in line P r x f).held
+            place (Some i) q fits = lodged-put w i n (chunk n) (send.number n lb) (rw (zero-add (length r.held)) at (find-within is_held_free r.held 0 i q)) long fits
+            place None q fits = w
         go Empty e = w
         go Long e = w
         go Opposite e = w

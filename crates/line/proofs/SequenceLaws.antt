@@ -1,7 +1,7 @@
 -- Any sequence of events: the circle answers as the line, each number that came is held or was given once, and each stream's ordered messages are
 -- given in order. Assumes nothing.
 use Prim.Native.Nat.{ℕ, zero, suc, ◌+◌, ◌-◌, ◌%◌, ◌<◌, ◌≤◌}
-use Rattle.std.specs.Prelude.{◌≡◌, Bool, true, false, length, get_or, replicate, eqb, leb, ltb}
+use Rattle.std.specs.Prelude.{◌≡◌, Bool, true, false, length, get_or, replicate, eqb, leb, ltb, Option, Some, None}
 use Rattle.std.proofs.Math.Path.{refl, ap}
 use Rattle.std.proofs.Common.{sym, ◌∙◌, subst, arith, le-ltb, leb-false}
 use mathlib.Core.List.{List, [], ◌∷◌, ◌++◌, map}
@@ -23,7 +23,7 @@ use Rattle.numbers.specs.BlocksLaws.{has, block_list, blocks-have, blocks-listed
 use Rattle.holding.specs.declared.held.Chunk.{Chunk}
 use Rattle.holding.specs.declared.held.Held.{Held}
 use Rattle.holding.specs.declared.taking.Answer.{Answer as Taking}
-use Rattle.holding.specs.declared.taking.Answer.TheVariants.{Taken, Nothing as None, Short}
+use Rattle.holding.specs.declared.taking.Answer.TheVariants.{Taken, Nothing, Short}
 use Rattle.holding.specs.Held.{no_held, as_held, holds, is_held_free}
 use Rattle.holding.specs.Taking.{first_held, written}
 use Rattle.delivery.specs.declared.receiving.Receiving.{Receiving}
@@ -32,8 +32,6 @@ use Rattle.delivery.specs.declared.arrival.Arrival.{Arrival}
 use Rattle.delivery.specs.declared.arrival.Verdict.{Verdict}
 use Rattle.delivery.specs.declared.arrival.Verdict.TheVariants.{Kept, Empty, Long, Opposite, Duplicate, Wedged, Far, Stray, Clashing}
 use Rattle.delivery.specs.declared.acknowledging.Acknowledged.{Acknowledged}
-use Rattle.scans.specs.declared.Found.{Found}
-use Rattle.scans.specs.declared.Found.TheVariants.{At, Nothing}
 use Rattle.delivery.specs.Receiving.{fresh_receiving, taken_into}
 use Rattle.delivery.specs.Arrival.{verdict_of, duplicate_noted, stray_passed, kept_in, receiving_after, arrived, arrival_area, kept_at_place}
 use Rattle.delivery.specs.ReceivingSack.{receiving_sack, receiving_told, acknowledged_receiving}
@@ -248,9 +246,9 @@ after_next : (P : Profile) (r : Receiving) (c : Held) (v : Verdict) → (receivi
 unfolding duplicate_noted stray_passed kept_at_place
 after_next P r c Kept = place (find_from is_held_free 0 r.held)
   where
-    place : (f : Found) → (kept_in line P r c f).next ≡ r.next
-    place (At i) = refl
-    place Nothing = refl
+    place : (f : Option ℕ) → (kept_in line P r c f).next ≡ r.next
+    place (Some i) = refl
+    place None = refl
 after_next P r c Empty = refl
 after_next P r c Long = refl
 after_next P r c Opposite = refl
@@ -353,7 +351,7 @@ order-reduced n m q (gives t out ∷ zs) = go t (order_given q (map (reduce_answ
     go : (t : Taking) (cs bs : List ℕ) → cs ≡ map (λ (y : ℕ). y % m) bs
         → pick (is_ordered_in q (reduce_taken m t)) (ssn_of (reduce_taken m t) ∷ cs) cs ≡ map (λ (y : ℕ). y % m) (pick (is_ordered_in q t) (ssn_of t ∷ bs) bs)
     go (Taken x) cs bs e = both (pick x.unordered false (eqb x.stream.0 q)) x.ssn.0 cs bs e
-    go None cs bs e = e
+    go Nothing cs bs e = e
     go (Short x) cs bs e = e
 order-reduced n m q (tells s ∷ zs) = order-reduced n m q zs
 

@@ -1,7 +1,7 @@
 -- An arrival keeps the line receiver sound.
 -- Assumes nothing.
 use Prim.Native.Nat.{ℕ, suc, ◌+◌, ◌-◌, ◌<◌, ◌≤◌}
-use Rattle.std.specs.Prelude.{◌≡◌, Bool, true, length, set, eqb, ltb}
+use Rattle.std.specs.Prelude.{◌≡◌, Bool, true, length, set, eqb, ltb, Option, Some, None}
 use Rattle.std.proofs.Math.Path.{refl, ap, subst}
 use Rattle.std.proofs.Common.{sym, ◌∙◌, zero-add, arith, le-ltb, eq-eqb, ne_eqb, length-set, get_or-set_same, get_or-set_other}
 use Rattle.std.proofs.Math.Bool.{false}
@@ -10,8 +10,6 @@ use Rattle.std.proofs.Math.Decide.{dec_lt, dec_le, ℕ_discrete}
 use Rattle.std.proofs.lemmas.Bool.{not-true}
 use Rattle.std.proofs.Math.ListN.{get_or}
 use mir.Val.{bool_byte as bit}
-use Rattle.scans.specs.declared.Found.{Found}
-use Rattle.scans.specs.declared.Found.TheVariants.{At, Nothing}
 use Rattle.scans.specs.Scan.{pick, any, find_from, bit_le, find-within}
 use Rattle.scans.specs.CountsLaws.{count_set}
 use Rattle.scans.specs.Each.{all_set, clash, neither, found-at}
@@ -101,7 +99,7 @@ module _ {P : Profile} {base streams : ℕ} {chunk : ℕ → Chunk} {size : ℕ 
   single j = omega (arith, s.once j, bit_le (came base p come j))
 
   -- it finds a free place
-  has-place : find_from is_held_free 0 hs ≡ Nothing → ⊥
+  has-place : find_from is_held_free 0 hs ≡ None → ⊥
   has-place e =
       let a : ℕ = suc p + (P.places - low) in
       let x : suc p + (n - suc p) ≡ n = omega arith in
@@ -121,7 +119,7 @@ module _ {P : Profile} {base streams : ℕ} {chunk : ℕ → Chunk} {size : ℕ 
           go (yes h) = absurd (omega (arith, low-le, came-room send s m (omega arith) (omega (arith, s.once m))))
           go (no h) = omega arith
 
-  module _ (i : ℕ) (free : find_from is_held_free 0 hs ≡ At i) where
+  module _ (i : ℕ) (free : find_from is_held_free 0 hs ≡ Some i) where
     abbrev new : List Bool
     new = set come (n - suc p) true
 
@@ -249,10 +247,10 @@ module _ {P : Profile} {base streams : ℕ} {chunk : ℕ → Chunk} {size : ℕ 
       come = set r.keeping.come (offset_of line r.keeping t - 1) true
 
       go : marked_come line P r.keeping t ≡ keeping_settled line (with_come r.keeping come) → pt < n → get_or r.keeping.come (n - suc pt) false ≡ false → n - pt ≤ P.places - below r.held (suc pt)
-          → (f : Found) → find_from is_held_free 0 r.held ≡ f
+          → (f : Option ℕ) → find_from is_held_free 0 r.held ≡ f
           → SoundOf P base chunk size (kept_in line P r c f) gone least × (copies (kept_in line P r c f).held n ≡ 1)
-      go m lp fl fits Nothing e = absurd (has-place send s n lb lp fl fits e)
-      go m lp fl fits (At i) e = (
+      go m lp fl fits None e = absurd (has-place send s n lb lp fl fits e)
+      go m lp fl fits (Some i) e = (
         subst (λ (y : Keeping). LineSound P base chunk size y.point.0 y.come (set r.held i c) r.next gone least) (sym m)
             (subst
             (λ (x : ℕ). LineSound P base chunk size (pt + run (set r.keeping.come x true)) (shift (run (set r.keeping.come x true)) (set r.keeping.come x true)) (set r.held i c) r.next gone least)

@@ -1,7 +1,7 @@
 -- What the line receiver's choice of a message is, where what it holds is a sender's: a whole message, the least that can be taken; and where
 -- a held beginning has no whole message, a chunk of that message is not held. Assumes nothing.
 use Prim.Native.Nat.{ℕ, zero, suc, ◌+◌, ◌<◌, ◌≤◌}
-use Rattle.std.specs.Prelude.{◌≡◌, Bool, List, [], ◌∷◌, ◌⊎◌, length, set, get_or, eqb, ltb}
+use Rattle.std.specs.Prelude.{◌≡◌, Bool, List, [], ◌∷◌, ◌⊎◌, length, set, get_or, eqb, ltb, Option, Some, None}
 use Rattle.std.proofs.Math.Path.{refl}
 use Rattle.std.proofs.Common.{sym, ap, ◌∙◌, subst, inl, add-zero, arith, get_or-set_other}
 use Rattle.std.proofs.Math.Bool.{true, false}
@@ -12,8 +12,6 @@ use Rattle.std.proofs.Math.Decide.{dec_lt, ℕ_discrete}
 use borrow.Author.Tests.{eq-eqb, ne_eqb, leb-true, leb-false, le-leb, lt-leb, lt-ltb, le-ltb, ltb-true}
 use Rattle.std.proofs.Math.Dec.{leb}
 use mir.Val.{bool_byte as bit}
-use Rattle.scans.specs.declared.Found.{Found}
-use Rattle.scans.specs.declared.Found.TheVariants.{At, Nothing}
 use Rattle.scans.specs.Scan.{pick, find_from, fold_from}
 use Rattle.scans.specs.Each.{All, all-at, clash, found-at}
 use Rattle.numbers.specs.declared.circle.Ssn.{Ssn}
@@ -34,14 +32,14 @@ use Rattle.line.specs.Sender.{HonestSender}
 no-choice : {A : Type 0} {i : List ℕ} → broken ≡ whole i → A
 no-choice {A} {i} e = let z : ◌≡◌ {A = ℕ} 0 1 = cc in absurd (omega arith)
 
-pub find_none : {A : Type 0} (p : A → Bool) (d : A) (xs : List A) (i j : ℕ) → find_from p i xs ≡ Nothing → j < length xs → p (get_or xs j d) ≡ true → ⊥
+pub find_none : {A : Type 0} (p : A → Bool) (d : A) (xs : List A) (i j : ℕ) → find_from p i xs ≡ None → j < length xs → p (get_or xs j d) ≡ true → ⊥
 find_none p d [] i j e l q = omega arith
 find_none p d (x ∷ xs) i j e l q = go (p x) refl j l q (find_none p d xs (i + 1))
   where
     go : (t : Bool) → p x ≡ t → (j : ℕ) → j < suc (length xs) → p (get_or (x ∷ xs) j d) ≡ true
-        → ((j : ℕ) → find_from p (i + 1) xs ≡ Nothing → j < length xs → p (get_or xs j d) ≡ true → ⊥) → ⊥
+        → ((j : ℕ) → find_from p (i + 1) xs ≡ None → j < length xs → p (get_or xs j d) ≡ true → ⊥) → ⊥
     go true s j l q ih =
-        let c : At i ≡ Nothing = rw s at e in
+        let c : Some i ≡ None = rw s at e in
         let z : ◌≡◌ {A = ℕ} 0 1 = cc in
         omega arith
     go false s zero l q ih = clash (sym s ∙ q)
@@ -225,7 +223,7 @@ module _ (P : Profile) (base streams : ℕ) (chunk : ℕ → Chunk) (size : ℕ 
       unfolding on
       on_one n = add-one n
 
-      next-is : (f i j : ℕ) → holds f (at i) ≡ true → find_from (continues first (on line (at i).tsn.0 1)) 0 hs ≡ At j → holds (suc f) (at j) ≡ true
+      next-is : (f i j : ℕ) → holds f (at i) ≡ true → find_from (continues first (on line (at i).tsn.0 1)) 0 hs ≡ Some j → holds (suc f) (at j) ≡ true
       next-is f i j e q =
           let t : on line (at i).tsn.0 1 ≡ suc f = on_one (at i).tsn.0 ∙ ap suc (is_held f (at i) e).1 in
           rw t at (continues-holds first _ (at j) (found-at _ no_held hs j q))
@@ -240,13 +238,13 @@ module _ (P : Profile) (base streams : ℕ) (chunk : ℕ → Chunk) (size : ℕ 
           w : at i ≡ as_held (chunk f) (size f)
           w = (real-at i f e).1
 
-          rest : (t : Found) → find_from (continues first (on line (at i).tsn.0 1)) 0 hs ≡ t
+          rest : (t : Option ℕ) → find_from (continues first (on line (at i).tsn.0 1)) 0 hs ≡ t
               → led i (onward (λ (j : ℕ). follow line hs first more j (at j)) t) ≡ whole is
               → (chunk f).end ≡ false
               → ((j : ℕ) (is : List ℕ) → holds (suc f) (at j) ≡ true → follow line hs first more j (at j) ≡ whole is → (js : List ℕ) × (is ≡ j ∷ js) × Spans (suc f) (j ∷ js))
               → (js : List ℕ) × (is ≡ i ∷ js) × Spans f (i ∷ js)
-          rest Nothing a b n ih = no-choice b
-          rest (At j) a b n ih = tail (follow line hs first more j (at j)) refl b
+          rest None a b n ih = no-choice b
+          rest (Some j) a b n ih = tail (follow line hs first more j (at j)) refl b
             where
               tail : (r : Run) → follow line hs first more j (at j) ≡ r → led i r ≡ whole is → (js : List ℕ) × (is ≡ i ∷ js) × Spans f (i ∷ js)
               tail broken c d = no-choice d
@@ -287,7 +285,7 @@ module _ (P : Profile) (base streams : ℕ) (chunk : ℕ → Chunk) (size : ℕ 
       }
 
       -- the next chunk, if it is held, is found
-      not-held : (f : ℕ) → base ≤ f → (chunk f).end ≡ false → Of f → (t : ℕ) → t ≡ suc f → find_from (continues first t) 0 hs ≡ Nothing → copies hs (suc f) ≡ 0
+      not-held : (f : ℕ) → base ≤ f → (chunk f).end ≡ false → Of f → (t : ℕ) → t ≡ suc f → find_from (continues first t) 0 hs ≡ None → copies hs (suc f) ≡ 0
       not-held f l e o t te q = go (dec_lt 0 (copies hs (suc f)))
         where
           o' : Of (suc f)
@@ -333,15 +331,15 @@ module _ (P : Profile) (base streams : ℕ) (chunk : ℕ → Chunk) (size : ℕ 
               later (inl a) = inl a
               later (inr a) = inr (omega arith)
 
-          rest : (chunk f).end ≡ false → IH → (t : Found) → find_from (continues first (on line (at i).tsn.0 1)) 0 hs ≡ t
+          rest : (chunk f).end ≡ false → IH → (t : Option ℕ) → find_from (continues first (on line (at i).tsn.0 1)) 0 hs ≡ t
               → led i (onward (λ (j : ℕ). follow line hs first more j (at j)) t) ≡ broken → Lacks f (suc more)
-          rest n ih Nothing a b = record {
+          rest n ih None a b = record {
             z = suc f;
             from = omega arith;
             part = λ j l m. one n j (omega arith);
             lack = inl (not-held f w.0 n o _ (on_one (at i).tsn.0 ∙ ap suc (is_held f (at i) e).1) a);
           }
-          rest n ih (At j) a b = tail (follow line hs first more j (at j)) refl b
+          rest n ih (Some j) a b = tail (follow line hs first more j (at j)) refl b
             where
               tail : (r : Run) → follow line hs first more j (at j) ≡ r → led i r ≡ broken → Lacks f (suc more)
               tail broken c d = more_of n (ih j (next-is f i j e a) (of-suc f w.0 n o) c)

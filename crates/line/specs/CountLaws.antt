@@ -1,10 +1,9 @@
 -- How often a number is held, how many held numbers are below a bound, and what putting a chunk in a place or emptying it does to both.
 -- Assumes nothing.
-use Rattle.std.specs.Prelude.{ℕ, zero, suc, ◌+◌, ◌-◌, ◌<◌, ◌≤◌, ◌≡◌, refl, Bool, true, false, List, [], ◌∷◌, length, set, get_or, eqb, ltb}
+use Rattle.std.specs.Prelude.{ℕ, zero, suc, ◌+◌, ◌-◌, ◌<◌, ◌≤◌, ◌≡◌, refl, Bool, true, false, List, [], ◌∷◌, length, set, get_or, eqb, ltb, Some, None}
 use Rattle.std.proofs.Common.{sym, ap, ◌∙◌, add-suc, add-zero, arith, lt-ltb, le-ltb, eq-eqb, ne_eqb, ltb-true, ltb-false}
 use Rattle.std.proofs.Math.Decide.{dec_lt, ℕ_discrete}
 use mir.Val.{bool_byte as bit}
-use Rattle.scans.specs.declared.Found.TheVariants.{At, Nothing}
 use Rattle.scans.specs.Scan.{pick, count, find_from}
 use Rattle.scans.specs.CountsLaws.{tick-bit, count_most, count_set}
 use Rattle.scans.specs.Each.{All, clash}
@@ -126,16 +125,16 @@ all_held {Q} (x ∷ hs) f = (
 )
 
 -- nothing is free, and nothing from a on is held: the places are as many as the numbers below a
-pub full-below : (hs : List Held) (i a : ℕ) → find_from is_held_free i hs ≡ Nothing → ((n : ℕ) → a ≤ n → copies hs n ≡ 0) → below hs a ≡ length hs
+pub full-below : (hs : List Held) (i a : ℕ) → find_from is_held_free i hs ≡ None → ((n : ℕ) → a ≤ n → copies hs n ≡ 0) → below hs a ≡ length hs
 unfolding below
 full-below [] i a e f = refl
 full-below (x ∷ hs) i a e f = go x.used refl (full-below hs (i + 1) a)
   where
     go : (u : Bool) → x.used ≡ u
-        → (find_from is_held_free (i + 1) hs ≡ Nothing → ((n : ℕ) → a ≤ n → copies hs n ≡ 0) → below hs a ≡ length hs)
+        → (find_from is_held_free (i + 1) hs ≡ None → ((n : ℕ) → a ≤ n → copies hs n ≡ 0) → below hs a ≡ length hs)
         → below (x ∷ hs) a ≡ suc (length hs)
     go false q ih =
-        let c : At i ≡ Nothing = rw q at e in
+        let c : Some i ≡ None = rw q at e in
         let z : ◌≡◌ {A = ℕ} 0 1 = cc in
         absurd (omega arith)
     go true q ih = less (dec_lt x.tsn.0 a)

@@ -1,6 +1,6 @@
 -- A message, chunk by chunk: what `follow` gives is one, and where no number is held twice it gives each. Assumes nothing.
 use Prim.Native.Nat.{ℕ, zero, suc, ◌+◌, ◌<◌, ◌≤◌}
-use Rattle.std.specs.Prelude.{◌≡◌, Bool, false, not, length, set, get_or, eqb}
+use Rattle.std.specs.Prelude.{◌≡◌, Bool, false, not, length, set, get_or, eqb, Option, Some, None}
 use Rattle.std.proofs.Math.Path.{refl, ap}
 use Rattle.std.proofs.Common.{sym, ◌∙◌, subst, arith, eq-eqb, ne_eqb, eqb-true, get_or-set_other, length-set}
 use Rattle.std.proofs.Math.Bool.{true}
@@ -9,8 +9,6 @@ use mathlib.Core.List.{List, [], ◌∷◌}
 use Rattle.std.proofs.Math.Decide.{ℕ_discrete, dec_lt}
 use Rattle.std.proofs.lemmas.Bool.{not-false}
 use mir.Val.{bool_byte as bit}
-use Rattle.scans.specs.declared.Found.{Found}
-use Rattle.scans.specs.declared.Found.TheVariants.{At, Nothing}
 use Rattle.scans.specs.Scan.{pick, count, find_from}
 use Rattle.scans.specs.CountsLaws.{count_most, count_set, count_at}
 use Rattle.scans.specs.Each.{All, clash, after-so, after-not, found-at}
@@ -83,18 +81,18 @@ is-continues first t h w =
 
 -- the only one that passes is found
 find-only : {A : Type 0} (p : A → Bool) (d : A) (xs : List A) (i j : ℕ) → j < length xs → p (get_or xs j d) ≡ true
-    → ((k : ℕ) → k < length xs → p (get_or xs k d) ≡ true → k ≡ j) → find_from p i xs ≡ At (i + j)
+    → ((k : ℕ) → k < length xs → p (get_or xs k d) ≡ true → k ≡ j) → find_from p i xs ≡ Some (i + j)
 find-only p d [] i j l e f = absurd (omega arith)
 find-only p d (x ∷ xs) i j l e f = go (p x) refl j l e f (find-only p d xs (i + 1))
   where
     go : (t : Bool) → p x ≡ t → (j : ℕ) → j < suc (length xs) → p (get_or (x ∷ xs) j d) ≡ true
         → ((k : ℕ) → k < suc (length xs) → p (get_or (x ∷ xs) k d) ≡ true → k ≡ j)
-        → ((j : ℕ) → j < length xs → p (get_or xs j d) ≡ true → ((k : ℕ) → k < length xs → p (get_or xs k d) ≡ true → k ≡ j) → find_from p (i + 1) xs ≡ At (i + 1 + j))
-        → pick t (At i) (find_from p (i + 1) xs) ≡ At (i + j)
-    go true q j l e f ih = ap At (omega (arith, f 0 (omega arith) q))
+        → ((j : ℕ) → j < length xs → p (get_or xs j d) ≡ true → ((k : ℕ) → k < length xs → p (get_or xs k d) ≡ true → k ≡ j) → find_from p (i + 1) xs ≡ Some (i + 1 + j))
+        → pick t (Some i) (find_from p (i + 1) xs) ≡ Some (i + j)
+    go true q j l e f ih = ap Some (omega (arith, f 0 (omega arith) q))
     go false q zero l e f ih = clash (sym q ∙ e)
     go false q (suc j) l e f ih =
-        ih j (omega arith) e (λ k m a. let z : suc k ≡ suc j = f (suc k) (omega arith) a in omega arith) ∙ ap At (omega arith)
+        ih j (omega arith) e (λ k m a. let z : suc k ≡ suc j = f (suc k) (omega arith) a in omega arith) ∙ ap Some (omega arith)
 
 -- of what passes at most once there is one place
 one_place : {A : Type 0} (p : A → Bool) (d : A) (xs : List A) → p d ≡ false → count p xs ≤ 1
@@ -258,10 +256,10 @@ module _ (T : Numbering) (hs : List Held) where
       IH : Type 0
       IH = (j : ℕ) (ks : List ℕ) → (at j).used ≡ true → follow T hs first more j (at j) ≡ whole ks → (js : List ℕ) × (ks ≡ j ∷ js) × Leads first (j ∷ js)
 
-      rest : (at i).end ≡ false → IH → (f : Found) → find_from (continues first (on T (at i).tsn.0 1)) 0 hs ≡ f
+      rest : (at i).end ≡ false → IH → (f : Option ℕ) → find_from (continues first (on T (at i).tsn.0 1)) 0 hs ≡ f
           → led i (onward (λ (j : ℕ). follow T hs first more j (at j)) f) ≡ whole is → (js : List ℕ) × (is ≡ i ∷ js) × Leads first (i ∷ js)
-      rest n ih Nothing a b = no_run b
-      rest n ih (At j) a b = tail (follow T hs first more j (at j)) refl b
+      rest n ih None a b = no_run b
+      rest n ih (Some j) a b = tail (follow T hs first more j (at j)) refl b
         where
           c : Continues first (on T (at i).tsn.0 1) (at j)
           c = continues-is first _ (at j) (found-at _ no_held hs j a)
@@ -285,9 +283,9 @@ module _ (T : Numbering) (hs : List Held) where
 
   module _ (once : (t : ℕ) → count (holds t) hs ≤ 1) where
     -- the chunk that goes on is found where it is
-    continues-found : (first : Held) (t j : ℕ) → Continues first t (at j) → find_from (continues first t) 0 hs ≡ At j
+    continues-found : (first : Held) (t j : ℕ) → Continues first t (at j) → find_from (continues first t) 0 hs ≡ Some j
     continues-found first t j c =
-        find-only (continues first t) no_held hs 0 j here (is-continues first t (at j) c) only ∙ ap At (omega arith)
+        find-only (continues first t) no_held hs 0 j here (is-continues first t (at j) c) only ∙ ap Some (omega arith)
       where
         here : j < length hs
         here = used-within hs j c.held
@@ -303,7 +301,7 @@ module _ (T : Numbering) (hs : List Held) where
     leads-follow first (suc more) i [] w l = rw w.1
     leads-follow first (suc more) i (j ∷ is) w l =
         ap (λ (t : Bool). pick t (whole (i ∷ [])) (led i (onward go (find_from (continues first (on T (at i).tsn.0 1)) 0 hs)))) w.0.1
-        ∙ (ap (λ (f : Found). led i (onward go f)) (continues-found first (on T (at i).tsn.0 1) j w.0.2)
+        ∙ (ap (λ (f : Option ℕ). led i (onward go f)) (continues-found first (on T (at i).tsn.0 1) j w.0.2)
         ∙ ap (led i) (leads-follow first more j is w.1 (omega arith)))
       where
         go : ℕ → Run

@@ -1,11 +1,9 @@
 -- The receiving side over tables of words: the record that the words show, the words that each verdict leaves, and what a SACK tells.
-use Rattle.std.specs.Prelude.{ℕ, List, []}
+use Rattle.std.specs.Prelude.{ℕ, List, [], Option, Some, None}
 use Rattle.numbers.specs.declared.keeping.Keeping.{Keeping}
 use Rattle.numbers.specs.Keeping as keeping
 use Rattle.numbers.specs.Numbering.{Numberings}
 use Rattle.numbers.specs.Profile.{Profile}
-use Rattle.scans.specs.declared.Found.{Found}
-use Rattle.scans.specs.declared.Found.TheVariants.{At, Nothing}
 use Rattle.scans.specs.Scan.{find_from}
 use Rattle.holding.specs.declared.held.Held.{Held}
 use Rattle.holding.specs.Held.{is_held_free}
@@ -24,9 +22,9 @@ abbrev pub receiving_shown : Profile → Keeping → List ℕ → List ℕ → R
 receiving_shown P k ws ns = record { keeping = k; held = held_of P ws; next = ssns_of P ns }
 
 -- the words with the chunk in the place that was found
-abbrev pub words_kept : Profile → List ℕ → Held → Found → List ℕ
-words_kept P ws h (At i) = held_put P ws i h
-words_kept P ws h Nothing = ws
+abbrev pub words_kept : Profile → List ℕ → Held → Option ℕ → List ℕ
+words_kept P ws h (Some i) = held_put P ws i h
+words_kept P ws h None = ws
 
 -- only a chunk that is held changes the words
 abbrev pub arrival_words : Profile → List ℕ → Held → Verdict → List ℕ

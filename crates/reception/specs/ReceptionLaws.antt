@@ -1,5 +1,5 @@
 -- What is told after each verdict; and the words that a call leaves show what the call by value leaves. Assumes nothing.
-use Rattle.std.specs.Prelude.{ℕ, ◌*◌, ◌^◌, ◌<◌, ◌≤◌, ◌≡◌, List, [], length, replicate}
+use Rattle.std.specs.Prelude.{ℕ, ◌*◌, ◌^◌, ◌<◌, ◌≤◌, ◌≡◌, List, [], length, replicate, Option, Some, None}
 use Rattle.std.proofs.Math.Path.{refl, sym, ap}
 use Rattle.std.proofs.Common.{◌∙◌, arith}
 use Rattle.numbers.specs.declared.circle.Tsn.{Tsn}
@@ -10,8 +10,6 @@ use Rattle.numbers.specs.Keeping.{marked_come, listed}
 use Rattle.numbers.specs.Keeping as keeping
 use Rattle.numbers.specs.KeepingLaws.{KeepingShaped}
 use Rattle.numbers.specs.Blocks.{blocks_of}
-use Rattle.scans.specs.declared.Found.{Found}
-use Rattle.scans.specs.declared.Found.TheVariants.{At, Nothing}
 use Rattle.scans.specs.Scan.{count, find_from}
 use Rattle.scans.specs.Each.{all_map}
 use Rattle.holding.specs.declared.held.Held.{Held}
@@ -48,9 +46,9 @@ module _ (T : Numbering) (P : Profile) (r : Receiving) (h : Held) where
   pub kept-keeping : {k : Keeping} → k ≡ marked_come T P r.keeping h.tsn.0 → k ≡ (receiving_after T P r h Kept).keeping
   kept-keeping e = e ∙ sym (go (find_from is_held_free 0 r.held))
     where
-      go : (f : Found) → (kept_in T P r h f).keeping ≡ marked_come T P r.keeping h.tsn.0
-      go (At i) = ap (λ (q : Receiving). q.keeping) (kept-is T P r i h)
-      go Nothing = ap (λ (q : Receiving). q.keeping) (passed_is T P r h.tsn.0)
+      go : (f : Option ℕ) → (kept_in T P r h f).keeping ≡ marked_come T P r.keeping h.tsn.0
+      go (Some i) = ap (λ (q : Receiving). q.keeping) (kept-is T P r i h)
+      go None = ap (λ (q : Receiving). q.keeping) (passed_is T P r h.tsn.0)
 
   pub noted-keeping : {k : Keeping} → k ≡ listed P r.keeping h.tsn → k ≡ (receiving_after T P r h Duplicate).keeping
   noted-keeping e = e ∙ ap (λ (q : Receiving). q.keeping) (sym (noted-is T P r h.tsn))
@@ -82,9 +80,9 @@ module _ (N : Numberings) (P : Profile) (k : Keeping) (ws ns : List ℕ) (h : He
     unfolding words_after
     words-held = go (verdict_of N P (receiving_shown P k ws ns) h streams) refl
       where
-        put : HeldSmall h → (f : Found) → held_of P (words_kept P ws h f) ≡ (kept_in N.tsn P (receiving_shown P k ws ns) h f).held
-        put q (At i) = held-put P ws i h l q ∙ ap (λ (r : Receiving). r.held) (sym (kept-is N.tsn P (receiving_shown P k ws ns) i h))
-        put q Nothing = ap (λ (r : Receiving). r.held) (sym (passed_is N.tsn P (receiving_shown P k ws ns) h.tsn.0))
+        put : HeldSmall h → (f : Option ℕ) → held_of P (words_kept P ws h f) ≡ (kept_in N.tsn P (receiving_shown P k ws ns) h f).held
+        put q (Some i) = held-put P ws i h l q ∙ ap (λ (r : Receiving). r.held) (sym (kept-is N.tsn P (receiving_shown P k ws ns) i h))
+        put q None = ap (λ (r : Receiving). r.held) (sym (passed_is N.tsn P (receiving_shown P k ws ns) h.tsn.0))
 
         small : verdict_of N P (receiving_shown P k ws ns) h streams ≡ Kept → HeldSmall h
         small e =
@@ -105,9 +103,9 @@ module _ (N : Numberings) (P : Profile) (k : Keeping) (ws ns : List ℕ) (h : He
     next-same : (v : Verdict) → ssns_of P ns ≡ (receiving_after N.tsn P (receiving_shown P k ws ns) h v).next
     next-same Kept = go (find_from is_held_free 0 (held_of P ws))
       where
-        go : (f : Found) → ssns_of P ns ≡ (kept_in N.tsn P (receiving_shown P k ws ns) h f).next
-        go (At i) = ap (λ (r : Receiving). r.next) (sym (kept-is N.tsn P (receiving_shown P k ws ns) i h))
-        go Nothing = ap (λ (r : Receiving). r.next) (sym (passed_is N.tsn P (receiving_shown P k ws ns) h.tsn.0))
+        go : (f : Option ℕ) → ssns_of P ns ≡ (kept_in N.tsn P (receiving_shown P k ws ns) h f).next
+        go (Some i) = ap (λ (r : Receiving). r.next) (sym (kept-is N.tsn P (receiving_shown P k ws ns) i h))
+        go None = ap (λ (r : Receiving). r.next) (sym (passed_is N.tsn P (receiving_shown P k ws ns) h.tsn.0))
     next-same Empty = refl
     next-same Long = refl
     next-same Opposite = refl
@@ -130,9 +128,9 @@ pub after-long : (N : Numberings) (P : Profile) (r : Receiving) (ws : List ℕ) 
 unfolding words_after
 after-long N P r ws h streams = go (verdict_of N P r h streams)
   where
-    put : (f : Found) → length (words_kept P ws h f) ≡ length ws
-    put (At i) = held-put-long P ws i h
-    put Nothing = refl
+    put : (f : Option ℕ) → length (words_kept P ws h f) ≡ length ws
+    put (Some i) = held-put-long P ws i h
+    put None = refl
 
     go : (v : Verdict) → length (arrival_words P ws h v) ≡ length ws
     go Kept = put (find_from is_held_free 0 (held_of P ws))
