@@ -1,5 +1,5 @@
 -- What the rules of messages and of a take say, as equations: for one who reads the places from a table in place of a list. Assumes nothing.
-use Rattle.std.specs.Prelude.{ℕ, ◌≡◌, true, false, List, set, get_or, ltb}
+use Rattle.std.specs.Prelude.{ℕ, ◌≡◌, true, false, List, set, get_or, ltb, Option, Some}
 use Rattle.std.proofs.Math.Path.{refl}
 use Rattle.numbers.specs.declared.circle.Ssn.{Ssn}
 use Rattle.numbers.specs.Circle.{ssn0}
@@ -10,7 +10,7 @@ use Rattle.holding.specs.declared.held.Held.{Held}
 use Rattle.holding.specs.declared.message.Best.{Best}
 use Rattle.holding.specs.Held.{holds}
 use Rattle.holding.specs.Message.{is_whole, continues, follow, is_left_end, is_due_at, is_expected, opens, chosen}
-use Rattle.holding.specs.MessageLaws.{is_better, tried_run}
+use Rattle.holding.specs.MessageLaws.{beats_best, is_better, tried_run}
 use Rattle.holding.specs.Taking.{advanced, took_by, took}
 
 -- what does not hold the number does not go on with a run at it
@@ -27,8 +27,8 @@ module _ (S : Numbering) (P : Profile) (next : List Ssn) (h : Held) where
   unfolding opens
   opens-is = refl
 
-module _ (N : Numberings) (P : Profile) (next : List Ssn) (point : ℕ) (best : Best) (h : Held) where
-  pub better-message-is : is_better N P next point best h ≡ pick (opens N.ssn P next h) (pick best.some (ltb (key N.tsn point h.tsn.0) best.key) true) false
+module _ (N : Numberings) (P : Profile) (next : List Ssn) (point : ℕ) (best : Option Best) (h : Held) where
+  pub better-message-is : is_better N P next point best h ≡ pick (opens N.ssn P next h) (beats_best (key N.tsn point h.tsn.0) best) false
   unfolding is_better
   better-message-is = refl
 
@@ -37,8 +37,8 @@ module _ (N : Numberings) (P : Profile) (next : List Ssn) (point : ℕ) (best : 
   unfolding is_better opens is_left_end
   free-not-better u = rw u
 
-pub tried-is : (T : Numbering) (P : Profile) (hs : List Held) (point : ℕ) (best : Best) (i : ℕ) (h : Held)
-    → tried_run T P hs point best i h ≡ pick (is_whole (follow T hs h P.places i h)) (record { some = true; place = i; key = key T point h.tsn.0 }) best
+pub tried-is : (T : Numbering) (P : Profile) (hs : List Held) (point : ℕ) (best : Option Best) (i : ℕ) (h : Held)
+    → tried_run T P hs point best i h ≡ pick (is_whole (follow T hs h P.places i h)) (Some (record { place = i; key = key T point h.tsn.0 })) best
 unfolding tried_run
 tried-is T P hs point best i h = refl
 

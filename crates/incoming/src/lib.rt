@@ -52,9 +52,8 @@ impl Incoming {
     pub fn fresh(initial: Tsn) -> Incoming
         ensures { (result ≡ incoming_begun initial) × (incoming_shown result ≡ fresh_receiving (ring (2 ^ 32)) rail initial) }
     {
-        let keeping = Keeping::fresh(initial);
         Incoming {
-            keeping,
+            keeping: Keeping::fresh(initial),
             held: [0; 512],
             next: [0; Rail::STREAMS],
         }
@@ -68,28 +67,22 @@ pub fn arrive(mut r: Incoming, area: &mut [u8], c: Chunk, payload: &[u8], stream
         × (area.new ≡ arrival_area circles rail (incoming_shown r) (as_held c (length payload.now)) streams area.old payload.now) }
 {
     let keeping = r.keeping;
-    let next = r.next;
-    let a = reception::arrival::arrive(keeping, &mut r.held, &next, area, c, payload, streams);
-    let verdict = a.verdict;
-    let after = a.keeping;
-    r.keeping = after;
+    let came = reception::arrival::arrive(keeping, &mut r.held, &r.next, area, c, payload, streams);
+    r.keeping = came.keeping;
     Came {
-        verdict,
+        verdict: came.verdict,
         incoming: r,
     }
 }
 
-// A message is taken: its bytes go to `out`. Two tables of one record cannot be lent at once: the smaller goes by a local.
+// A message is taken: its bytes go to `out`.
 pub fn take(mut r: Incoming, area: &[u8], out: &mut [u8]) -> Took
     ensures { (result ≡ took_from r (length out.old))
         × (◌≡◌ {A = Taken} (record { answer = result.answer; receiving = incoming_shown result.incoming }) (taken_into circles rail (incoming_shown r) (length out.old)))
         × (out.new ≡ written circles rail (incoming_shown r).held (incoming_shown r).next r.keeping.point.0 area.now out.old) }
 {
-    let keeping = r.keeping;
-    let point = keeping.point;
-    let mut next = r.next;
-    let answer = taking::giving::take(&mut r.held, &mut next, point, area, out);
-    r.next = next;
+    let point = r.keeping.point;
+    let answer = taking::giving::take(&mut r.held, &mut r.next, point, area, out);
     Took {
         answer,
         incoming: r,
@@ -100,10 +93,10 @@ pub fn take(mut r: Incoming, area: &[u8], out: &mut [u8]) -> Took
 pub fn sack(mut r: Incoming) -> Told
     ensures { (result ≡ incoming_told r) × (◌≡◌ {A = Acknowledged} (record { sack = result.sack; receiving = incoming_shown result.incoming }) (acknowledged_receiving rail (incoming_shown r))) }
 {
-    let keeping = r.keeping;
-    let a = reception::acknowledging::sack(keeping, &r.held);
-    let sack = a.sack;
-    let after = a.keeping;
-    r.keeping = after;
-    Told { sack, incoming: r }
+    let told = reception::acknowledging::sack(r.keeping, &r.held);
+    r.keeping = told.keeping;
+    Told {
+        sack: told.sack,
+        incoming: r,
+    }
 }

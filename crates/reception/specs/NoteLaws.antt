@@ -82,3 +82,16 @@ module _ {hs : List Held} {m : ℕ} {seen : List Bool} {i : ℕ} (w : Checking h
         go t z (no q) =
             any-other t hs i (inside h) (holds-other t (get_or hs i no_held) (λ x. q (ap (λ (k : ℕ). k % 128) (sym x) ∙ sym e)))
             (w.says t (sym (get_or-set_other seen d (t % 128) true false q) ∙ z))
+
+-- a slot noted once more, or beside the others
+pub check-noted : {hs : List Held} {m : ℕ} {seen : List Bool} {i : ℕ} → Checking hs m seen i → {d : ℕ} → d < 128 → Checking hs m (set seen d true) i
+check-noted {hs} {m} {seen} {i} w {d} l = record {
+  long = w.long;
+  slots = length-set seen d true ∙ w.slots;
+  says = λ t z. go t z (ℕ_discrete (t % 128) d);
+  tried = w.tried;
+}
+  where
+    go : (t : ℕ) → get_or (set seen d true) (t % 128) false ≡ false → Dec (t % 128 ≡ d) → any (holds t) (take i hs) ≡ false
+    go t z (yes q) = clash (sym z ∙ (ap (λ (k : ℕ). get_or (set seen d true) k false) q ∙ get_or-set_same seen d true false (omega (arith, w.slots))))
+    go t z (no q) = w.says t (sym (get_or-set_other seen d (t % 128) true false q) ∙ z)

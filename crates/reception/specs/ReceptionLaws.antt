@@ -65,6 +65,22 @@ module _ (N : Numberings) (P : Profile) (r : Receiving) (h : Held) (streams : �
       let e : verdict_of N P r h streams ≡ v = sym p ∙ q in
       (ap (λ (t : Verdict). record { verdict = t; keeping = k }) q ∙ rw e (ap (λ (m : Keeping). record { verdict = v; keeping = m }) x), rw e y, by-law (arrival-area-is N P r h streams area bytes) (rw e z))
 
+  -- a verdict of the others leaves all
+  pub left_alone : {u : Verdict} → u ≡ verdict_of N P r h streams → (u ≡ Kept → ⊥) → (u ≡ Duplicate → ⊥) → (u ≡ Stray → ⊥)
+      → (record { verdict = u; keeping = r.keeping } ≡ arrival_told N P r h streams) × (ws ≡ words_after N P r ws h streams) × (area ≡ arrival_area N P r h streams area bytes)
+  left_alone {u} p k d s = go u refl
+    where
+      go : (v : Verdict) → u ≡ v → (record { verdict = u; keeping = r.keeping } ≡ arrival_told N P r h streams) × (ws ≡ words_after N P r ws h streams) × (area ≡ arrival_area N P r h streams area bytes)
+      go Kept e = absurd (k e)
+      go Duplicate e = absurd (d e)
+      go Stray e = absurd (s e)
+      go Empty e = left_by p e refl refl refl
+      go Long e = left_by p e refl refl refl
+      go Opposite e = left_by p e refl refl refl
+      go Wedged e = left_by p e refl refl refl
+      go Far e = left_by p e refl refl refl
+      go Clashing e = left_by p e refl refl refl
+
 -- ---- what the words show afterwards
 
 -- a chunk that is held is within its words: all but its length by its type, that by the checks

@@ -20,16 +20,16 @@ pub fn sack(keeping: Keeping, words: &[u32; held::WORDS]) -> Acknowledged
     ensures { result ≡ sacked rail keeping words.now }
 {
     let free = choosing::free_places(words);
-    let point = keeping.point;
     let blocks = keeping.blocks();
     let dups = keeping.dups;
-    let sack = Sack {
-        point,
-        window: (Rail::PAYLOAD * free) as u32,
-        blocks,
-        dups,
-        listed: keeping.listed,
-    };
-    let k = keeping.told();
-    Acknowledged { sack, keeping: k }
+    Acknowledged {
+        sack: Sack {
+            point: keeping.point,
+            window: (Rail::PAYLOAD * free) as u32,
+            blocks,
+            dups,
+            listed: keeping.listed,
+        },
+        keeping: keeping.told(),
+    }
 }

@@ -1,14 +1,14 @@
 -- Each promise leaves one outcome: two results, and two contents of each table and of the output, that a contract allows are equal, whatever words the
 -- tables had. Assumes nothing.
 use mathlib.Core.Path.{◌≡◌, sym, ◌∙◌}
-use Rattle.taking.proofs.choosing.are_free.Reads as are-free-reads
+use Rattle.taking.proofs.choosing.next_used.Reads as next-used-reads
 use Rattle.taking.proofs.choosing.free_places.Reads as free-places-reads
 use Rattle.taking.proofs.choosing.choose.Reads as choose-reads
 use Rattle.taking.proofs.choosing.can_take.Reads as can-take-reads
 use Rattle.taking.proofs.giving.take.Reads as take-reads
 
-pub are-free-unique : (κs : _) (a : _) (r q : _) (s t : _) → are-free-reads.Post κs a r s → are-free-reads.Post κs a q t → r ≡ q
-are-free-unique κs a r q s t x y = x ∙ sym y
+pub next-used-unique : (κs : _) (a : _) (r q : _) (s t : _) → next-used-reads.Post κs a r s → next-used-reads.Post κs a q t → r ≡ q
+next-used-unique κs a r q s t x y = x ∙ sym y
 
 pub free-places-unique : (κs : _) (a : _) (r q : _) (s t : _) → free-places-reads.Post κs a r s → free-places-reads.Post κs a q t → r ≡ q
 free-places-unique κs a r q s t x y = x.0 ∙ sym y.0

@@ -1,9 +1,9 @@
 -- A take over tables of words: the words of the places and of the next expected SSNs that it leaves.
-use Rattle.std.specs.Prelude.{ℕ, zero, suc, ◌+◌, Bool, true, false, List, [], ◌∷◌, get_or, take, ltb}
+use Rattle.std.specs.Prelude.{ℕ, zero, suc, ◌+◌, Bool, true, false, List, [], ◌∷◌, get_or, take, drop, ltb, Option}
 use Rattle.numbers.specs.Circle.{ssn0}
 use Rattle.numbers.specs.Numbering.{Numbering, Numberings, on}
 use Rattle.numbers.specs.Profile.{Profile}
-use Rattle.scans.specs.Scan.{pick}
+use Rattle.scans.specs.Scan.{pick, find_from}
 use Rattle.holding.specs.declared.held.Held.{Held}
 use Rattle.holding.specs.Held.{no_held}
 use Rattle.holding.specs.Message.{Run, broken, whole, Choice, none, one, chunks_at, chosen}
@@ -15,6 +15,10 @@ use Rattle.tables.specs.Ssns.{ssns_of, ssn_put}
 abbrev pub free_for : List Held → ℕ → ℕ → Bool
 free_for hs i zero = true
 free_for hs i (suc n) = pick (get_or hs i no_held).used false (free_for hs (i + 1) n)
+
+-- the first place from `from` on that is used
+abbrev pub next_used : List Held → ℕ → Option ℕ
+next_used hs from = find_from (λ (h : Held). h.used) from (drop from hs)
 
 -- the run that the first n places of a list stand for; none: it is broken
 abbrev pub run_at : List ℕ → ℕ → Run

@@ -1,7 +1,7 @@
 -- The loops over the places of a message, what a take leaves of the words, and that the words then show what a take leaves of places and SSNs. Assumes nothing.
-use Rattle.std.specs.Prelude.{ℕ, ◌+◌, ◌-◌, ◌*◌, ◌^◌, ◌<◌, ◌≤◌, ◌≡◌, Bool, List, [], ◌∷◌, ◌++◌, take, drop, get_or, set, ltb}
+use Rattle.std.specs.Prelude.{ℕ, ◌+◌, ◌*◌, ◌^◌, ◌<◌, ◌≤◌, ◌≡◌, Bool, List, [], ◌∷◌, ◌++◌, take, drop, get_or, set, ltb, Option, Some}
 use Rattle.std.proofs.Math.Path.{refl, ap}
-use Rattle.std.proofs.Common.{sym, ◌∙◌, subst, arith, add-one, get_or-take, length-take-le, take-suc-set}
+use Rattle.std.proofs.Common.{sym, ◌∙◌, subst, arith, add-one, take-suc-set}
 use Rattle.std.proofs.Math.Bool.{true, false}
 use borrow.Author.Tests.{lt-ltb, le-ltb}
 use Rattle.std.proofs.Math.ListN.{length}
@@ -12,9 +12,8 @@ use Rattle.numbers.specs.Profile.{Profile}
 use Rattle.numbers.specs.ReachLaws.{on-On}
 use Rattle.octets.specs.Bytes.{laid}
 use Rattle.octets.specs.BytesLaws.{length-laid}
-use Rattle.scans.specs.Scan.{pick, left_one, left-none, Summing, sum_more}
+use Rattle.scans.specs.Scan.{pick, left_one, left-none}
 use Rattle.scans.specs.Upto.{upto-one}
-use Rattle.scans.specs.Each.{clash}
 use Rattle.holding.specs.declared.held.Held.{Held}
 use Rattle.holding.specs.declared.message.Best.{Best}
 use Rattle.holding.specs.declared.taking.Answer.{Answer}
@@ -24,7 +23,7 @@ use Rattle.holding.specs.Held.{no_held}
 use Rattle.holding.specs.Message.{Run, broken, whole, Choice, chosen, none, one, chunks_at, follow}
 use Rattle.holding.specs.MessageLaws.{RunGathering, joined_run, first_place, best_of_choice, Heads, follow-heads}
 use Rattle.holding.specs.Taking.{len_at, length_of, first_held, payload_at, copied, message_of, emptied, advanced, took_by, took, written}
-use Rattle.holding.specs.TakingLaws.{chosen-run, place-within, took-none}
+use Rattle.holding.specs.TakingLaws.{chosen-run, found-one, leads_at, place-within, took-none}
 use Rattle.holding.specs.HoldingTableLaws.{advanced-is, took-is}
 use Rattle.tables.specs.HeldWords.{held_of, held_freed}
 use Rattle.tables.specs.HeldWordsLaws.{held-long, held-put, none-small, held-put-long}
@@ -52,53 +51,36 @@ gather-whole {T} {hs} {first} {m} {place} {at} {i} {cur} {n} w h t =
     rw (le-ltb (n + 1) 1 (omega arith), noted)
     (rw t at (upto-one (λ (k : ℕ). joined_run (take n at) (follow T hs first k i cur)) m n w.rest h))
 
--- ---- the loops over the first n places of a list
-
-module _ {at : List ℕ} {n : ℕ} (w : Listed at n) where
-  pub listed-long : length (take n at) ≡ n
-  listed-long = length-take-le n at (omega (arith, w.few, w.long))
-
-  -- what holds of those left of the places, where one more of them is read, and where none is left
-  module _ {R : Type 0} (left : List ℕ → R) {all : R} (j : ℕ) (s : left (drop j (take n at)) ≡ all) where
-    place-one : j < n → left (get_or at j 0 ∷ drop (j + 1) (take n at)) ≡ all
-    place-one h = rw (get_or-take n at j 0 h) at (left_one left (take n at) j s 0 (omega (arith, listed-long)))
-
-    place_none : n ≤ j → left [] ≡ all
-    place_none h = left-none left (take n at) j s (omega (arith, listed-long))
-
-pub add-place : (hs : List Held) (at : List ℕ) (n : ℕ) {a j : ℕ} → Summing (len_at hs) 65535 (take n at) n j a → {i v : ℕ} → j < n → i ≡ get_or at j 0 → v ≡ len_at hs i
-    → v ≤ 65535 → Summing (len_at hs) 65535 (take n at) n (j + 1) (a + v)
-add-place hs at n {a} {j} s {i} {v} h z e l = sum_more s 0 v h (e ∙ ap (len_at hs) (z ∙ sym (get_or-take n at j 0 h))) l
+-- ---- the loops over the places of a list
 
 -- the message copied up to its j-th chunk
-pub record Copying (P : Profile) (area : List ℕ) (hs : List Held) (out list : List ℕ) (n : ℕ) (now : List ℕ) (at j : ℕ) : Type 0 where
+pub record Copying (P : Profile) (area : List ℕ) (hs : List Held) (out list : List ℕ) (now : List ℕ) (at j : ℕ) : Type 0 where
   pub long : length now ≡ length out
   pub small : at ≤ 65535 * j
-  pub rest : copied P area hs now at (drop j (take n list)) ≡ copied P area hs out 0 (take n list)
+  pub rest : copied P area hs now at (drop j list) ≡ copied P area hs out 0 list
 
-module _ {P : Profile} {area : List ℕ} {hs : List Held} {out list : List ℕ} {n : ℕ} {now : List ℕ} {at j : ℕ}
-    (w : Listed list n) (s : Copying P area hs out list n now at j) where
-  pub copy_more : {i v : ℕ} {then : List ℕ} → j < n → i ≡ get_or list j 0 → v ≡ len_at hs i → v ≤ 65535 → then ≡ laid now at (payload_at P area i v)
-      → Copying P area hs out list n then (at + v) (j + 1)
-  copy_more {i} {v} {then} h z e l q = record {
-    long = ap length q ∙ (length-laid now at (payload_at P area i v) ∙ s.long);
+module _ {P : Profile} {area : List ℕ} {hs : List Held} {out list : List ℕ} {now : List ℕ} {at j : ℕ} (s : Copying P area hs out list now at j) where
+  pub copy_more : {v : ℕ} {then : List ℕ} → j < length list → v ≡ len_at hs (get_or list j 0) → v ≤ 65535 → then ≡ laid now at (payload_at P area (get_or list j 0) v)
+      → Copying P area hs out list then (at + v) (j + 1)
+  copy_more {v} {then} h e l q = record {
+    long = ap length q ∙ (length-laid now at (payload_at P area (get_or list j 0) v) ∙ s.long);
     small = omega (arith, s.small);
-    rest = rw (q, e, z) (place-one w (copied P area hs now at) j s.rest h);
+    rest = rw (q, e) (left_one (copied P area hs now at) list j s.rest 0 h);
   }
 
-  pub copy-end : n ≤ j → now ≡ copied P area hs out 0 (take n list)
-  copy-end h = place_none w (copied P area hs now at) j s.rest h
+  pub copy-end : length list ≤ j → now ≡ copied P area hs out 0 list
+  copy-end h = left-none (copied P area hs now at) list j s.rest h
 
 -- the places freed up to the j-th
-pub record Clearing (P : Profile) (ws list : List ℕ) (n : ℕ) (now : List ℕ) (j : ℕ) : Type 0 where
-  pub rest : words_emptied P now (drop j (take n list)) ≡ words_emptied P ws (take n list)
+pub record Clearing (P : Profile) (ws list : List ℕ) (now : List ℕ) (j : ℕ) : Type 0 where
+  pub rest : words_emptied P now (drop j list) ≡ words_emptied P ws list
 
-module _ {P : Profile} {ws list : List ℕ} {n : ℕ} {now : List ℕ} {j : ℕ} (w : Listed list n) (s : Clearing P ws list n now j) where
-  pub clear-more : {i : ℕ} {then : List ℕ} → j < n → i ≡ get_or list j 0 → then ≡ held_freed P now i → Clearing P ws list n then (j + 1)
-  clear-more {i} {then} l z q = record { rest = rw (q, z) (place-one w (words_emptied P now) j s.rest l) }
+module _ {P : Profile} {ws list : List ℕ} {now : List ℕ} {j : ℕ} (s : Clearing P ws list now j) where
+  pub clear-more : {then : List ℕ} → j < length list → then ≡ held_freed P now (get_or list j 0) → Clearing P ws list then (j + 1)
+  clear-more {then} l q = record { rest = rw q (left_one (words_emptied P now) list j s.rest 0 l) }
 
-  pub clear-end : n ≤ j → now ≡ words_emptied P ws (take n list)
-  clear-end l = place_none w (words_emptied P now) j s.rest l
+  pub clear-end : length list ≤ j → now ≡ words_emptied P ws list
+  clear-end l = left-none (words_emptied P now) list j s.rest l
 
 -- ---- what a take finds
 
@@ -116,15 +98,8 @@ run_is at n is e = go (ltb n 1) e
     go true q = let z : ◌≡◌ {A = ℕ} 0 1 = cc in absurd (omega arith)
     go false q = cc
 
-module _ (N : Numberings) (P : Profile) (ws ns : List ℕ) (point : ℕ) {best : Best} (b : best ≡ best_of_choice (chosen N P (held_of P ws) (ssns_of P ns) point))
-    (s : best.some ≡ true) where
-  found-one : (k : ℕ) × (is : List ℕ) × (chosen N P (held_of P ws) (ssns_of P ns) point ≡ one k is)
-  found-one = go (chosen N P (held_of P ws) (ssns_of P ns) point) refl
-    where
-      go : (c : Choice) → chosen N P (held_of P ws) (ssns_of P ns) point ≡ c → (k : ℕ) × (is : List ℕ) × (chosen N P (held_of P ws) (ssns_of P ns) point ≡ one k is)
-      go none e = clash (sym (ap (λ (x : Best). x.some) (b ∙ ap best_of_choice e)) ∙ s)
-      go (one k is) e = (k, is, e)
-
+module _ (N : Numberings) (P : Profile) (ws ns : List ℕ) (point : ℕ) {found : Option Best} (b : found ≡ best_of_choice (chosen N P (held_of P ws) (ssns_of P ns) point))
+    {best : Best} (s : found ≡ Some best) where
   -- the place of the choice is one
   pub place-there : best.place < P.places
   place-there = omega (arith, held-long P ws, place-within N P (held_of P ws) (ssns_of P ns) point b s)
@@ -132,10 +107,10 @@ module _ (N : Numberings) (P : Profile) (ws ns : List ℕ) (point : ℕ) {best :
   pub given-at : {at : List ℕ} {n : ℕ} (h : Held) → h ≡ get_or (held_of P ws) best.place no_held
       → Noted at n (follow N.tsn (held_of P ws) h P.places best.place h) → ChoiceGiven N P (held_of P ws) (ssns_of P ns) point best.place (take n at)
   given-at {at} {n} h e g =
-      let f = found-one in
+      let f = found-one N P (held_of P ws) (ssns_of P ns) point b s in
       let w = rw f.2 at (chosen-run N P (held_of P ws) (ssns_of P ns) point) in
       let v = subst (Heads w.0) w.2 (follow-heads N.tsn (held_of P ws) (get_or (held_of P ws) w.0 no_held) P.places w.0 (get_or (held_of P ws) w.0 no_held)) in
-      let q : best.place ≡ w.0 = ap (λ (x : Best). x.place) (b ∙ ap best_of_choice f.2) ∙ ap first_place v.1 in
+      let q : best.place ≡ w.0 = leads_at N P (held_of P ws) (ssns_of P ns) point b s f.2 ∙ ap first_place v.1 in
       let r : run_at at n ≡ whole f.1 = g.run ∙ (ap (λ (x : Held). follow N.tsn (held_of P ws) x P.places best.place x) e ∙ (ap (λ (i : ℕ). follow N.tsn (held_of P ws) (get_or (held_of P ws) i no_held) P.places i (get_or (held_of P ws) i no_held)) q ∙ w.2)) in
       let z : take n at ≡ f.1 = run_is at n f.1 r in
       record { rank = f.0; choice = f.2 ∙ ap (one f.0) (sym z); others = v.0; leads = z ∙ (v.1 ∙ ap (λ (i : ℕ). i ∷ v.0) (sym q)) }

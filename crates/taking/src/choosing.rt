@@ -2,13 +2,13 @@
 ghost use Rattle.std.specs.Prelude.{◌≡◌, ◌^◌, ◌<◌, ◌≤◌, get_or, length, false, ltb};
 ghost use Rattle.numbers.specs.Numbering.{ring, circles};
 ghost use Rattle.numbers.specs.Profile.{rail};
-ghost use Rattle.scans.specs.Scan.{count, pick};
+ghost use Rattle.scans.specs.Scan.{count, find_from, pick};
 ghost use Rattle.holding.specs.Held.{no_held, is_held_free};
 ghost use Rattle.holding.specs.Message.{continues, follow, is_expected, opens, chosen, is_one};
 ghost use Rattle.holding.specs.MessageLaws.{best_of_choice, is_better, tried_run};
 ghost use Rattle.tables.specs.HeldWords.{held_of};
 ghost use Rattle.tables.specs.Ssns.{ssns_of};
-ghost use Rattle.taking.specs.TakeWords.{free_for};
+ghost use Rattle.taking.specs.TakeWords.{free_for, next_used};
 ghost use Rattle.taking.specs.TakeWordsLaws.{Noted};
 
 use holding::message::Best;
@@ -16,68 +16,64 @@ use holding::{Held, message};
 use numbers::{Rail, Tsn};
 use tables::{held, ssns};
 
-// Whether the two places from i on are free.
-fn are_two_free(words: &[u32; held::WORDS], i: usize) -> bool
-    requires { i < 128 }
-    ensures { result ≡ free_for (held_of rail words.now) i 2 }
-{
-    if held::is_used(words, i) {
-        return false;
-    }
-    !held::is_used(words, i + 1)
-}
-
-// Whether the four places from i on are free.
-fn are_four_free(words: &[u32; held::WORDS], i: usize) -> bool
-    requires { i < 126 }
-    ensures { result ≡ free_for (held_of rail words.now) i 4 }
-{
-    if are_two_free(words, i) {
-        return are_two_free(words, i + 2);
-    }
-    false
-}
-
 // Whether eight places from i on are there, and are free. Who looks at every place asks this first: most are free, and eight words are read.
-pub fn are_free(words: &[u32; held::WORDS], i: usize) -> bool
+fn are_free(words: &[u32; held::WORDS], i: usize) -> bool
     ensures { result ≡ pick (ltb 120 i) false (free_for (held_of rail words.now) i 8) }
 {
     if 120 < i {
         return false;
     }
-    if are_four_free(words, i) {
-        return are_four_free(words, i + 4);
+    for place in i..i + 8 {
+        if held::is_used(words, place) {
+            return false;
+        }
     }
-    false
+    true
+}
+
+// The first place from `from` on that is used. A `while`: eight free places are passed over at once.
+pub fn next_used(words: &[u32; held::WORDS], from: usize) -> Option<usize>
+    ensures { result ≡ next_used (held_of rail words.now) from }
+{
+    let mut i = from;
+    while i < Rail::PLACES {
+        if held::is_used(words, i) {
+            return Some(i);
+        }
+        i += if are_free(words, i) { 8 } else { 1 };
+    }
+    None
 }
 
 // How many places are free.
 pub fn free_places(words: &[u32; held::WORDS]) -> usize
     ensures { (result ≡ count is_held_free (held_of rail words.now)) × (result ≤ 128) }
 {
-    let mut n: usize = 0;
-    let mut i: usize = 0;
-    while i < Rail::PLACES {
-        if are_free(words, i) {
-            n += 8;
-            i += 8;
-        } else {
-            n += !held::is_used(words, i) as usize;
-            i += 1;
-        }
+    let mut free = 0;
+    for place in 0..Rail::PLACES {
+        free += usize::from(!held::is_used(words, place));
     }
-    n
+    free
 }
 
 // Whether the chunk in the place goes on the run of `first` at the number `t`.
+#[tactic(auto, unfolding(holding::specs::Message::continues))]
 fn goes_on_at(words: &[u32; held::WORDS], place: usize, first: Held, t: Tsn) -> bool
     ensures { result ≡ continues first t.0 (get_or (held_of rail words.now) place no_held) }
 {
-    if held::is_of(words, place, t) {
-        let h = held::held_at(words, place);
-        return message::goes_on(first, t, h);
+    held::is_of(words, place, t) && message::goes_on(first, t, held::held_at(words, place))
+}
+
+// The first place whose chunk goes on the run of `first` at the number `t`.
+fn place_on(words: &[u32; held::WORDS], first: Held, t: Tsn) -> Option<usize>
+    ensures { result ≡ find_from (continues first t.0) 0 (held_of rail words.now) }
+{
+    for place in 0..Rail::PLACES {
+        if goes_on_at(words, place, first, t) {
+            return Some(place);
+        }
     }
-    false
+    None
 }
 
 // The places of the run of `first`, which is at the place, go to the lent list, and their number is told; 0 if the run is no whole message.
@@ -90,28 +86,19 @@ pub(crate) fn gather(
     requires { (place < 128) × (length at.old ≡ 128) }
     ensures { Noted at.new result (follow (ring (2 ^ 32)) (held_of rail words.now) first 128 place first) }
 {
-    let mut i = place;
-    let mut cur = first;
-    let mut n: usize = 0;
-    'run: while n < Rail::PLACES {
-        at[n] = i as u8;
-        if cur.end {
+    let mut here = place;
+    let mut chunk = first;
+    for n in 0..Rail::PLACES {
+        at[n] = here as u8;
+        if chunk.end {
             return n + 1;
         }
-        let tsn = cur.tsn;
-        let t = tsn.after(1);
-        let mut j: usize = 0;
-        while j < Rail::PLACES {
-            if goes_on_at(words, j, first, t) {
-                let h = held::held_at(words, j);
-                i = j;
-                cur = h;
-                n += 1;
-                continue 'run;
-            }
-            j += 1;
-        }
-        return 0;
+        let t = chunk.tsn.after(1);
+        let Some(next) = place_on(words, first, t) else {
+            return 0;
+        };
+        here = next;
+        chunk = held::held_at(words, next);
     }
     0
 }
@@ -120,71 +107,65 @@ pub(crate) fn gather(
 fn is_expected(next: &[u16; Rail::STREAMS], h: Held) -> bool
     ensures { result ≡ is_expected (ring (2 ^ 16)) rail (ssns_of rail next.now) h }
 {
-    if h.unordered {
-        return true;
-    }
-    let s = h.stream.0 as usize;
-    if s < Rail::STREAMS {
-        let n = ssns::ssn_at(next, s);
-        return h.ssn.0 == n.0;
-    }
-    false
+    let stream = usize::from(h.stream.0);
+    h.unordered || stream < Rail::STREAMS && h.ssn.0 == ssns::ssn_at(next, stream).0
 }
 
 // Whether the message of the chunk in the place is unordered, or the next expected of its stream: of most places that are used this is all that is read.
 fn is_next_at(words: &[u32; held::WORDS], next: &[u16; Rail::STREAMS], place: usize) -> bool
     ensures { result ≡ is_expected (ring (2 ^ 16)) rail (ssns_of rail next.now) (get_or (held_of rail words.now) place no_held) }
 {
-    let h = held::held_at(words, place);
-    is_expected(next, h)
+    is_expected(next, held::held_at(words, place))
 }
 
 // Whether a message that can be taken may begin with the chunk.
+#[tactic(auto, unfolding(holding::specs::Message::opens))]
 fn is_open(next: &[u16; Rail::STREAMS], h: Held) -> bool
     ensures { result ≡ opens (ring (2 ^ 16)) rail (ssns_of rail next.now) h }
 {
-    if is_expected(next, h) {
-        return message::is_left_end(h);
-    }
-    false
+    is_expected(next, h) && message::is_left_end(h)
 }
 
 // Whether a message that can be taken may begin with the chunk, and would be better than the best so far.
-fn is_better(next: &[u16; Rail::STREAMS], point: Tsn, best: Best, h: Held) -> bool
+#[tactic(auto, unfolding(holding::specs::MessageLaws::is_better))]
+fn is_better(next: &[u16; Rail::STREAMS], point: Tsn, best: Option<Best>, h: Held) -> bool
     ensures { result ≡ is_better circles rail (ssns_of rail next.now) point.0 best h }
 {
-    if is_open(next, h) {
-        if best.some {
-            let tsn = h.tsn;
-            return point.key(tsn) < best.key;
-        }
-        return true;
+    if !is_open(next, h) {
+        return false;
     }
-    false
+    match best {
+        Some(best) => point.key(h.tsn) < best.key,
+        None => true,
+    }
 }
 
-// The message that begins at the place, if it is whole; else the best so far.
-fn try_at(
+// The best so far, or the message that begins at the place, if that is better and is whole.
+fn better_at(
     words: &[u32; held::WORDS],
+    next: &[u16; Rail::STREAMS],
     point: Tsn,
-    best: Best,
+    best: Option<Best>,
     place: usize,
-    h: Held,
     at: &mut [u8; Rail::PLACES],
-) -> Best
+) -> Option<Best>
     requires { (place < 128) × (length at.old ≡ 128) }
-    ensures { (result ≡ tried_run (ring (2 ^ 32)) rail (held_of rail words.now) point.0 best place h) × (length at.new ≡ 128) }
+    ensures { (result ≡ pick (is_better circles rail (ssns_of rail next.now) point.0 best (get_or (held_of rail words.now) place no_held)) (tried_run (ring (2 ^ 32)) rail (held_of rail words.now) point.0 best place (get_or (held_of rail words.now) place no_held)) best) × (length at.new ≡ 128) }
 {
-    let n = gather(words, place, h, at);
-    if n < 1 {
+    if !is_next_at(words, next, place) {
         return best;
     }
-    let tsn = h.tsn;
-    Best {
-        some: true,
-        place,
-        key: point.key(tsn),
+    let h = held::held_at(words, place);
+    if !is_better(next, point, best, h) {
+        return best;
     }
+    if gather(words, place, h, at) < 1 {
+        return best;
+    }
+    Some(Best {
+        place,
+        key: point.key(h.tsn),
+    })
 }
 
 // The message that a take gives, if there is one. The list is for its places, and is left with any.
@@ -193,40 +174,21 @@ pub(crate) fn choose_by(
     next: &[u16; Rail::STREAMS],
     point: Tsn,
     at: &mut [u8; Rail::PLACES],
-) -> Best
+) -> Option<Best>
     requires { length at.old ≡ 128 }
     ensures { (result ≡ best_of_choice (chosen circles rail (held_of rail words.now) (ssns_of rail next.now) point.0)) × (length at.new ≡ 128) }
 {
-    let mut best = Best {
-        some: false,
-        place: 0,
-        key: 0,
-    };
-    let mut i: usize = 0;
-    while i < Rail::PLACES {
-        if held::is_used(words, i) {
-            if is_next_at(words, next, i) {
-                let h = held::held_at(words, i);
-                if is_better(next, point, best, h) {
-                    best = try_at(words, point, best, i, h, at);
-                    i += 1;
-                } else {
-                    i += 1;
-                }
-            } else {
-                i += 1;
-            }
-        } else if are_free(words, i) {
-            i += 8;
-        } else {
-            i += 1;
-        }
+    let mut best = None;
+    let mut from = 0;
+    while let Some(place) = next_used(words, from) {
+        best = better_at(words, next, point, best, place, at);
+        from = place + 1;
     }
     best
 }
 
 // The message that a take gives, if there is one.
-pub fn choose(words: &[u32; held::WORDS], next: &[u16; Rail::STREAMS], point: Tsn) -> Best
+pub fn choose(words: &[u32; held::WORDS], next: &[u16; Rail::STREAMS], point: Tsn) -> Option<Best>
     ensures { result ≡ best_of_choice (chosen circles rail (held_of rail words.now) (ssns_of rail next.now) point.0) }
 {
     let mut at = [0u8; Rail::PLACES];
@@ -237,6 +199,5 @@ pub fn choose(words: &[u32; held::WORDS], next: &[u16; Rail::STREAMS], point: Ts
 pub fn can_take(words: &[u32; held::WORDS], next: &[u16; Rail::STREAMS], point: Tsn) -> bool
     ensures { result ≡ is_one (chosen circles rail (held_of rail words.now) (ssns_of rail next.now) point.0) }
 {
-    let best = choose(words, next, point);
-    best.some
+    choose(words, next, point).is_some()
 }

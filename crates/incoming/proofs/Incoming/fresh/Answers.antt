@@ -5,4 +5,4 @@ use Rattle.reception.specs.ReceptionLaws.{fresh-receiving-shown}
 use Rattle.incoming.proofs.Incoming.fresh.Goals as goal
 
 pub returns : goal.returns
-returns c = (rw c.fresh-keeping.ensures, rw c.fresh-keeping.ensures (fresh-receiving-shown (ring (2 ^ 32)) rail _ 512 128))
+returns c = (rw c.fresh.ensures, rw c.fresh.ensures (fresh-receiving-shown (ring (2 ^ 32)) rail _ 512 128))

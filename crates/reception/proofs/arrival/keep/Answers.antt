@@ -1,12 +1,15 @@
-use mathlib.Core.Path.{refl, ap, ◌∙◌}
+use Prim.Native.Nat.{◌*◌, ◌≤◌}
+use mathlib.Core.Path.{sym}
+use native.Mathlib.Omega.{arith}
+use mir.Facts.{Fits-le, Fits-lit}
 use Rattle.numbers.specs.Profile.{rail}
-use Rattle.tables.specs.HeldWords.{held_of, held_put}
+use Rattle.scans.specs.Scan.{find-within}
+use Rattle.holding.specs.Held.{is_held_free}
+use Rattle.tables.specs.HeldWords.{held_of}
 use Rattle.tables.specs.HeldWordsLaws.{held-long}
-use Rattle.delivery.specs.LookLaws.{free-at, free-none}
 use Rattle.reception.proofs.arrival.keep.Goals as goal
 
-pub returns-then-free-lt-PLACES : goal.returns-then-free-lt-PLACES
-returns-then-free-lt-PLACES c = rw (free-at rail (held_of rail c.args.words.now) c.requires.1 c.if-free-lt-PLACES.true) (c.mark.ensures, c.put_held.ensures ∙ ap (held_put rail c.args.words.now c.args.free) c.of-h.ensures, c.put_all.ensures)
-
-pub returns : goal.returns
-returns c = rw (free-none rail (held_of rail c.args.words.now) c.requires.1 (held-long rail _) c.if-free-lt-PLACES.false) (c.mark-2.ensures, refl, refl)
+pub overflow_mul-place : goal.overflow_mul-place
+overflow_mul-place c =
+    let l : 512 * c.in-Some.place ≤ 65536 = omega (arith, find-within is_held_free (held_of rail c.args.words.now) 0 c.in-Some.place (sym c.in-Some.ensures), held-long rail c.args.words.now) in
+    Fits-le l (Fits-lit tt)

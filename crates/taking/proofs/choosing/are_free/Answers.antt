@@ -1,15 +1,18 @@
-use Prim.Native.Nat.{◌-◌}
-use borrow.Author.Tests.{lt-ltb, le-ltb}
-use Rattle.numbers.specs.Profile.{rail}
-use Rattle.tables.specs.HeldWords.{held_of}
-use Rattle.taking.specs.FreeLaws.{free-add}
+use Prim.Native.Nat.{◌+◌, ◌-◌}
+use mathlib.Core.Path.{◌≡◌, sym, ◌∙◌}
+use native.Mathlib.Omega.{arith}
+use borrow.Author.Tests.{le-ltb}
+use Rattle.taking.specs.FreeLaws.{free-one, free-used, free-all}
 use Rattle.taking.proofs.choosing.are_free.Goals as goal
 
-pub returns-then-i-gt120 : goal.returns-then-i-gt120
-returns-then-i-gt120 c = rw (lt-ltb _ _ c.if-i-gt120.true)
+pub loop-place-init : goal.loop-place-init
+loop-place-init c = let z : c.args.i + 8 - c.args.i ≡ 8 = omega arith in rw z
 
-pub returns-then-are_four_free : goal.returns-then-are_four_free
-returns-then-are_four_free c = rw (le-ltb _ _ c.if-i-gt120.false, free-add (held_of rail c.args.words.now) 4 c.args.i 4, ← c.are_four_free.ensures, c.if-are_four_free.true) c.are_four_free-then-are_four_free.ensures
+pub returns-then-is_used : goal.returns-then-is_used
+returns-then-is_used c = rw (le-ltb _ _ c.if-i-gt120.false) (free-used _ c.args.i 8 c.loop-place.place c.loop-place.auto.place c.loop-place-test.true c.loop-place.invariant (sym c.is_used.ensures ∙ c.if-is_used.true))
+
+pub loop-place-preserved : goal.loop-place-preserved
+loop-place-preserved c = free-one _ c.args.i 8 c.loop-place.place c.loop-place.auto.place c.loop-place-test.true c.loop-place.invariant (sym c.is_used.ensures ∙ c.if-is_used.false)
 
 pub returns : goal.returns
-returns c = rw (le-ltb _ _ c.if-i-gt120.false, free-add (held_of rail c.args.words.now) 4 c.args.i 4, ← c.are_four_free.ensures, c.if-are_four_free.false)
+returns c = rw (le-ltb _ _ c.if-i-gt120.false) (free-all _ c.args.i 8 c.loop-place.place c.loop-place-test.false c.loop-place.invariant)

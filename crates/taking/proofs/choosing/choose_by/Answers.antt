@@ -1,34 +1,39 @@
-use Prim.Native.Nat.{◌-◌}
-use mathlib.Core.Path.{sym, ap, ◌∙◌}
+use Prim.Native.Nat.{ℕ, ◌+◌, ◌<◌, ◌≤◌}
+use mathlib.Core.Path.{sym}
 use native.Mathlib.Omega.{arith}
+use mir.Facts.{Fits-le, Fits-lit}
+use Rattle.numbers.specs.Numbering.{circles}
 use Rattle.numbers.specs.Profile.{rail}
-use Rattle.holding.specs.MessageLaws.{is_better, tried_run, choose-start, choose-better, choose-worse, choose-end}
-use Rattle.holding.specs.HoldingTableLaws.{free-not-better}
+use Rattle.holding.specs.MessageLaws.{Choosing, choose-start, choose-end}
 use Rattle.tables.specs.HeldWords.{held_of}
 use Rattle.tables.specs.HeldWordsLaws.{held-long}
-use Rattle.taking.specs.FreeLaws.{free-eight, choose-free, late-not-better}
+use Rattle.tables.specs.Ssns.{ssns_of}
+use Rattle.taking.specs.FreeLaws.{used-at, to_used, to_end, choose-free, choose-tried}
 use Rattle.taking.proofs.choosing.choose_by.Goals as goal
 
-pub loop-i-init : goal.loop-i-init
-loop-i-init c = (choose-start _ _ _ _ _ _ (held-long rail _), c.requires)
+pub loop-place-init : goal.loop-place-init
+loop-place-init c = (choose-start _ _ _ _ _ _ (held-long rail _), c.requires, omega arith)
 
-pub try_at-best-requires : goal.try_at-best-requires
-try_at-best-requires c = (c.loop-i-test.true, c.loop-i.invariant.1)
+pub better_at-best-requires : goal.better_at-best-requires
+better_at-best-requires c = let u = used-at (held_of rail c.args.words.now) c.loop-place.from c.in-Some.place (sym c.in-Some.ensures) in (omega (arith, u.1, held-long rail c.args.words.now), c.loop-place.invariant.1)
 
-pub loop-i-preserved-then-is_better : goal.loop-i-preserved-then-is_better
-loop-i-preserved-then-is_better c = (choose-better _ _ _ _ _ c.loop-i.invariant.0 _ c.loop-i-test.true (sym (c.is_better.ensures ∙ ap (is_better _ _ _ _ _) c.held_at-h.ensures) ∙ c.if-is_better.true) (c.try_at-best.ensures.0 ∙ ap (tried_run _ _ _ _ _ _) c.held_at-h.ensures), c.try_at-best.ensures.1)
+pub overflow_add-from : goal.overflow_add-from
+overflow_add-from c =
+    let u = used-at (held_of rail c.args.words.now) c.loop-place.from c.in-Some.place (sym c.in-Some.ensures) in
+    let l : c.in-Some.place + 1 ≤ 128 = omega (arith, u.1, held-long rail c.args.words.now) in
+    Fits-le l (Fits-lit tt)
 
-pub loop-i-preserved-else-is_better : goal.loop-i-preserved-else-is_better
-loop-i-preserved-else-is_better c = (choose-worse _ _ _ _ _ c.loop-i.invariant.0 c.loop-i-test.true (sym (c.is_better.ensures ∙ ap (is_better _ _ _ _ _) c.held_at-h.ensures) ∙ c.if-is_better.false), c.loop-i.invariant.1)
+pub loop-place-smaller : goal.loop-place-smaller
+loop-place-smaller c = let u = used-at (held_of rail c.args.words.now) c.loop-place.from c.in-Some.place (sym c.in-Some.ensures) in omega (arith, u.0, u.1, held-long rail c.args.words.now)
 
-pub loop-i-preserved-else-is_next_at : goal.loop-i-preserved-else-is_next_at
-loop-i-preserved-else-is_next_at c = (choose-worse _ _ _ _ _ c.loop-i.invariant.0 c.loop-i-test.true (late-not-better _ _ _ _ _ _ (sym c.is_next_at.ensures ∙ c.if-is_next_at.false)), c.loop-i.invariant.1)
-
-pub loop-i-preserved-then-are_free : goal.loop-i-preserved-then-are_free
-loop-i-preserved-then-are_free c = let e = free-eight (held_of rail c.args.words.now) c.loop-i.i c.are_free.ensures c.if-are_free.true in (choose-free _ _ _ _ _ c.loop-i.invariant.0 (omega (arith, e.0)) e.1, c.loop-i.invariant.1)
-
-pub loop-i-preserved : goal.loop-i-preserved
-loop-i-preserved c = (choose-worse _ _ _ _ _ c.loop-i.invariant.0 c.loop-i-test.true (free-not-better _ _ _ _ _ _ (sym c.is_used.ensures ∙ c.if-is_used.false)), c.loop-i.invariant.1)
+pub loop-place-preserved : goal.loop-place-preserved
+loop-place-preserved c =
+    let u = used-at (held_of rail c.args.words.now) c.loop-place.from c.in-Some.place (sym c.in-Some.ensures) in
+    let l : c.in-Some.place < 128 = omega (arith, u.1, held-long rail c.args.words.now) in
+    let w = to_used (λ (k : ℕ). Choosing circles rail (held_of rail c.args.words.now) (ssns_of rail c.args.next.now) c.args.point.0 128 k c.loop-place.best) (held_of rail c.args.words.now) c.loop-place.from c.in-Some.place (sym c.in-Some.ensures) (λ k b f v. choose-free circles rail _ _ _ v (omega (arith, b, held-long rail c.args.words.now)) f) c.loop-place.invariant.0 in
+    (choose-tried circles rail _ _ _ w l c.better_at-best.ensures.0, c.better_at-best.ensures.1, omega arith)
 
 pub returns : goal.returns
-returns c = (choose-end _ _ _ _ _ c.loop-i.invariant.0 c.loop-i-test.false, c.loop-i.invariant.1)
+returns c =
+    let w = to_end (λ (k : ℕ). Choosing circles rail (held_of rail c.args.words.now) (ssns_of rail c.args.next.now) c.args.point.0 128 k c.loop-place.best) (held_of rail c.args.words.now) c.loop-place.from (omega (arith, c.loop-place.invariant.2, held-long rail c.args.words.now)) (sym c.in_default.ensures) (λ k b f v. choose-free circles rail _ _ _ v (omega (arith, b, held-long rail c.args.words.now)) f) c.loop-place.invariant.0 in
+    (choose-end _ _ _ _ _ w (omega (arith, held-long rail c.args.words.now)), c.loop-place.invariant.1)

@@ -1,4 +1,4 @@
-use Prim.Native.Nat.{◌-◌}
+use Prim.Native.Nat.{◌-◌, ◌≤◌}
 use mathlib.Core.Path.{◌≡◌}
 use lib.ListN.{length}
 use Rattle.numbers.specs.Numbering.{circles}
@@ -8,8 +8,8 @@ use Rattle.tables.specs.HeldWords.{held_of}
 use Rattle.tables.specs.Ssns.{ssns_of}
 use Rattle.taking.proofs.choosing.choose_by.Given as goal
 
-abbrev pub invariant-loop-i : goal.invariant-loop-i
-invariant-loop-i l = Choosing circles rail (held_of rail l.words) (ssns_of rail l.next) l.point.0 128 l.i l.best × (length l.at ≡ 128)
+abbrev pub invariant-loop-place : goal.invariant-loop-place
+invariant-loop-place l = Choosing circles rail (held_of rail l.words) (ssns_of rail l.next) l.point.0 128 l.from l.best × (length l.at ≡ 128) × (l.from ≤ 128)
 
-abbrev pub decreases-loop-i : goal.decreases-loop-i
-decreases-loop-i l = 128 - l.i
+abbrev pub decreases-loop-place : goal.decreases-loop-place
+decreases-loop-place l = 128 - l.from

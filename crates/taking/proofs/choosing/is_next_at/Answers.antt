@@ -7,4 +7,4 @@ use Rattle.tables.specs.Ssns.{ssns_of}
 use Rattle.taking.proofs.choosing.is_next_at.Goals as goal
 
 pub returns : goal.returns
-returns c = c.is_expected.ensures ∙ ap (is_expected (ring (2 ^ 16)) rail (ssns_of rail c.args.next.now)) c.held_at-h.ensures
+returns c = c.is_expected.ensures ∙ ap (is_expected (ring (2 ^ 16)) rail (ssns_of rail c.args.next.now)) c.held_at.ensures

@@ -1,4 +1,3 @@
-use Prim.Native.Nat.{◌-◌}
 use Rattle.taking.proofs.giving.copy_payload.Goals as goal
 
 pub returns : goal.returns
