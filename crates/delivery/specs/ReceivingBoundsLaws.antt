@@ -1,6 +1,6 @@
 -- Laws of the bounds' test: what its loops keep, and that it says what the bounds say. Assumes nothing.
 use Prim.Native.Nat.{ℕ, zero, suc, ◌+◌, ◌<◌, ◌≤◌, zero-le}
-use Rattle.std.specs.Prelude.{◌≡◌, Bool, not, List, [], ◌∷◌, take, drop, get_or, eqb}
+use Rattle.std.specs.Prelude.{◌≡◌, Bool, not, List, [], ◌∷◌, take, drop, get_or, eqb, Option, Some, None}
 use Rattle.std.proofs.Math.Path.{refl, ap}
 use Rattle.std.proofs.Common.{sym, ◌∙◌, subst, add-one, arith, take-append-drop, take-suc, take_all}
 use Rattle.std.proofs.Math.Bool.{true, false}
@@ -24,42 +24,44 @@ use Rattle.delivery.specs.ReceivingBounds.{is_used, number_in, held_numbers, Hel
 
 -- ---- one pass over the held chunks
 
--- how many are low, and more than may be where one is unfit or a number is held twice
-abbrev pub low_weight : Numbering → Profile → Keeping → List Held → ℕ
-low_weight T P k hs = pick (any (is_unfit P) hs) (P.places + 1) (pick (is_twice hs) (P.places + 1) (count (is_low T k) hs))
+-- how many are low, where none is unfit and no number is held twice
+abbrev pub low_weight : Numbering → Profile → Keeping → List Held → Option ℕ
+low_weight T P k hs = pick (any (is_unfit P) hs) None (pick (is_twice hs) None (Some (count (is_low T k) hs)))
+
+-- there is room for so many beside the highest offset come
+abbrev pub weight_fits : ℕ → ℕ → Option ℕ → Bool
+weight_fits places above None = false
+weight_fits places above (Some low) = pick (ltb places (above + low)) false true
 
 module _ (T : Numbering) (P : Profile) (k : Keeping) (hs : List Held) where
-  pub weight-unfit : true ≡ any (is_unfit P) hs → P.places + 1 ≡ low_weight T P k hs
+  pub weight-unfit : true ≡ any (is_unfit P) hs → None ≡ low_weight T P k hs
   weight-unfit e = rw (← e)
 
-  pub weight-twice : true ≡ is_twice hs → P.places + 1 ≡ low_weight T P k hs
+  pub weight-twice : true ≡ is_twice hs → None ≡ low_weight T P k hs
   weight-twice e = go (any (is_unfit P) hs)
     where
-      go : (t : Bool) → P.places + 1 ≡ pick t (P.places + 1) (pick (is_twice hs) (P.places + 1) (count (is_low T k) hs))
+      go : (t : Bool) → None ≡ pick t None (pick (is_twice hs) None (Some (count (is_low T k) hs)))
       go true = refl
       go false = rw (← e)
 
-  pub weight-fit : false ≡ any (is_unfit P) hs → false ≡ is_twice hs → {n : ℕ} → n ≡ count (is_low T k) hs → n ≡ low_weight T P k hs
-  weight-fit e f g = rw (← e, ← f) g
+  pub weight-fit : false ≡ any (is_unfit P) hs → false ≡ is_twice hs → {n : ℕ} → n ≡ count (is_low T k) hs → Some n ≡ low_weight T P k hs
+  weight-fit e f g = rw (← e, ← f, g)
 
--- a record that weighs too much is outside its bounds
+-- the bounds by that weight
 pub sound-weighed : (T : Numbering) (P : Profile) (r : Receiving)
-    → is_receiving_sound T P r ≡ pick (not (keeping_sound P r.keeping)) false (pick (ltb P.places (highest_of r.keeping + low_weight T P r.keeping r.held)) false true)
+    → is_receiving_sound T P r ≡ pick (not (keeping_sound P r.keeping)) false (weight_fits P.places (highest_of r.keeping) (low_weight T P r.keeping r.held))
 unfolding is_receiving_sound low_of
 sound-weighed T P r = ap (pick (not (keeping_sound P r.keeping)) false) (go (any (is_unfit P) r.held) (is_twice r.held))
   where
-    over : (x : ℕ) → ltb P.places (x + (P.places + 1)) ≡ true
-    over x = lt-ltb P.places (x + (P.places + 1)) (omega arith)
-
     never : (t : Bool) → pick t false false ≡ false
     never true = refl
     never false = refl
 
     go : (a b : Bool)
         → pick a false (pick (ltb P.places (highest_of r.keeping + count (is_low T r.keeping) r.held)) false (not b))
-        ≡ pick (ltb P.places (highest_of r.keeping + pick a (P.places + 1) (pick b (P.places + 1) (count (is_low T r.keeping) r.held)))) false true
-    go true b = rw (over (highest_of r.keeping))
-    go false true = rw (over (highest_of r.keeping)) (never (ltb P.places (highest_of r.keeping + count (is_low T r.keeping) r.held)))
+        ≡ weight_fits P.places (highest_of r.keeping) (pick a None (pick b None (Some (count (is_low T r.keeping) r.held))))
+    go true b = refl
+    go false true = never (ltb P.places (highest_of r.keeping + count (is_low T r.keeping) r.held))
     go false false = refl
 
 -- ---- the test says what the bounds say

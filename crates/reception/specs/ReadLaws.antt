@@ -123,7 +123,7 @@ module _ (T : Numbering) (P : Profile) (k : Keeping) (hs : List Held) where
           (check-free v.0 y u, seek-no v.1 no_held y (unfit-free P (get_or hs x no_held) u), count_no v.2 no_held y (low_free T k (get_or hs x no_held) u))
 
   -- and where there is none
-  pub weigh-end : (m : ℕ) (seen : List Bool) (low from : ℕ) → length hs ≡ m → from ≤ m → next_used hs from ≡ None → Weighing T P k hs m seen low from → (low ≡ low_weight T P k hs) × (low ≤ m)
+  pub weigh-end : (m : ℕ) (seen : List Bool) (low from : ℕ) → length hs ≡ m → from ≤ m → next_used hs from ≡ None → Weighing T P k hs m seen low from → (Some low ≡ low_weight T P k hs) × (low ≤ m)
   weigh-end m seen low from q l e w =
       let v = to_end (λ (x : ℕ). Weighing T P k hs m seen low x) hs from (omega (arith, q)) e (free q) w in
       let y : m ≤ length hs = omega (arith, q) in

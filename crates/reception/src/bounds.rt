@@ -1,5 +1,5 @@
 // The bounds of a receiving side whose held chunks are lent as words: "record outside its bounds" is answered 1 by who asks this test.
-ghost use Rattle.std.specs.Prelude.{◌≡◌, false, [], ◌+◌, ◌^◌, ◌%◌, ◌<◌, ◌≤◌, take, get_or, ltb};
+ghost use Rattle.std.specs.Prelude.{◌≡◌, false, [], ◌+◌, ◌^◌, ◌%◌, ◌<◌, ◌≤◌, take, get_or, ltb, IfSome};
 ghost use Rattle.numbers.specs.Numbering.{ring, ahead_on};
 ghost use Rattle.numbers.specs.Profile.{rail};
 ghost use Rattle.numbers.specs.Come.{highest};
@@ -12,7 +12,7 @@ ghost use Rattle.tables.specs.HeldWords.{held_of};
 ghost use Rattle.reception.specs.Reception.{receiving_shown};
 ghost use Rattle.reception.specs.ReadLaws.{itself};
 
-use delivery::{bounds, receiving};
+use delivery::receiving;
 use numbers::{Keeping, Rail, Tsn};
 use tables::held;
 use taking::choosing;
@@ -56,13 +56,13 @@ fn is_low_at(point: Tsn, come: &[bool; Rail::PLACES], some: bool, tsn: Tsn) -> b
     !some || receiving::is_low(come, numbers::keeping::ahead_of(point, tsn))
 }
 
-// How many held chunks are low; more than may be where one is unfit or a number is held twice. Only where a slot is noted is a number compared with
+// How many held chunks are low, if none is unfit and no number is held twice. Only where a slot is noted is a number compared with
 // all before it. Where nothing is held nothing is noted.
-fn weight(keeping: Keeping, words: &[u32; held::WORDS]) -> usize
-    ensures { (result ≡ low_weight (ring (2 ^ 32)) rail keeping (held_of rail words.now)) × (result ≤ 129) }
+fn weight(keeping: Keeping, words: &[u32; held::WORDS]) -> Option<usize>
+    ensures { (result ≡ low_weight (ring (2 ^ 32)) rail keeping (held_of rail words.now)) × IfSome result (λ low. low ≤ 128) }
 {
     let Some(first) = choosing::next_used(words, 0) else {
-        return 0;
+        return Some(0);
     };
     let some = has_come(&keeping.come);
     let mut low = 0;
@@ -71,17 +71,17 @@ fn weight(keeping: Keeping, words: &[u32; held::WORDS]) -> usize
     while let Some(place) = choosing::next_used(words, from) {
         let h = held::held_at(words, place);
         if Rail::is_misfit(h.len, h.stream) {
-            return bounds::TOO_MANY;
+            return None;
         }
         low += usize::from(is_low_at(keeping.point, &keeping.come, some, h.tsn));
         let d = slot(h.tsn);
         if seen[d] && is_held_before(words, place, h.tsn) {
-            return bounds::TOO_MANY;
+            return None;
         }
         seen[d] = true;
         from = place + 1;
     }
-    low
+    Some(low)
 }
 
 // Whether the highest offset come and so many low chunks are more than there are places: a flag is set that may not be.
@@ -99,6 +99,8 @@ pub fn is_sound(keeping: Keeping, words: &[u32; held::WORDS]) -> bool
     if !keeping.within_bounds() {
         return false;
     }
-    let low = weight(keeping, words);
-    low <= Rail::PLACES && (low < 1 || !is_over(&keeping.come, low))
+    let Some(low) = weight(keeping, words) else {
+        return false;
+    };
+    low < 1 || !is_over(&keeping.come, low)
 }

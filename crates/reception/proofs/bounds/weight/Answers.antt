@@ -36,7 +36,7 @@ returns-then-is_misfit c =
     let u = used-at (held_of rail c.args.words.now) c.loop-place.from c.in-Some-next_used.place (sym c.in-Some-next_used.ensures) in
     let l : c.in-Some-next_used.place < 128 = omega (arith, u.1, held-long rail c.args.words.now) in
     let w = weigh-used (ring (2 ^ 32)) rail c.args.keeping (held_of rail c.args.words.now) 128 c.loop-place.seen c.loop-place.low c.loop-place.from c.in-Some-next_used.place (held-long rail c.args.words.now) (sym c.in-Some-next_used.ensures) c.loop-place.invariant.0 in
-    (weight-unfit (ring (2 ^ 32)) rail c.args.keeping (held_of rail c.args.words.now) (seek-yes w.1 no_held l (ap (is_unfit rail) (sym c.held_at-h.ensures) ∙ (unfit-used rail _ (ap (λ (h : Held). h.used) c.held_at-h.ensures ∙ u.2) ∙ (sym c.is_misfit.ensures ∙ c.if-is_misfit.true)))), omega arith)
+    (weight-unfit (ring (2 ^ 32)) rail c.args.keeping (held_of rail c.args.words.now) (seek-yes w.1 no_held l (ap (is_unfit rail) (sym c.held_at-h.ensures) ∙ (unfit-used rail _ (ap (λ (h : Held). h.used) c.held_at-h.ensures ∙ u.2) ∙ (sym c.is_misfit.ensures ∙ c.if-is_misfit.true)))), tt)
 
 pub is_held_before-requires : goal.is_held_before-requires
 is_held_before-requires c = let u = used-at (held_of rail c.args.words.now) c.loop-place.from c.in-Some-next_used.place (sym c.in-Some-next_used.ensures) in omega (arith, u.1, held-long rail c.args.words.now)
@@ -46,7 +46,7 @@ returns-then-is_held_before c =
     let u = used-at (held_of rail c.args.words.now) c.loop-place.from c.in-Some-next_used.place (sym c.in-Some-next_used.ensures) in
     let l : c.in-Some-next_used.place < 128 = omega (arith, u.1, held-long rail c.args.words.now) in
     let w = weigh-used (ring (2 ^ 32)) rail c.args.keeping (held_of rail c.args.words.now) 128 c.loop-place.seen c.loop-place.low c.loop-place.from c.in-Some-next_used.place (held-long rail c.args.words.now) (sym c.in-Some-next_used.ensures) c.loop-place.invariant.0 in
-    (weight-twice (ring (2 ^ 32)) rail c.args.keeping (held_of rail c.args.words.now) (read_held w.0 l u.2 c.held_at-h.result c.held_at-h.ensures c.slot-d.ensures.0 c.is_held_before.ensures c.if-is_held_before.true), omega arith)
+    (weight-twice (ring (2 ^ 32)) rail c.args.keeping (held_of rail c.args.words.now) (read_held w.0 l u.2 c.held_at-h.result c.held_at-h.ensures c.slot-d.ensures.0 c.is_held_before.ensures c.if-is_held_before.true), tt)
 
 pub overflow_add-from : goal.overflow_add-from
 overflow_add-from c =
@@ -66,4 +66,4 @@ loop-place-preserved c =
     ((n, seek-no w.1 no_held l (ap (is_unfit rail) (sym c.held_at-h.ensures) ∙ (unfit-used rail _ (ap (λ (h : Held). h.used) c.held_at-h.ensures ∙ u.2) ∙ (sym c.is_misfit.ensures ∙ c.if-is_misfit.false))), rw c.from-low.ensures (count_by w.2 no_held l (low_by (ring (2 ^ 32)) rail c.args.keeping _ (search (rules, c.well_formed)) (ap (λ (h : Held). h.used) c.held_at-h.ensures ∙ u.2) (sym (offset-far (ring (2 ^ 32)) c.args.keeping _)) refl c.is_low_at.ensures ∙ ap (is_low (ring (2 ^ 32)) c.args.keeping) c.held_at-h.ensures))), omega arith)
 
 pub returns : goal.returns
-returns c = let w = weigh-end (ring (2 ^ 32)) rail c.args.keeping (held_of rail c.args.words.now) 128 c.loop-place.seen c.loop-place.low c.loop-place.from (held-long rail c.args.words.now) c.loop-place.invariant.1 (sym c.in_default-next_used.ensures) c.loop-place.invariant.0 in (w.0, omega (arith, w.1))
+returns c = let w = weigh-end (ring (2 ^ 32)) rail c.args.keeping (held_of rail c.args.words.now) 128 c.loop-place.seen c.loop-place.low c.loop-place.from (held-long rail c.args.words.now) c.loop-place.invariant.1 (sym c.in_default-next_used.ensures) c.loop-place.invariant.0 in (w.0, w.1)
