@@ -1,5 +1,5 @@
 -- A take over tables of words: the words of the places and of the next expected SSNs that it leaves.
-use Rattle.std.specs.Prelude.{ℕ, zero, suc, ◌+◌, Bool, true, false, List, [], ◌∷◌, get_or, take, drop, ltb, Option}
+use Rattle.std.specs.Prelude.{ℕ, zero, suc, ◌+◌, Bool, true, false, List, [], ◌∷◌, get_or, take, drop, ltb, Option, Some, None}
 use Rattle.numbers.specs.Circle.{ssn0}
 use Rattle.numbers.specs.Numbering.{Numbering, Numberings, on}
 use Rattle.numbers.specs.Profile.{Profile}
@@ -20,9 +20,10 @@ free_for hs i (suc n) = pick (get_or hs i no_held).used false (free_for hs (i + 
 abbrev pub next_used : List Held → ℕ → Option ℕ
 next_used hs from = find_from (λ (h : Held). h.used) from (drop from hs)
 
--- the run that the first n places of a list stand for; none: it is broken
-abbrev pub run_at : List ℕ → ℕ → Run
-run_at at n = pick (ltb n 1) broken (whole (take n at))
+-- the run that the first n places of a list stand for; without a number it is broken
+abbrev pub run_at : List ℕ → Option ℕ → Run
+run_at at None = broken
+run_at at (Some n) = whole (take n at)
 
 -- "and frees its places", one after the other
 abbrev pub words_emptied : Profile → List ℕ → List ℕ → List ℕ

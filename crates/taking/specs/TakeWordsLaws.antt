@@ -1,5 +1,5 @@
 -- The loops over the places of a message, what a take leaves of the words, and that the words then show what a take leaves of places and SSNs. Assumes nothing.
-use Rattle.std.specs.Prelude.{ℕ, ◌+◌, ◌*◌, ◌^◌, ◌<◌, ◌≤◌, ◌≡◌, Bool, List, [], ◌∷◌, ◌++◌, take, drop, get_or, set, ltb, Option, Some}
+use Rattle.std.specs.Prelude.{ℕ, ◌+◌, ◌*◌, ◌^◌, ◌<◌, ◌≤◌, ◌≡◌, Bool, List, [], ◌∷◌, ◌++◌, take, drop, get_or, set, ltb, Option, Some, None, IfSome, IsSome}
 use Rattle.std.proofs.Math.Path.{refl, ap}
 use Rattle.std.proofs.Common.{sym, ◌∙◌, subst, arith, add-one, take-suc-set}
 use Rattle.std.proofs.Math.Bool.{true, false}
@@ -30,25 +30,21 @@ use Rattle.tables.specs.HeldWordsLaws.{held-long, held-put, none-small, held-put
 use Rattle.tables.specs.Ssns.{ssns_of, ssn_put, ssn-put, ssn-put-long, ssn-small}
 use Rattle.taking.specs.TakeWords.{run_at, words_emptied, ssns_advanced, take_words, ssns_by, words_taken, ssns_taken}
 
--- the list has n places
-pub record Listed (at : List ℕ) (n : ℕ) : Type 0 where
-  pub few : n ≤ 128
+-- the first of the 128 places of a list stand for the run, if it is whole
+pub record Noted (at : List ℕ) (found : Option ℕ) (r : Run) : Type 0 where
+  pub few : IfSome found (λ (n : ℕ). n ≤ 128)
   pub long : length at ≡ 128
-
--- they stand for the run
-pub record Noted (at : List ℕ) (n : ℕ) (r : Run) : Type 0 where
-  pub listed : Listed at n
-  pub run : run_at at n ≡ r
+  pub run : run_at at found ≡ r
 
 -- ---- following a run, its places noted in a list
 
 -- the last chunk of a run is noted: the list stands for the run
 pub gather-whole : {T : Numbering} {hs : List Held} {first : Held} {m place : ℕ} {at : List ℕ} {i : ℕ} {cur : Held} {n : ℕ}
-    → RunGathering T hs first m place at i cur n → n < m → cur.end ≡ true → run_at (set at n i) (n + 1) ≡ follow T hs first m place first
+    → RunGathering T hs first m place at i cur n → n < m → cur.end ≡ true → run_at (set at n i) (Some (n + 1)) ≡ follow T hs first m place first
 unfolding follow
 gather-whole {T} {hs} {first} {m} {place} {at} {i} {cur} {n} w h t =
     let noted : take (n + 1) (set at n i) ≡ take n at ++ (i ∷ []) = rw (add-one n) (take-suc-set at n i (omega (arith, w.room))) in
-    rw (le-ltb (n + 1) 1 (omega arith), noted)
+    rw noted
     (rw t at (upto-one (λ (k : ℕ). joined_run (take n at) (follow T hs first k i cur)) m n w.rest h))
 
 -- ---- the loops over the places of a list
@@ -91,12 +87,12 @@ pub record ChoiceGiven (N : Numberings) (P : Profile) (hs : List Held) (next : L
   pub others : List ℕ
   pub leads : is ≡ place ∷ others
 
-run_is : (at : List ℕ) (n : ℕ) (is : List ℕ) → run_at at n ≡ whole is → take n at ≡ is
-run_is at n is e = go (ltb n 1) e
-  where
-    go : (t : Bool) → pick t broken (whole (take n at)) ≡ whole is → take n at ≡ is
-    go true q = let z : ◌≡◌ {A = ℕ} 0 1 = cc in absurd (omega arith)
-    go false q = cc
+run_is : (at : List ℕ) (n : ℕ) (is : List ℕ) → run_at at (Some n) ≡ whole is → take n at ≡ is
+run_is at n is e = cc
+
+run_some : (at : List ℕ) (found : Option ℕ) (is : List ℕ) → run_at at found ≡ whole is → IsSome found
+run_some at None is e = let z : ◌≡◌ {A = ℕ} 0 1 = cc in absurd (omega arith)
+run_some at (Some n) is e = refl
 
 module _ (N : Numberings) (P : Profile) (ws ns : List ℕ) (point : ℕ) {found : Option Best} (b : found ≡ best_of_choice (chosen N P (held_of P ws) (ssns_of P ns) point))
     {best : Best} (s : found ≡ Some best) where
@@ -104,16 +100,26 @@ module _ (N : Numberings) (P : Profile) (ws ns : List ℕ) (point : ℕ) {found 
   pub place-there : best.place < P.places
   place-there = omega (arith, held-long P ws, place-within N P (held_of P ws) (ssns_of P ns) point b s)
 
-  pub given-at : {at : List ℕ} {n : ℕ} (h : Held) → h ≡ get_or (held_of P ws) best.place no_held
-      → Noted at n (follow N.tsn (held_of P ws) h P.places best.place h) → ChoiceGiven N P (held_of P ws) (ssns_of P ns) point best.place (take n at)
-  given-at {at} {n} h e g =
-      let f = found-one N P (held_of P ws) (ssns_of P ns) point b s in
-      let w = rw f.2 at (chosen-run N P (held_of P ws) (ssns_of P ns) point) in
-      let v = subst (Heads w.0) w.2 (follow-heads N.tsn (held_of P ws) (get_or (held_of P ws) w.0 no_held) P.places w.0 (get_or (held_of P ws) w.0 no_held)) in
-      let q : best.place ≡ w.0 = leads_at N P (held_of P ws) (ssns_of P ns) point b s f.2 ∙ ap first_place v.1 in
-      let r : run_at at n ≡ whole f.1 = g.run ∙ (ap (λ (x : Held). follow N.tsn (held_of P ws) x P.places best.place x) e ∙ (ap (λ (i : ℕ). follow N.tsn (held_of P ws) (get_or (held_of P ws) i no_held) P.places i (get_or (held_of P ws) i no_held)) q ∙ w.2)) in
-      let z : take n at ≡ f.1 = run_is at n f.1 r in
-      record { rank = f.0; choice = f.2 ∙ ap (one f.0) (sym z); others = v.0; leads = z ∙ (v.1 ∙ ap (λ (i : ℕ). i ∷ v.0) (sym q)) }
+  module _ {at : List ℕ} {count : Option ℕ} (h : Held) (e : h ≡ get_or (held_of P ws) best.place no_held)
+      (g : Noted at count (follow N.tsn (held_of P ws) h P.places best.place h)) where
+    given-run : (is : List ℕ) × (others : List ℕ) × (k : ℕ) × (chosen N P (held_of P ws) (ssns_of P ns) point ≡ one k is) × (is ≡ best.place ∷ others) × (run_at at count ≡ whole is)
+    given-run =
+        let f = found-one N P (held_of P ws) (ssns_of P ns) point b s in
+        let w = rw f.2 at (chosen-run N P (held_of P ws) (ssns_of P ns) point) in
+        let v = subst (Heads w.0) w.2 (follow-heads N.tsn (held_of P ws) (get_or (held_of P ws) w.0 no_held) P.places w.0 (get_or (held_of P ws) w.0 no_held)) in
+        let q : best.place ≡ w.0 = leads_at N P (held_of P ws) (ssns_of P ns) point b s f.2 ∙ ap first_place v.1 in
+        let r : run_at at count ≡ whole f.1 = g.run ∙ (ap (λ (x : Held). follow N.tsn (held_of P ws) x P.places best.place x) e ∙ (ap (λ (i : ℕ). follow N.tsn (held_of P ws) (get_or (held_of P ws) i no_held) P.places i (get_or (held_of P ws) i no_held)) q ∙ w.2)) in
+        (f.1, v.0, f.0, f.2, v.1 ∙ ap (λ (i : ℕ). i ∷ v.0) (sym q), r)
+
+    -- its run is whole
+    pub given-some : IsSome count
+    given-some = run_some at count given-run.0 given-run.5
+
+    pub given-at : {n : ℕ} → count ≡ Some n → ChoiceGiven N P (held_of P ws) (ssns_of P ns) point best.place (take n at)
+    given-at {n} c =
+        let f = given-run in
+        let z : take n at ≡ f.0 = run_is at n f.0 (ap (run_at at) (sym c) ∙ f.5) in
+        record { rank = f.2; choice = f.3 ∙ ap (one f.2) (sym z); others = f.1; leads = z ∙ f.4 }
 
 -- ---- what a take leaves of the words, what it answers, and what it writes
 

@@ -76,13 +76,13 @@ fn place_on(words: &[u32; held::WORDS], first: Held, t: Tsn) -> Option<usize>
     None
 }
 
-// The places of the run of `first`, which is at the place, go to the lent list, and their number is told; 0 if the run is no whole message.
+// The places of the run of `first`, which is at the place, go to the lent list, and their number is told, if the run is a whole message.
 pub(crate) fn gather(
     words: &[u32; held::WORDS],
     place: usize,
     first: Held,
     at: &mut [u8; Rail::PLACES],
-) -> usize
+) -> Option<usize>
     requires { (place < 128) × (length at.old ≡ 128) }
     ensures { Noted at.new result (follow (ring (2 ^ 32)) (held_of rail words.now) first 128 place first) }
 {
@@ -91,16 +91,16 @@ pub(crate) fn gather(
     for n in 0..Rail::PLACES {
         at[n] = here as u8;
         if chunk.end {
-            return n + 1;
+            return Some(n + 1);
         }
         let t = chunk.tsn.after(1);
         let Some(next) = place_on(words, first, t) else {
-            return 0;
+            return None;
         };
         here = next;
         chunk = held::held_at(words, next);
     }
-    0
+    None
 }
 
 // Whether the chunk's message is unordered, or the next expected of its stream.
@@ -159,13 +159,13 @@ fn better_at(
     if !is_better(next, point, best, h) {
         return best;
     }
-    if gather(words, place, h, at) < 1 {
-        return best;
+    match gather(words, place, h, at) {
+        Some(_) => Some(Best {
+            place,
+            key: point.key(h.tsn),
+        }),
+        None => best,
     }
-    Some(Best {
-        place,
-        key: point.key(h.tsn),
-    })
 }
 
 // The message that a take gives, if there is one. The list is for its places, and is left with any.

@@ -85,7 +85,8 @@ pub fn take(
         return Answer::Nothing;
     };
     let first = held::held_at(words, best.place);
-    let count = choosing::gather(words, best.place, first, &mut at);
+    // The chosen run is whole.
+    let count = choosing::gather(words, best.place, first, &mut at).unwrap();
     let list = &at[..count];
     let length = length_of(words, list);
     if out.len() < length {

@@ -1,6 +1,5 @@
 use Prim.Native.Nat.{◌^◌}
 use mathlib.Core.Path.{sym, ◌∙◌}
-use borrow.Author.Tests.{lt-ltb, le-ltb}
 use Rattle.numbers.specs.Numbering.{ring, circles}
 use Rattle.numbers.specs.Profile.{rail}
 use Rattle.holding.specs.HoldingTableLaws.{tried-is}
@@ -13,8 +12,8 @@ use Rattle.taking.proofs.choosing.better_at.Goals as goal
 pub returns-then-not-is_next_at : goal.returns-then-not-is_next_at
 returns-then-not-is_next_at c = (rw (late-not-better circles rail _ c.args.point.0 c.args.best _ (sym c.is_next_at.ensures ∙ c.if-not-is_next_at.true)), c.requires.1)
 
-pub returns-then-gather-lt1 : goal.returns-then-gather-lt1
-returns-then-gather-lt1 c = (tried-read circles rail (held_of rail c.args.words.now) (ssns_of rail c.args.next.now) c.args.point.0 c.args.place c.args.best c.held_at-h.ensures (sym c.is_better.ensures ∙ c.if-not-is_better.false) (by-law (tried-is (ring (2 ^ 32)) rail (held_of rail c.args.words.now) c.args.point.0 c.args.best c.args.place c.held_at-h.result) (rw (← c.gather.ensures.run, lt-ltb _ _ c.if-gather-lt1.true))), c.gather.ensures.listed.long)
+pub returns-in-None : goal.returns-in-None
+returns-in-None c = (tried-read circles rail (held_of rail c.args.words.now) (ssns_of rail c.args.next.now) c.args.point.0 c.args.place c.args.best c.held_at-h.ensures (sym c.is_better.ensures ∙ c.if-not-is_better.false) (by-law (tried-is (ring (2 ^ 32)) rail (held_of rail c.args.words.now) c.args.point.0 c.args.best c.args.place c.held_at-h.result) (rw (← c.in-None.ensures.run))), c.in-None.ensures.long)
 
-pub returns : goal.returns
-returns c = (tried-read circles rail (held_of rail c.args.words.now) (ssns_of rail c.args.next.now) c.args.point.0 c.args.place c.args.best c.held_at-h.ensures (sym c.is_better.ensures ∙ c.if-not-is_better.false) (by-law (tried-is (ring (2 ^ 32)) rail (held_of rail c.args.words.now) c.args.point.0 c.args.best c.args.place c.held_at-h.result) (rw (← c.gather.ensures.run, le-ltb _ _ c.if-gather-lt1.false, c.key.ensures))), c.gather.ensures.listed.long)
+pub returns-in-Some : goal.returns-in-Some
+returns-in-Some c = (tried-read circles rail (held_of rail c.args.words.now) (ssns_of rail c.args.next.now) c.args.point.0 c.args.place c.args.best c.held_at-h.ensures (sym c.is_better.ensures ∙ c.if-not-is_better.false) (by-law (tried-is (ring (2 ^ 32)) rail (held_of rail c.args.words.now) c.args.point.0 c.args.best c.args.place c.held_at-h.result) (rw (← c.in-Some.ensures.run, c.key.ensures))), c.in-Some.ensures.long)

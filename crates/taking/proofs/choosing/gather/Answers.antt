@@ -14,13 +14,13 @@ pub loop-n-init : goal.loop-n-init
 loop-n-init c = (gather-start _ _ _ _ _ _ (held-long rail _) c.requires.1, c.requires.0)
 
 pub returns-then-chunk : goal.returns-then-chunk
-returns-then-chunk c = record { listed = record { few = omega (arith, c.loop-n-test.true); long = length-set c.loop-n.at c.loop-n.n c.loop-n.here ∙ c.loop-n.invariant.0.room }; run = gather-whole c.loop-n.invariant.0 c.loop-n-test.true c.if-chunk.true }
+returns-then-chunk c = record { few = omega (arith, c.loop-n-test.true); long = length-set c.loop-n.at c.loop-n.n c.loop-n.here ∙ c.loop-n.invariant.0.room; run = gather-whole c.loop-n.invariant.0 c.loop-n-test.true c.if-chunk.true }
 
 pub returns-in_default : goal.returns-in_default
-returns-in_default c = record { listed = record { few = omega arith; long = length-set c.loop-n.at c.loop-n.n c.loop-n.here ∙ c.loop-n.invariant.0.room }; run = run-gather-none c.loop-n.invariant.0 (ap (λ t. t.0) c.after-t.ensures) c.in_default.ensures c.loop-n-test.true c.if-chunk.false refl }
+returns-in_default c = record { few = tt; long = length-set c.loop-n.at c.loop-n.n c.loop-n.here ∙ c.loop-n.invariant.0.room; run = run-gather-none c.loop-n.invariant.0 (ap (λ t. t.0) c.after-t.ensures) c.in_default.ensures c.loop-n-test.true c.if-chunk.false refl }
 
 pub loop-n-preserved : goal.loop-n-preserved
 loop-n-preserved c = (rw c.held_at-chunk.ensures (run-gather-more c.loop-n.invariant.0 (ap (λ t. t.0) c.after-t.ensures) c.in-Some.ensures refl c.loop-n-test.true c.if-chunk.false refl), omega (arith, find-within (continues c.args.first c.after-t.result.0) (held_of rail c.args.words.now) 0 c.in-Some.next (sym c.in-Some.ensures), held-long rail c.args.words.now))
 
 pub returns : goal.returns
-returns c = record { listed = record { few = omega arith; long = c.loop-n.invariant.0.room }; run = run-gather-end c.loop-n.invariant.0 c.loop-n-test.false }
+returns c = record { few = tt; long = c.loop-n.invariant.0.room; run = run-gather-end c.loop-n.invariant.0 c.loop-n-test.false }
