@@ -11,10 +11,7 @@ use states::State;
 pub fn are_streams(n: u16) -> bool
     ensures { result ≡ are_streams n }
 {
-    if n < 1 {
-        return false;
-    }
-    (n as usize) <= Rail::STREAMS
+    (1..=Rail::STREAMS).contains(&usize::from(n))
 }
 
 // Options that we know: there is none yet.
@@ -25,74 +22,52 @@ pub fn are_options(options: u8) -> bool
 }
 
 // What two ends can agree on: streams each way, and options.
+#[tactic(auto, unfolding(crate::specs::Bounds::are_agreed))]
 pub fn are_agreed(ins: u16, outs: u16, options: u8) -> bool
     ensures { result ≡ are_agreed ins outs options }
 {
-    if are_streams(ins) {
-        if are_streams(outs) {
-            return are_options(options);
-        }
-        return false;
-    }
-    false
+    are_streams(ins) && are_streams(outs) && are_options(options)
 }
 
 // Whether one of two ports is 0.
 pub fn lacks_port(local: u16, peer: u16) -> bool
     ensures { result ≡ lacks_port local peer }
 {
-    if local == 0 {
-        return true;
-    }
-    peer == 0
+    local == 0 || peer == 0
 }
 
 // Whether a tag that is known is 0.
 fn lacks_tag(known: bool, tag: u32) -> bool
     ensures { result ≡ lacks_tag known tag }
 {
-    if known {
-        return tag == 0;
-    }
-    false
+    known && tag == 0
 }
 
 // Both ports, our tag, the peer's where it is `known`, and what was agreed.
+#[tactic(auto, unfolding(crate::specs::Bounds::are_ends))]
 fn are_ends(e: Ends, known: bool) -> bool
     ensures { result ≡ are_ends e known }
 {
-    if lacks_port(e.local_port, e.peer_port) {
-        return false;
-    }
-    if e.my_tag == 0 {
-        return false;
-    }
-    if lacks_tag(known, e.peer_tag) {
-        return false;
-    }
-    are_agreed(e.streams_in, e.streams_out, e.options)
+    !lacks_port(e.local_port, e.peer_port)
+        && e.my_tag != 0
+        && !lacks_tag(known, e.peer_tag)
+        && are_agreed(e.streams_in, e.streams_out, e.options)
 }
 
 // No more streams than the profile has: in CLOSED none need be agreed. No option that we do not know.
+#[tactic(auto, unfolding(crate::specs::Bounds::are_few))]
 fn are_few(e: Ends) -> bool
     ensures { result ≡ are_few e }
 {
-    if (e.streams_in as usize) <= Rail::STREAMS {
-        if (e.streams_out as usize) <= Rail::STREAMS {
-            return are_options(e.options);
-        }
-        return false;
-    }
-    false
+    usize::from(e.streams_in) <= Rail::STREAMS
+        && usize::from(e.streams_out) <= Rail::STREAMS
+        && are_options(e.options)
 }
 
 fn is_echo(len: u16) -> bool
     ensures { result ≡ is_cookie len }
 {
-    if len < 1 {
-        return false;
-    }
-    len <= 256
+    (1..=256).contains(&len)
 }
 
 // What a state asks of the ends, and of a cookie of so many bytes, whichever they are.
@@ -102,16 +77,7 @@ pub fn is_head(state: State, e: Ends, len: u16) -> bool
     match state {
         State::Closed => are_few(e),
         State::CookieWait(_) => are_ends(e, false),
-        State::CookieEchoed(_) => {
-            if is_echo(len) {
-                return are_ends(e, true);
-            }
-            false
-        }
-        State::Established => are_ends(e, true),
-        State::ShutdownPending => are_ends(e, true),
-        State::ShutdownSent(_) => are_ends(e, true),
-        State::ShutdownReceived => are_ends(e, true),
-        State::ShutdownAckSent(_) => are_ends(e, true),
+        State::CookieEchoed(_) => is_echo(len) && are_ends(e, true),
+        _ => are_ends(e, true),
     }
 }
