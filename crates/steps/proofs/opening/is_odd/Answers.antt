@@ -1,9 +1,0 @@
-use borrow.Author.Tests.{lt-ltb, le-ltb}
-use Rattle.steps.specs.VerdictLaws.{over-not}
-use Rattle.steps.proofs.opening.is_odd.Goals as goal
-
-pub returns-then-len-lt1 : goal.returns-then-len-lt1
-returns-then-len-lt1 c = rw (lt-ltb _ _ c.if-len-lt1.true)
-
-pub returns : goal.returns
-returns c = rw (le-ltb _ _ c.if-len-lt1.false, over-not)
