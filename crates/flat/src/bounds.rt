@@ -8,24 +8,13 @@ use association::bounds;
 use states::State;
 
 // Whether head and tables are within their bounds, whatever the next SSNs and the bytes of the cookie.
+#[tactic(auto, unfolding(association::specs::Bounds::is_sound))]
 pub fn is_sound(head: Head, held: &[u32; 512], places: &[u32; 1024]) -> bool
     ensures { (ns ms cs : List ℕ) → result ≡ is_sound (shown head held.now ns places.now ms cs) }
 {
-    let state = head.state;
-    let ends = head.ends;
-    let keeping = head.keeping;
-    let sender = head.sender;
-    if !state.within_tries() {
-        return false;
-    }
-    if 256 < head.cookie_len {
-        return false;
-    }
-    if !bounds::is_head(state, ends, head.cookie_len) {
-        return false;
-    }
-    if !reception::bounds::is_sound(keeping, held) {
-        return false;
-    }
-    sender::is_within(sender, places)
+    head.state.within_tries()
+        && head.cookie_len <= 256
+        && bounds::is_head(head.state, head.ends, head.cookie_len)
+        && reception::bounds::is_sound(head.keeping, held)
+        && sender::is_within(head.sender, places)
 }

@@ -21,13 +21,11 @@ impl Head {
     ) -> Head
         ensures { result ≡ association_head (started state ends ours advertised theirs mode) }
     {
-        let keeping = Keeping::fresh(theirs);
-        let sender = Sender::fresh(ours, advertised, mode);
         Head {
             state,
             ends,
-            keeping,
-            sender,
+            keeping: Keeping::fresh(theirs),
+            sender: Sender::fresh(ours, advertised, mode),
             cookie_len: 0,
         }
     }
@@ -60,9 +58,8 @@ impl Association {
     pub fn closed(port: u16, mode: u8) -> Association
         ensures { result ≡ head_over_zeros (association_head (closed_at port mode)) }
     {
-        let head = Head::closed(port, mode);
         Association {
-            head,
+            head: Head::closed(port, mode),
             held: [0; 512],
             next_in: [0; Rail::STREAMS],
             places: [0; 1024],

@@ -34,15 +34,6 @@ impl Head {
     pub fn moved(self, state: State) -> Head
         ensures { result ≡ association_head (with_state (bare self) state) }
     {
-        let ends = self.ends;
-        let keeping = self.keeping;
-        let sender = self.sender;
-        Head {
-            state,
-            ends,
-            keeping,
-            sender,
-            cookie_len: self.cookie_len,
-        }
+        Head { state, ..self }
     }
 }

@@ -5,4 +5,4 @@ use Rattle.delivery.specs.ReceivingTableLaws.{fresh-receiving-is}
 use Rattle.flat.proofs.head.Head.started.Goals as goal
 
 pub returns : goal.returns
-returns c = rw (c.fresh-sender.ensures, c.fresh-keeping.ensures, fresh-receiving-is (ring (2 ^ 32)) rail _)
+returns c = rw (c.fresh-2.ensures, c.fresh.ensures, fresh-receiving-is (ring (2 ^ 32)) rail _)
