@@ -1,2 +1,3 @@
 -- That each promise leaves one outcome.
 pub mod Unique
+pub mod Mapped

@@ -2,10 +2,12 @@
 ghost use Rattle.std.specs.Prelude.{◌≡◌};
 ghost use Rattle.kept.specs.Kept.{state_number, tries_of, state_of, is_state, has_junk, is_named, unpacked, packed};
 
+use crate::flags;
 use crate::parts::{KeptKeeping, KeptSender};
-use crate::{flags, parts};
 use association::Ends;
 use flat::Head;
+use numbers::Keeping;
+use sender::Sender;
 use states::State;
 
 // The state is two numbers: which it is, and its count of tries, 0 where it has none.
@@ -20,36 +22,23 @@ pub struct Kept {
     pub sender: KeptSender,
 }
 
-fn number_of(s: State) -> u8
-    ensures { result ≡ state_number s }
+// The two numbers of a state.
+fn numbers_of(s: State) -> (u8, u8)
+    ensures { result ≡ (state_number s, tries_of s) }
 {
     match s {
-        State::Closed => 0,
-        State::CookieWait(_) => 1,
-        State::CookieEchoed(_) => 2,
-        State::Established => 3,
-        State::ShutdownPending => 4,
-        State::ShutdownSent(_) => 5,
-        State::ShutdownReceived => 6,
-        State::ShutdownAckSent(_) => 7,
+        State::Closed => (0, 0),
+        State::CookieWait(n) => (1, n),
+        State::CookieEchoed(n) => (2, n),
+        State::Established => (3, 0),
+        State::ShutdownPending => (4, 0),
+        State::ShutdownSent(n) => (5, n),
+        State::ShutdownReceived => (6, 0),
+        State::ShutdownAckSent(n) => (7, n),
     }
 }
 
-fn tries_of(s: State) -> u8
-    ensures { result ≡ tries_of s }
-{
-    match s {
-        State::Closed => 0,
-        State::CookieWait(n) => n,
-        State::CookieEchoed(n) => n,
-        State::Established => 0,
-        State::ShutdownPending => 0,
-        State::ShutdownSent(n) => n,
-        State::ShutdownReceived => 0,
-        State::ShutdownAckSent(n) => n,
-    }
-}
-
+// Total, and no `Option`: `unpack` promises `unpacked` of any two numbers.
 fn state_of(number: u8, tries: u8) -> State
     ensures { result ≡ state_of number tries }
 {
@@ -66,77 +55,55 @@ fn state_of(number: u8, tries: u8) -> State
 }
 
 // Whether the two numbers are those of a state.
+#[tactic(auto, unfolding(crate::specs::Kept::is_state))]
 fn is_state(number: u8, tries: u8) -> bool
     ensures { result ≡ is_state number tries }
 {
-    let s = state_of(number, tries);
-    if number_of(s) == number {
-        return tries_of(s) == tries;
-    }
-    false
+    numbers_of(state_of(number, tries)) == (number, tries)
 }
 
 // Whether one of its flags is neither 0 nor 1.
+#[tactic(auto, unfolding(crate::specs::Kept::has_junk))]
 fn has_junk(k: Kept) -> bool
     ensures { result ≡ has_junk k }
 {
-    let sender = k.sender;
-    let path = sender.path;
-    if flags::is_junk(path.running) {
-        return true;
-    }
-    let clock = path.clock;
-    if flags::is_junk(clock.sampled) {
-        return true;
-    }
-    let keeping = k.keeping;
-    let come = keeping.come;
-    flags::has_junk(come)
+    flags::is_junk(k.sender.path.running)
+        || flags::is_junk(k.sender.path.clock.sampled)
+        || flags::has_junk(&k.keeping.come)
 }
 
 // Whether the two numbers name a state, and every flag yes or no.
+#[tactic(auto, unfolding(crate::specs::Kept::is_named))]
 pub fn is_named(k: Kept) -> bool
     ensures { result ≡ is_named k }
 {
-    if is_state(k.state, k.tries) {
-        return !has_junk(k);
-    }
-    false
+    is_state(k.state, k.tries) && !has_junk(k)
 }
 
+#[tactic(auto, unfolding(crate::specs::Kept::unpacked))]
 pub fn unpack(k: Kept) -> Head
     ensures { result ≡ unpacked k }
 {
-    let state = state_of(k.state, k.tries);
-    let ends = k.ends;
-    let p = k.keeping;
-    let keeping = parts::unpack_keeping(p);
-    let q = k.sender;
-    let sender = parts::unpack_sender(q);
     Head {
-        state,
-        ends,
-        keeping,
-        sender,
+        state: state_of(k.state, k.tries),
+        ends: k.ends,
+        keeping: Keeping::from(k.keeping),
+        sender: Sender::from(k.sender),
         cookie_len: k.cookie_len,
     }
 }
 
+#[tactic(auto, unfolding(crate::specs::Kept::packed))]
 pub fn pack(h: Head) -> Kept
     ensures { result ≡ packed h }
 {
-    let state = h.state;
-    let ends = h.ends;
-    let p = h.keeping;
-    let keeping = parts::pack_keeping(p);
-    let q = h.sender;
-    let sender = parts::pack_sender(q);
+    let (state, tries) = numbers_of(h.state);
     Kept {
-        state: number_of(state),
-        tries: tries_of(state),
+        state,
+        tries,
         cookie_len: h.cookie_len,
-        ends,
-        keeping,
-        sender,
+        ends: h.ends,
+        keeping: KeptKeeping::from(h.keeping),
+        sender: KeptSender::from(h.sender),
     }
 }

@@ -1,6 +1,5 @@
 // The parts of the head that have flags, as a host keeps them.
 ghost use Rattle.std.specs.Prelude.{◌≡◌};
-ghost use Rattle.kept.specs.Parts.{unpacked_keeping, packed_keeping, unpacked_path, packed_path, unpacked_sender, packed_sender};
 
 use crate::flags;
 use numbers::{Keeping, Rail, Tsn};
@@ -47,108 +46,124 @@ pub struct KeptSender {
     pub mode: u8,
 }
 
-pub(crate) fn unpack_keeping(k: KeptKeeping) -> Keeping
-    ensures { result ≡ unpacked_keeping k }
-{
-    let point = k.point;
-    let bytes = k.come;
-    let come = flags::flags_of(bytes);
-    let dups = k.dups;
-    Keeping {
-        point,
-        come,
-        dups,
-        listed: k.listed,
+impl From<KeptKeeping> for Keeping {
+    ghost use Rattle.kept.specs.Parts.{unpacked_keeping};
+
+    ghost from_gives = { λ kept keeping. keeping ≡ unpacked_keeping kept };
+
+    fn from(kept: KeptKeeping) -> Keeping {
+        let KeptKeeping {
+            point,
+            come,
+            dups,
+            listed,
+        } = kept;
+        let come = flags::flags_of(come);
+        Keeping {
+            point,
+            come,
+            dups,
+            listed,
+        }
     }
 }
 
-pub(crate) fn pack_keeping(k: Keeping) -> KeptKeeping
-    ensures { result ≡ packed_keeping k }
-{
-    let point = k.point;
-    let came = k.come;
-    let come = flags::bytes_of(came);
-    let dups = k.dups;
-    KeptKeeping {
-        point,
-        come,
-        dups,
-        listed: k.listed,
+impl From<Keeping> for KeptKeeping {
+    ghost use Rattle.kept.specs.Parts.{packed_keeping};
+
+    ghost from_gives = { λ keeping kept. kept ≡ packed_keeping keeping };
+
+    fn from(keeping: Keeping) -> KeptKeeping {
+        let Keeping {
+            point,
+            come,
+            dups,
+            listed,
+        } = keeping;
+        let come = flags::bytes_of(come);
+        KeptKeeping {
+            point,
+            come,
+            dups,
+            listed,
+        }
     }
 }
 
-fn unpack_path(p: KeptPath) -> Path
-    ensures { result ≡ unpacked_path p }
-{
-    let c = p.clock;
-    let clock = Clock {
-        sampled: flags::is_yes(c.sampled),
-        srtt: c.srtt,
-        rttvar: c.rttvar,
-        rto: c.rto,
-    };
-    let control = p.control;
-    let until = p.until;
-    Path {
-        control,
-        clock,
-        flight: p.flight,
-        running: flags::is_yes(p.running),
-        until,
-        tries: p.tries,
+impl From<KeptPath> for Path {
+    ghost use Rattle.kept.specs.Parts.{unpacked_path};
+
+    ghost from_gives = { λ kept path. path ≡ unpacked_path kept };
+
+    fn from(kept: KeptPath) -> Path {
+        Path {
+            control: kept.control,
+            clock: Clock {
+                sampled: flags::is_yes(kept.clock.sampled),
+                srtt: kept.clock.srtt,
+                rttvar: kept.clock.rttvar,
+                rto: kept.clock.rto,
+            },
+            flight: kept.flight,
+            running: flags::is_yes(kept.running),
+            until: kept.until,
+            tries: kept.tries,
+        }
     }
 }
 
-fn pack_path(p: Path) -> KeptPath
-    ensures { result ≡ packed_path p }
-{
-    let c = p.clock;
-    let clock = KeptClock {
-        sampled: flags::byte_of(c.sampled),
-        srtt: c.srtt,
-        rttvar: c.rttvar,
-        rto: c.rto,
-    };
-    let control = p.control;
-    let until = p.until;
-    KeptPath {
-        control,
-        clock,
-        flight: p.flight,
-        running: flags::byte_of(p.running),
-        until,
-        tries: p.tries,
+impl From<Path> for KeptPath {
+    ghost use Rattle.kept.specs.Parts.{packed_path};
+
+    ghost from_gives = { λ path kept. kept ≡ packed_path path };
+
+    fn from(path: Path) -> KeptPath {
+        KeptPath {
+            control: path.control,
+            clock: KeptClock {
+                sampled: flags::byte_of(path.clock.sampled),
+                srtt: path.clock.srtt,
+                rttvar: path.clock.rttvar,
+                rto: path.clock.rto,
+            },
+            flight: path.flight,
+            running: flags::byte_of(path.running),
+            until: path.until,
+            tries: path.tries,
+        }
     }
 }
 
-pub(crate) fn unpack_sender(s: KeptSender) -> Sender
-    ensures { result ≡ unpacked_sender s }
-{
-    let acked = s.acked;
-    let next_tsn = s.next_tsn;
-    let path = s.path;
-    Sender {
-        acked,
-        next_tsn,
-        advertised: s.advertised,
-        oldest: s.oldest,
-        path: unpack_path(path),
-        mode: s.mode,
+impl From<KeptSender> for Sender {
+    ghost use Rattle.kept.specs.Parts.{unpacked_sender};
+
+    ghost from_gives = { λ kept sender. sender ≡ unpacked_sender kept };
+
+    fn from(kept: KeptSender) -> Sender {
+        Sender {
+            acked: kept.acked,
+            next_tsn: kept.next_tsn,
+            advertised: kept.advertised,
+            oldest: kept.oldest,
+            path: Path::from(kept.path),
+            mode: kept.mode,
+        }
     }
 }
 
-pub(crate) fn pack_sender(s: Sender) -> KeptSender
-    ensures { result ≡ packed_sender s }
-{
-    let acked = s.acked;
-    let next_tsn = s.next_tsn;
-    let path = s.path;
-    KeptSender {
-        acked,
-        next_tsn,
-        advertised: s.advertised,
-        oldest: s.oldest,
-        path: pack_path(path),
-        mode: s.mode,
+impl From<Sender> for KeptSender {
+    ghost use Rattle.kept.specs.Parts.{packed_sender};
+
+    ghost from_gives = { λ sender kept. kept ≡ packed_sender sender };
+
+    fn from(sender: Sender) -> KeptSender {
+        KeptSender {
+            acked: sender.acked,
+            next_tsn: sender.next_tsn,
+            advertised: sender.advertised,
+            oldest: sender.oldest,
+            path: KeptPath::from(sender.path),
+            mode: sender.mode,
+        }
     }
 }

@@ -5,6 +5,7 @@ ghost use Rattle.kept.specs.Word.{echoed_of};
 use steps::{Echoed, Made};
 
 // 1 stale, 2 good, any other number bad.
+#[tactic(auto, unfolding(crate::specs::Word::echoed_of))]
 pub fn echoed_of(word: u8, made: Made) -> Echoed
     ensures { result ≡ echoed_of word made }
 {

@@ -1,15 +1,8 @@
 use borrow.Author.Rules.{rules}
-use Prim.Native.Nat.{◌-◌}
-use mathlib.Core.Path.{refl}
+use Rattle.std.proofs.Common.{false}
 use Rattle.kept.specs.Flags.{is_yes}
-use Rattle.kept.specs.FlagsLaws.{put-more, put-end}
+use Rattle.kept.proofs.Mapped.{mapped}
 use Rattle.kept.proofs.flags.flags_of.Goals as goal
 
-pub loop-i-init : goal.loop-i-init
-loop-i-init c = record { folding = record { long = search rules; rest = refl }; wide = refl }
-
-pub loop-i-preserved : goal.loop-i-preserved
-loop-i-preserved c = put-more c.loop-i.invariant _ _ c.loop-i-test.true c.is_yes.ensures
-
 pub returns : goal.returns
-returns c = put-end c.loop-i.invariant refl c.loop-i-test.false
+returns c = mapped is_yes _ _ _ 0 false (search rules) c.map.ensures.items.long (λ i h. (c.map.ensures.items.at i 0 false h).2.met)
