@@ -3,7 +3,7 @@ use Rattle.std.specs.Prelude.{ℕ, Bool, false, List, [], ◌++◌, ltb, length}
 use Rattle.scans.specs.Scan.{pick}
 use Rattle.octets.specs.Bytes.{be32}
 use Rattle.numbers.specs.declared.circle.StreamId.{StreamId}
-use Rattle.states.specs.declared.call.Call.TheVariants.{Acknowledge as toAcknowledge, FirstTimer, SecondTimer}
+use Rattle.states.specs.declared.call.Call.TheVariants.{Acknowledge as to_acknowledge, FirstTimer, SecondTimer}
 use Rattle.association.specs.declared.ends.Association.{Association}
 use Rattle.association.specs.Bounds.{is_sound, earlier}
 use Rattle.steps.specs.declared.lent.Lent.{Lent}
@@ -75,7 +75,7 @@ unknown_number a = pick (is_sound a) 7 1
 
 -- 19 "stream not agreed" for a stream that no chunk can name, behind 1, 18 and 7 as for every other
 unfoldable pub stray_number : Association → List ℕ → ℕ
-stray_number a out = earlier (barred a (is_short_out out) toAcknowledge) 19
+stray_number a out = earlier (barred a (is_short_out out) to_acknowledge) 19
 
 unfoldable pub telling_any : Association → ℕ → List ℕ → Plan
 telling_any a stream out = pick (ltb stream 65536) (telling_stream a (record { 0 = stream }) out) (refusing a (stray_number a out))

@@ -1,7 +1,5 @@
 // What can happen to an association: every call of the host, with what the host says beside the lent buffers.
-ghost use Rattle.std.specs.Prelude.{◌≡◌, false, true, ltb};
-ghost use Rattle.scans.specs.Scan.{pick};
-ghost use Rattle.scans.specs.Upto.{smaller};
+ghost use Rattle.std.specs.Prelude.{◌≡◌};
 ghost use Rattle.events.specs.Event.{value_at, tsn_at, stream_at, streams_at, port_at, options_at, lent_of, made_of, associate_of, hand_in_of, stale_of, event_of};
 
 use calls::Reason;
@@ -39,59 +37,28 @@ pub enum Event {
 fn value(values: &[u32], i: usize) -> u32
     ensures { result ≡ value_at values.now i }
 {
-    if i < values.len() { values[i] } else { 0 }
+    values.get(i).copied().unwrap_or(0)
 }
-
-const WIDEST: u16 = 65535;
 
 // No more than 65,535.
-fn most(x: u32) -> u16
-    ensures { result ≡ smaller x 65535 }
-{
-    if x < 65535 {
-        return x as u16;
-    }
-    WIDEST
-}
-
-// 0 for a number over 65,535.
-fn port_of(x: u32) -> u16
-    ensures { result ≡ pick (ltb x 65536) x 0 }
-{
-    if x < 65536 {
-        return x as u16;
-    }
-    0
-}
-
-const ALL: u8 = 255;
-
-// No more than 255.
-fn options_of(x: u32) -> u8
-    ensures { result ≡ smaller x 255 }
-{
-    if x < 255 {
-        return x as u8;
-    }
-    ALL
-}
-
 fn streams(values: &[u32], i: usize) -> u16
     ensures { result ≡ streams_at values.now i }
 {
-    most(value(values, i))
+    u16::try_from(value(values, i)).unwrap_or(u16::MAX)
 }
 
+// 0 for a number over 65,535.
 fn port(values: &[u32], i: usize) -> u16
     ensures { result ≡ port_at values.now i }
 {
-    port_of(value(values, i))
+    u16::try_from(value(values, i)).unwrap_or(0)
 }
 
+// No more than 255.
 fn options(values: &[u32], i: usize) -> u8
     ensures { result ≡ options_at values.now i }
 {
-    options_of(value(values, i))
+    u8::try_from(value(values, i)).unwrap_or(u8::MAX)
 }
 
 fn tsn(values: &[u32], i: usize) -> Tsn
@@ -159,6 +126,7 @@ fn stale_of(values: &[u32]) -> Event
 
 impl Event {
     // An event by its number and its values.
+    #[tactic(auto, unfolding(crate::specs::Event::event_of))]
     pub fn of(code: u8, values: &[u32]) -> Event
         ensures { result ≡ event_of code values.now }
     {
