@@ -32,21 +32,20 @@ pub fn hear_data(
 {
     let c = carrying::chunk_of(s);
     let p = chunks::data::payload(s);
-    let from = p.at;
-    let to = from + p.len;
-    reception::arrival::arrive(keeping, held, next_in, area, c, &s[from..to], streams)
+    let payload = &s[p.at..p.at + p.len];
+    reception::arrival::arrive(keeping, held, next_in, area, c, payload, streams)
 }
 
+#[tactic(auto, unfolding(steps::specs::Carrying::data_read))]
 fn data_read(mut head: Head, o: Arrived, s: &[u8]) -> Stepped
     ensures { result ≡ stepped_with 0 (data_read (bare head) s.now (arrival_with o [] [])) }
 {
-    let v = o.verdict;
-    let after = o.keeping;
-    head.keeping = after;
-    Stepped::quiet(head, carrying::tell_data(v, s))
+    head.keeping = o.keeping;
+    Stepped::quiet(head, carrying::tell_data(o.verdict, s))
 }
 
 // A DATA chunk in ESTABLISHED or SHUTDOWN-PENDING.
+#[tactic(auto, unfolding(crate::specs::TableRows::read_data_by))]
 pub fn read_data(
     head: Head,
     held: &mut [u32; 512],
@@ -58,9 +57,7 @@ pub fn read_data(
         × (held.new ≡ held_by head held.old next_in.now s.now)
         × (area.new ≡ area_by head held.old next_in.now area.old s.now) }
 {
-    let keeping = head.keeping;
-    let ends = head.ends;
-    let o = hear_data(keeping, ends.streams_in, held, next_in, area, s);
+    let o = hear_data(head.keeping, head.ends.streams_in, held, next_in, area, s);
     data_read(head, o, s)
 }
 
@@ -84,6 +81,7 @@ pub(crate) fn acknowledge_shutdown(head: Head, state: State, space: &mut [u8]) -
 }
 
 // A DATA chunk in SHUTDOWN-SENT: one that is held is answered by a SHUTDOWN, and the tries begin anew.
+#[tactic(auto, unfolding(crate::specs::TableRows::read_late_data_by))]
 pub fn read_late_data(
     mut head: Head,
     held: &mut [u32; 512],
@@ -95,42 +93,36 @@ pub fn read_late_data(
         × (held.new ≡ held_by head held.old next_in.now s.now)
         × (area.new ≡ area_by head held.old next_in.now area.old s.now) }
 {
-    let keeping = head.keeping;
-    let ends = head.ends;
-    let o = hear_data(keeping, ends.streams_in, held, next_in, area, s);
-    let v = o.verdict;
-    if carrying::is_kept(v) {
-        let after = o.keeping;
-        head.keeping = after;
+    let o = hear_data(head.keeping, head.ends.streams_in, held, next_in, area, s);
+    if carrying::is_kept(o.verdict) {
+        head.keeping = o.keeping;
         return owe_shutdown(head);
     }
     data_read(head, o, s)
 }
 
 // The sender's answer to a SACK.
+#[tactic(auto, unfolding(crate::specs::TableRows::sack_heard, crate::specs::TableRows::places_sacked))]
 pub fn hear_sack(sender: Sender, places: &mut [u32; 1024], s: &[u8]) -> Acked
     ensures { (result ≡ sack_heard sender places.old s.now) × (places.new ≡ places_sacked sender places.old s.now) }
 {
     let h = chunks::sack::read_sack(s);
-    let b = carrying::blocks_of(s);
-    let point = h.point;
-    acks::acknowledge(sender, places, point, h.window, b)
+    acks::acknowledge(sender, places, h.point, h.window, carrying::blocks_of(s))
 }
 
 fn sack_read(mut head: Head, o: Acked) -> Stepped
     ensures { result ≡ stepped_with 0 (sack_read (bare head) (answer_with o [] [])) }
 {
-    let after = o.head;
-    head.sender = after;
+    head.sender = o.head;
     Stepped::quiet(head, carrying::tell_sack(o.number))
 }
 
 // A SACK in ESTABLISHED.
+#[tactic(auto, unfolding(crate::specs::TableRows::read_sack_by))]
 pub fn read_sack(head: Head, places: &mut [u32; 1024], s: &[u8]) -> Stepped
     ensures { (result ≡ stepped_with 0 (read_sack_by head places.old s.now)) × (places.new ≡ places_sacked head.sender places.old s.now) }
 {
-    let sender = head.sender;
-    let o = hear_sack(sender, places, s);
+    let o = hear_sack(head.sender, places, s);
     sack_read(head, o)
 }
 
@@ -138,21 +130,17 @@ pub fn read_sack(head: Head, places: &mut [u32; 1024], s: &[u8]) -> Stepped
 pub(crate) fn is_last(o: Acked, places: &[u32; 1024]) -> bool
     ensures { result ≡ is_last (answer_with o places.now []) }
 {
-    if o.number == 0 {
-        return marks::is_empty(places);
-    }
-    false
+    o.number == 0 && marks::is_empty(places)
 }
 
 // A SACK in SHUTDOWN-PENDING: once nothing is left to send, SHUTDOWN goes out.
+#[tactic(auto, unfolding(crate::specs::TableRows::read_sack_pending_by))]
 pub fn read_sack_pending(mut head: Head, places: &mut [u32; 1024], s: &[u8]) -> Stepped
     ensures { (result ≡ stepped_with 0 (read_sack_pending_by head places.old s.now)) × (places.new ≡ places_sacked head.sender places.old s.now) }
 {
-    let sender = head.sender;
-    let o = hear_sack(sender, places, s);
+    let o = hear_sack(head.sender, places, s);
     if is_last(o, places) {
-        let after = o.head;
-        head.sender = after;
+        head.sender = o.head;
         return owe_shutdown(head);
     }
     sack_read(head, o)
@@ -169,11 +157,9 @@ pub fn read_sack_received(
         × (places.new ≡ places_sacked head.sender places.old s.now)
         × (space.new ≡ wrote_bytes space.old (read_sack_received_by head places.old s.now).reply) }
 {
-    let sender = head.sender;
-    let o = hear_sack(sender, places, s);
+    let o = hear_sack(head.sender, places, s);
     if is_last(o, places) {
-        let after = o.head;
-        head.sender = after;
+        head.sender = o.head;
         return acknowledge_shutdown(head, State::ShutdownAckSent(0), space);
     }
     sack_read(head, o)
@@ -184,18 +170,15 @@ pub fn echo_heartbeat(head: Head, s: &[u8], space: &mut [u8]) -> Stepped
     ensures { (result ≡ stepped_in space.old (echo_heartbeat (bare head) s.now)) × (space.new ≡ wrote_bytes space.old (echo_heartbeat (bare head) s.now).reply) }
 {
     let p = chunks::heartbeat::info(s);
-    let from = p.at;
-    let to = from + p.len;
-    let n = chunks::heartbeat::write_heartbeat_ack(space, &s[from..to]);
+    let n = chunks::heartbeat::write_heartbeat_ack(space, &s[p.at..p.at + p.len]);
     Stepped::accepted(head, Event::NoEvent, n)
 }
 
 // A HEARTBEAT ACK: the peer was heard.
+#[tactic(auto, unfolding(steps::specs::Carrying::clear_tries))]
 pub fn clear_tries(mut head: Head) -> Stepped
     ensures { result ≡ stepped_with 0 (clear_tries (bare head)) }
 {
-    let sender = head.sender;
-    let after = sender.heard();
-    head.sender = after;
+    head.sender = head.sender.heard();
     Stepped::accepted(head, Event::NoEvent, 0)
 }

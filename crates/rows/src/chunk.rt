@@ -25,20 +25,16 @@ pub fn step(
     ensures { rowed_of result held.new next_in.new places.new next_out.new kept.new area.new space.new
         ≡ rowed b cookie.now s.now head held.old next_in.old places.old next_out.old kept.old area.old space.old }
 {
-    let state = head.state;
-    let ends = head.ends;
     let met = Met {
         first: b.first,
-        options: ends.options,
+        options: head.ends.options,
     };
-    let lent = b.lent;
-    let echoed = b.echoed;
-    match states::row_for(chunks::kind::kind_of(s), met, state) {
+    match states::row_for(chunks::kind::kind_of(s), met, head.state) {
         Row::Refused => Stepped::refused(head, 7, Named::NoCall),
-        Row::AnswerInit => opening::answer_init(head, lent, cookie, s, space),
+        Row::AnswerInit => opening::answer_init(head, b.lent, cookie, s, space),
         Row::TakeInitAck => opening::take_init_ack(head, held, next_in, kept, s, space),
         Row::ReadEcho => opening::read_echo(
-            head, held, next_in, places, next_out, kept, echoed, b.source, s, space,
+            head, held, next_in, places, next_out, kept, b.echoed, b.source, s, space,
         ),
         Row::BecomeEstablished => Stepped::accepted(head.moved(State::Established), Event::Up, 0),
         Row::ReadData => carrying::read_data(head, held, next_in, area, s),

@@ -24,6 +24,7 @@ pub fn become_closed(head: Head) -> Stepped
 }
 
 // An ERROR in COOKIE-ECHOED: a stale cookie ends the waiting.
+#[tactic(auto, unfolding(steps::specs::Closing::read_error))]
 pub fn read_error(head: Head, s: &[u8]) -> Stepped
     ensures { result ≡ stepped_with 0 (read_error (bare head) s.now) }
 {
@@ -37,6 +38,7 @@ pub fn read_error(head: Head, s: &[u8]) -> Stepped
     Stepped::accepted(head, Event::NoEvent, 0)
 }
 
+#[tactic(auto, unfolding(crate::specs::TableRows::heard_point, crate::specs::TableRows::places_shut))]
 fn hear_shutdown(sender: Sender, places: &mut [u32; 1024], s: &[u8]) -> Acked
     ensures { (result ≡ heard_point sender places.old s.now) × (places.new ≡ places_shut sender places.old s.now) }
 {
@@ -54,16 +56,13 @@ pub fn read_shutdown(
         × (places.new ≡ places_shut head.sender places.old s.now)
         × (space.new ≡ wrote_bytes space.old (read_shutdown_by head places.old s.now).reply) }
 {
-    let sender = head.sender;
-    let o = hear_shutdown(sender, places, s);
+    let o = hear_shutdown(head.sender, places, s);
     if is_last(o, places) {
-        let after = o.head;
-        head.sender = after;
+        head.sender = o.head;
         return acknowledge_shutdown(head, State::ShutdownAckSent(0), space);
     }
     if o.number == 0 {
-        let after = o.head;
-        head.sender = after;
+        head.sender = o.head;
         return Stepped::accepted(head.moved(State::ShutdownReceived), Event::NoEvent, 0);
     }
     Stepped::refused(head, o.number, sack_call(o.number))
@@ -81,11 +80,9 @@ fn answer_shutdown(
         × (places.new ≡ places_shut head.sender places.old s.now)
         × (space.new ≡ wrote_bytes space.old (answer_shutdown_by head places.old state s.now).reply) }
 {
-    let sender = head.sender;
-    let o = hear_shutdown(sender, places, s);
+    let o = hear_shutdown(head.sender, places, s);
     if o.number == 0 {
-        let after = o.head;
-        head.sender = after;
+        head.sender = o.head;
         return acknowledge_shutdown(head, state, space);
     }
     Stepped::refused(head, o.number, sack_call(o.number))
@@ -111,8 +108,7 @@ pub fn repeat_shutdown_ack(
         × (places.new ≡ places_shut head.sender places.old s.now)
         × (space.new ≡ wrote_bytes space.old (answer_shutdown_by head places.old head.state s.now).reply) }
 {
-    let state = head.state;
-    answer_shutdown(head, state, places, s, space)
+    answer_shutdown(head, head.state, places, s, space)
 }
 
 // A SHUTDOWN ACK before there is an association.

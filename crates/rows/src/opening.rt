@@ -13,6 +13,7 @@ use association::Ends;
 use chunks::init::Init;
 use flat::Head;
 use numbers::{Keeping, Rail};
+use sender::Sender;
 use states::State;
 use steps::{Action, Echoed, Event, Lent, Made, Named, Reason, meeting, opening};
 
@@ -29,9 +30,7 @@ fn answer_with(head: Head, lent: Lent, cookie: &[u8], s: &[u8], space: &mut [u8]
     }
     if parameters::parameter::has_host_name(s) {
         let p = parameters::parameter::host_name(s);
-        let from = p.at;
-        let to = from + p.len;
-        let n = chunks::cause::write_abort_address(space, false, &s[from..to]);
+        let n = chunks::cause::write_abort_address(space, false, &s[p.at..p.at + p.len]);
         return Stepped::answering(head, Event::NoEvent, v.tag, n);
     }
     let k = opening::ack_of(lent, v);
@@ -43,17 +42,8 @@ fn answer_with(head: Head, lent: Lent, cookie: &[u8], s: &[u8], space: &mut [u8]
 pub fn answer_init(head: Head, lent: Lent, cookie: &[u8], s: &[u8], space: &mut [u8]) -> Stepped
     ensures { (result ≡ stepped_in space.old (answer_init (bare head) (offered (bare head) lent) cookie.now s.now)) × (space.new ≡ wrote_bytes space.old (answer_init (bare head) (offered (bare head) lent) cookie.now s.now).reply) }
 {
-    let state = head.state;
-    let ends = head.ends;
-    let sender = head.sender;
-    let next = sender.next_tsn;
-    answer_with(
-        head,
-        meeting::offer(state, ends, next, lent),
-        cookie,
-        s,
-        space,
-    )
+    let offer = meeting::offer(head.state, head.ends, head.sender.next_tsn, lent);
+    answer_with(head, offer, cookie, s, space)
 }
 
 // An INIT in SHUTDOWN-ACK-SENT: the SHUTDOWN ACK again.
@@ -81,19 +71,19 @@ fn keep(kept: &mut [u8; 256], cookie: &[u8]) -> u16
 fn echoing(head: Head, v: Init, cookie_len: u16) -> Head
     ensures { result ≡ association_head (echoing (bare head) v (cookie_shown cookie_len [])) }
 {
-    let theirs = v.tsn;
-    let keeping = Keeping::fresh(theirs);
-    let mut ends = head.ends;
-    ends.peer_tag = v.tag;
-    ends.streams_in = opening::lesser(Rail::STREAMS as u16, v.outs);
-    ends.streams_out = opening::lesser(ends.streams_out, v.ins);
-    let mut sender = head.sender;
-    sender.advertised = v.window;
     Head {
         state: State::CookieEchoed(0),
-        ends,
-        keeping,
-        sender,
+        ends: Ends {
+            peer_tag: v.tag,
+            streams_in: v.outs.min(Rail::STREAMS as u16),
+            streams_out: head.ends.streams_out.min(v.ins),
+            ..head.ends
+        },
+        keeping: Keeping::fresh(v.tsn),
+        sender: Sender {
+            advertised: v.window,
+            ..head.sender
+        },
         cookie_len,
     }
 }
@@ -149,9 +139,7 @@ pub fn take_init_ack(
     }
     if parameters::parameter::has_host_name(s) {
         let h = parameters::parameter::host_name(s);
-        let from = h.at;
-        let to = from + h.len;
-        let n = chunks::cause::write_abort_address(space, false, &s[from..to]);
+        let n = chunks::cause::write_abort_address(space, false, &s[h.at..h.at + h.len]);
         return Stepped::answering(
             head.moved(State::Closed),
             Event::Down(Reason::HostName),
@@ -159,17 +147,16 @@ pub fn take_init_ack(
             n,
         );
     }
-    let from = p.at;
-    let to = from + p.len;
-    echo_back(head, held, next_in, kept, v, &s[from..to], s, space)
+    let cookie = &s[p.at..p.at + p.len];
+    echo_back(head, held, next_in, kept, v, cookie, s, space)
 }
 
+#[tactic(auto, unfolding(steps::specs::Opening::established))]
 fn established(head: Head, source: u16, m: Made) -> Head
     ensures { result ≡ association_head (established (bare head) source m) }
 {
-    let before = head.ends;
     let ends = Ends {
-        local_port: before.local_port,
+        local_port: head.ends.local_port,
         peer_port: source,
         my_tag: m.my_tag,
         peer_tag: m.peer_tag,
@@ -209,12 +196,11 @@ fn clear(
 }
 
 // The peer's tag alone changes.
+#[tactic(auto, unfolding(steps::specs::Meeting::with_peer_tag))]
 fn retagged(mut head: Head, tag: u32) -> Head
     ensures { result ≡ association_head (with_peer_tag (bare head) tag) }
 {
-    let mut ends = head.ends;
-    ends.peer_tag = tag;
-    head.ends = ends;
+    head.ends.peer_tag = tag;
     head
 }
 
@@ -267,11 +253,10 @@ fn act(
         × (kept.new ≡ cleared_if (starts_anew action head.state) 256 kept.old)
         × (space.new ≡ wrote_bytes space.old (acts (length space.old) (bare head) source m action).reply) }
 {
-    let state = head.state;
-    if meeting::starts(action, state) {
+    if meeting::starts(action, head.state) {
         clear(held, next_in, places, next_out, kept);
         let after = established(head, source, m);
-        let event = meeting::started_as(action, state);
+        let event = meeting::started_as(action, head.state);
         let n = chunks::cookie::write_cookie_ack(space);
         return Stepped::accepted(after, event, n);
     }
@@ -305,9 +290,7 @@ pub fn read_echo(
     }
     match echoed {
         Echoed::Good(m) => {
-            let state = head.state;
-            let ends = head.ends;
-            let action = meeting::action_of(state, ends, m);
+            let action = meeting::action_of(head.state, head.ends, m);
             act(
                 head, held, next_in, places, next_out, kept, m, action, source, space,
             )

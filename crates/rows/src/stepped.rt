@@ -40,13 +40,8 @@ impl Stepped {
         ensures { result ≡ stepped_with written (answering (bare head) event tag []) }
     {
         Stepped {
-            head,
-            fate: Fate::Accepted,
-            named: Named::NoCall,
-            event,
-            unread: false,
             owed: Owed::To(tag),
-            written,
+            ..Stepped::accepted(head, event, written)
         }
     }
 
@@ -55,13 +50,8 @@ impl Stepped {
         ensures { result ≡ stepped_with 0 (owing (bare head) event owed) }
     {
         Stepped {
-            head,
-            fate: Fate::Accepted,
-            named: Named::NoCall,
-            event,
-            unread: false,
             owed,
-            written: 0,
+            ..Stepped::accepted(head, event, 0)
         }
     }
 
@@ -69,13 +59,9 @@ impl Stepped {
         ensures { result ≡ stepped_with 0 (refused (bare head) number named) }
     {
         Stepped {
-            head,
             fate: Fate::Refused(number),
             named,
-            event: Event::NoEvent,
-            unread: false,
-            owed: Owed::Nothing,
-            written: 0,
+            ..Stepped::accepted(head, Event::NoEvent, 0)
         }
     }
 
@@ -83,24 +69,20 @@ impl Stepped {
     pub fn quiet(head: Head, t: Told) -> Stepped
         ensures { result ≡ stepped_with 0 (quiet (bare head) t) }
     {
-        let fate = t.fate;
-        let named = t.named;
         Stepped {
-            head,
-            fate,
-            named,
-            event: Event::NoEvent,
-            unread: false,
-            owed: Owed::Nothing,
-            written: 0,
+            fate: t.fate,
+            named: t.named,
+            ..Stepped::accepted(head, Event::NoEvent, 0)
         }
     }
 
     // The rest of the packet is left unread.
-    pub fn ending(mut self) -> Stepped
+    pub fn ending(self) -> Stepped
         ensures { result ≡ unread_of self }
     {
-        self.unread = true;
-        self
+        Stepped {
+            unread: true,
+            ..self
+        }
     }
 }

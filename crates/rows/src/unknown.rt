@@ -8,20 +8,16 @@ ghost use Rattle.rows.specs.Stepped.{stepped_with, stepped_in};
 use crate::stepped::Stepped;
 use chunks::kind::Handling;
 use flat::Head;
-use steps::{Event, Fate, Named, Owed};
+use steps::{Event, Fate};
 
 // Passed over: nothing of the record changes.
 fn passed_over(head: Head, fate: Fate, unread: bool, written: usize) -> Stepped
     ensures { result ≡ stepped_with written (step_passed_over (bare head) fate unread []) }
 {
     Stepped {
-        head,
         fate,
-        named: Named::NoCall,
-        event: Event::NoEvent,
         unread,
-        owed: Owed::Nothing,
-        written,
+        ..Stepped::accepted(head, Event::NoEvent, written)
     }
 }
 
@@ -30,10 +26,8 @@ pub fn pass_unknown(head: Head, h: Handling) -> Stepped
     ensures { result ≡ stepped_with 0 (pass_unknown (bare head) h) }
 {
     match h {
-        Handling::Stop => passed_over(head, Fate::Stopped, true, 0),
-        Handling::StopAndReport => passed_over(head, Fate::Stopped, true, 0),
-        Handling::Skip => passed_over(head, Fate::Skipped, false, 0),
-        Handling::SkipAndReport => passed_over(head, Fate::Skipped, false, 0),
+        Handling::Stop | Handling::StopAndReport => passed_over(head, Fate::Stopped, true, 0),
+        Handling::Skip | Handling::SkipAndReport => passed_over(head, Fate::Skipped, false, 0),
     }
 }
 
