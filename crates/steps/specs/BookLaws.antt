@@ -23,7 +23,7 @@ use Rattle.steps.specs.declared.meeting.Action.{Action}
 use Rattle.steps.specs.declared.meeting.Action.TheVariants.{Restart, Retag, Late, Again, Outside}
 use Rattle.steps.specs.Opening.{is_poor, is_cookie_odd, is_poor_lent, answer_init, established, echoing, echoed_back, take_init_ack}
 use Rattle.steps.specs.Meeting.{offered, repeat_ack, action_of, starts_anew, with_peer_tag, stays, acts, read_echo}
-use Rattle.steps.specs.Carrying.{is_kept, arrival_of, data_read, read_data, read_late_data, area_in, area_data, heard_by, heard_sack, is_last, read_sack, read_sack_pending, read_sack_received, echo_heartbeat, clear_tries}
+use Rattle.steps.specs.Carrying.{is_kept, arrival_of, data_read, read_data, read_late_data, area_data, heard_by, heard_sack, is_last, read_sack, read_sack_pending, read_sack_received, echo_heartbeat, clear_tries}
 use Rattle.steps.specs.Closing.{read_error, heard_shutdown, read_shutdown, answer_shutdown}
 use Rattle.steps.specs.Unknown.{pass_unknown, tell_unknown}
 use Rattle.steps.specs.Steps.{row_step, row_met, step_of}

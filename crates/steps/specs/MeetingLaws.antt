@@ -1,7 +1,7 @@
 -- The laws of a head that comes back (02, T-08). Assumes nothing.
 use Rattle.std.specs.Prelude.{ℕ, ◌^◌, ◌≡◌, Bool, true, false, List, eqb, length}
 use Rattle.std.proofs.Math.Path.{refl}
-use Rattle.std.proofs.Common.{sym, ap, subst, ◌∙◌}
+use Rattle.std.proofs.Common.{sym, ap, subst}
 use native.Mathlib.Omega.{arith}
 use Rattle.scans.specs.Scan.{pick}
 use Rattle.scans.specs.Each.{clash}
@@ -27,7 +27,6 @@ use Rattle.states.specs.declared.state.State.TheVariants.{Established}
 use Rattle.steps.specs.declared.chunk.Beside.{Beside}
 use Rattle.steps.specs.declared.lent.Lent.{Lent}
 use Rattle.steps.specs.declared.lent.Made.{Made}
-use Rattle.steps.specs.declared.lent.Echoed.{Echoed}
 use Rattle.steps.specs.declared.lent.Echoed.TheVariants.{Stale, Good}
 use Rattle.steps.specs.declared.meeting.Action.{Action}
 use Rattle.steps.specs.declared.meeting.Action.TheVariants.{Restart, Retag, Late, Again, Outside}
@@ -36,7 +35,7 @@ use Rattle.steps.specs.Lent.{is_made, heeded}
 use Rattle.steps.specs.Opening.{is_poor, is_poor_lent, answer_init, ends_of_made, established}
 use Rattle.steps.specs.Meeting.{offered, repeat_ack, is_untied, is_tied, action_of, starts_anew, with_peer_tag, acts}
 use Rattle.steps.specs.Steps.{row_step, met_by, step_of}
-use Rattle.steps.specs.Table12.{Mark, tag_mark, peer_mark, tie_mark, marks, table12, looked_up, tags_found}
+use Rattle.steps.specs.Table12.{tag_mark, peer_mark, tie_mark, marks, table12, looked_up, tags_found}
 
 -- ---- the table
 

@@ -1,5 +1,5 @@
 -- Table 12 of RFC 9260 section 5.2.4, as it stands there. That `action_of` says the same is the law `table-12`.
-use Rattle.std.specs.Prelude.{Bool, true, false, List, [], ◌∷◌, ℕ, eqb}
+use Rattle.std.specs.Prelude.{Bool, true, false, List, [], ◌∷◌, eqb}
 use Rattle.scans.specs.Scan.{pick}
 use Rattle.states.specs.declared.state.State.{State}
 use Rattle.states.specs.Calls.{knows_peer}
