@@ -1,3 +1,2 @@
 -- That each promise leaves one outcome.
 pub mod Unique
-pub mod Mapped

@@ -33,14 +33,24 @@ pub(crate) fn has_junk(bytes: &[u8; Rail::PLACES]) -> bool
     bytes.iter().fold(false, |junk, &byte| junk | is_junk(byte))
 }
 
+// A loop, and no `map` of the array: that takes its elements one by one from an iterator, thirty times as long, in every call of C.
 pub(crate) fn flags_of(bytes: [u8; Rail::PLACES]) -> [bool; Rail::PLACES]
     ensures { result ≡ map is_yes bytes }
 {
-    bytes.map(is_yes)
+    let mut flags = [false; Rail::PLACES];
+    for i in 0..Rail::PLACES {
+        flags[i] = is_yes(bytes[i]);
+    }
+    flags
 }
 
+// A loop too, for the same reason.
 pub(crate) fn bytes_of(flags: [bool; Rail::PLACES]) -> [u8; Rail::PLACES]
     ensures { result ≡ map bool_byte flags }
 {
-    flags.map(byte_of)
+    let mut bytes = [0u8; Rail::PLACES];
+    for i in 0..Rail::PLACES {
+        bytes[i] = byte_of(flags[i]);
+    }
+    bytes
 }

@@ -1,8 +1,13 @@
 use borrow.Author.Rules.{rules}
-use mir.Val.{bool_byte}
-use Rattle.std.proofs.Common.{false}
-use Rattle.kept.proofs.Mapped.{mapped}
+use mathlib.Core.Path.{refl}
+use Rattle.kept.specs.FlagsLaws.{put-more, put-end}
 use Rattle.kept.proofs.flags.bytes_of.Goals as goal
 
+pub loop-i-init : goal.loop-i-init
+loop-i-init c = record { folding = record { long = search rules; rest = refl }; wide = refl }
+
+pub loop-i-preserved : goal.loop-i-preserved
+loop-i-preserved c = put-more c.loop-i.invariant _ _ (search rules) c.byte_of.ensures
+
 pub returns : goal.returns
-returns c = mapped bool_byte _ _ _ false 0 (search rules) c.map.ensures.items.long (λ i h. (c.map.ensures.items.at i false 0 h).2.met)
+returns c = put-end c.loop-i.invariant refl (search rules)

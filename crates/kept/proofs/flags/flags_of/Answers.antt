@@ -1,8 +1,14 @@
 use borrow.Author.Rules.{rules}
-use Rattle.std.proofs.Common.{false}
+use mathlib.Core.Path.{refl}
 use Rattle.kept.specs.Flags.{is_yes}
-use Rattle.kept.proofs.Mapped.{mapped}
+use Rattle.kept.specs.FlagsLaws.{put-more, put-end}
 use Rattle.kept.proofs.flags.flags_of.Goals as goal
 
+pub loop-i-init : goal.loop-i-init
+loop-i-init c = record { folding = record { long = search rules; rest = refl }; wide = refl }
+
+pub loop-i-preserved : goal.loop-i-preserved
+loop-i-preserved c = put-more c.loop-i.invariant _ _ (search rules) c.is_yes.ensures
+
 pub returns : goal.returns
-returns c = mapped is_yes _ _ _ 0 false (search rules) c.map.ensures.items.long (λ i h. (c.map.ensures.items.at i 0 false h).2.met)
+returns c = put-end c.loop-i.invariant refl (search rules)
