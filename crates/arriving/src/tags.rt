@@ -18,32 +18,23 @@ pub enum Rule {
     Never,
 }
 
+#[tactic(auto, unfolding(crate::specs::Tags::are_ports))]
 pub fn are_ports(state: State, ends: Ends, h: Header) -> bool
     ensures { result ≡ are_ports state ends h }
 {
-    if h.destination == 0 {
-        return false;
-    }
-    if h.destination != ends.local_port {
-        return false;
-    }
-    if state.is_closed() {
-        return h.source != 0;
-    }
-    h.source == ends.peer_port
+    let expected = if state.is_closed() {
+        h.source != 0
+    } else {
+        h.source == ends.peer_port
+    };
+    h.destination != 0 && h.destination == ends.local_port && expected
 }
 
 // ABORT and SHUTDOWN COMPLETE with the T bit.
 fn is_reflecting(kind: u8, t: bool) -> bool
     ensures { result ≡ is_reflecting kind t }
 {
-    if kind == 6 {
-        return t;
-    }
-    if kind == 14 {
-        return t;
-    }
-    false
+    t && matches!(kind, types::ABORT | types::SHUTDOWN_COMPLETE)
 }
 
 fn echo_rule(echoed: Echoed) -> Rule
@@ -51,31 +42,23 @@ fn echo_rule(echoed: Echoed) -> Rule
 {
     match echoed {
         Echoed::Good(m) => Rule::Tag(m.my_tag),
-        Echoed::Stale(_) => Rule::Any,
-        Echoed::Bad => Rule::Any,
+        Echoed::Stale(_) | Echoed::Bad => Rule::Any,
     }
 }
 
 // By the type of the first chunk, its T bit, the state and the word on an echoed cookie.
+#[tactic(auto, unfolding(crate::specs::Tags::rule_of))]
 fn rule_of(kind: u8, t: bool, state: State, ends: Ends, echoed: Echoed) -> Rule
     ensures { result ≡ rule_of kind t state ends echoed }
 {
-    if kind == 1 {
-        return Rule::Tag(0);
+    match kind {
+        types::INIT => Rule::Tag(0),
+        types::COOKIE_ECHO => echo_rule(echoed),
+        _ if state.is_closed() => Rule::Never,
+        _ if !is_reflecting(kind, t) => Rule::Tag(ends.my_tag),
+        _ if state.knows_peer() => Rule::Tag(ends.peer_tag),
+        _ => Rule::Never,
     }
-    if kind == 10 {
-        return echo_rule(echoed);
-    }
-    if state.is_closed() {
-        return Rule::Never;
-    }
-    if is_reflecting(kind, t) {
-        if state.knows_peer() {
-            return Rule::Tag(ends.peer_tag);
-        }
-        return Rule::Never;
-    }
-    Rule::Tag(ends.my_tag)
 }
 
 fn is_abort(s: &[u8]) -> bool
@@ -99,6 +82,7 @@ fn first_abort(s: &[u8]) -> usize
 }
 
 // Whether a packet contains an ABORT; `s` is the packet from its first chunk on.
+#[tactic(auto, unfolding(crate::specs::Tags::has_abort))]
 pub fn has_abort(s: &[u8]) -> bool
     ensures { result ≡ has_abort s.now }
 {
@@ -108,12 +92,10 @@ pub fn has_abort(s: &[u8]) -> bool
 fn is_stray(state: State, s: &[u8]) -> bool
     ensures { result ≡ is_stray state s.now }
 {
-    if state.is_closed() {
-        return has_abort(s);
-    }
-    false
+    state.is_closed() && has_abort(s)
 }
 
+#[tactic(auto, unfolding(crate::specs::Tags::rule_for))]
 pub fn rule_for(state: State, ends: Ends, s: &[u8], echoed: Echoed) -> Rule
     ensures { result ≡ rule_for state ends s.now echoed }
 {

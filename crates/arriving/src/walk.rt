@@ -32,31 +32,19 @@ pub fn owe(earlier: Owed, now: Owed) -> Owed
     ensures { result ≡ owes earlier now }
 {
     match earlier {
-        Owed::Complete => Owed::Complete,
-        Owed::Reflected => Owed::Reflected,
-        Owed::To(tag) => Owed::To(tag),
-        Owed::Shutdown => now,
-        Owed::Nothing => now,
+        Owed::Shutdown | Owed::Nothing => now,
+        _ => earlier,
     }
 }
 
 fn is_due(o: Owed) -> bool
     ensures { result ≡ is_due o }
 {
-    match o {
-        Owed::Shutdown => true,
-        Owed::Nothing => false,
-        Owed::Complete => false,
-        Owed::Reflected => false,
-        Owed::To(_) => false,
-    }
+    matches!(o, Owed::Shutdown)
 }
 
 pub fn is_due_after(before: bool, o: Owed) -> bool
     ensures { result ≡ either before (is_due o) }
 {
-    if before {
-        return true;
-    }
-    is_due(o)
+    before || is_due(o)
 }

@@ -14,12 +14,7 @@ use steps::Owed;
 fn is_shutdown_due(w: Walk) -> bool
     ensures { result ≡ is_shutdown_due (bare_walked w) }
 {
-    let head = w.head;
-    let state = head.state;
-    if w.due {
-        return is_shutdown_sent(state);
-    }
-    false
+    w.due && is_shutdown_sent(w.head.state)
 }
 
 // One SHUTDOWN with the point at the packet's end, if it is due and fits.
@@ -27,15 +22,11 @@ fn end_reply(w: Walk, scratch: &mut [u8]) -> usize
     requires { (w.used ≤ 1460) × (length scratch.old ≡ 1460) }
     ensures { (take result scratch.new ≡ shutdown_added (bare_walked w) (take w.used scratch.old)) × (result ≤ 1460) }
 {
-    let used = w.used;
-    if is_shutdown_due(w) {
-        let head = w.head;
-        let keeping = head.keeping;
-        let point = keeping.point;
-        let n = chunks::shutdown::write_shutdown(&mut scratch[used..], point);
-        return used + n;
+    if !is_shutdown_due(w) {
+        return w.used;
     }
-    used
+    let point = w.head.keeping.point;
+    w.used + chunks::shutdown::write_shutdown(&mut scratch[w.used..], point)
 }
 
 fn write_complete(scratch: &mut [u8], reflected: bool) -> usize
@@ -50,13 +41,10 @@ pub(crate) fn close_reply(w: Walk, scratch: &mut [u8]) -> usize
     requires { (w.used ≤ 1460) × (length scratch.old ≡ 1460) }
     ensures { (take result scratch.new ≡ whole_reply (bare_walked w) (take w.used scratch.old)) × (result ≤ 1460) }
 {
-    let complete = w.complete;
-    match complete {
+    match w.complete {
         Owed::Complete => write_complete(scratch, false),
         Owed::Reflected => write_complete(scratch, true),
-        Owed::Nothing => end_reply(w, scratch),
-        Owed::Shutdown => end_reply(w, scratch),
-        Owed::To(_) => end_reply(w, scratch),
+        Owed::Nothing | Owed::Shutdown | Owed::To(_) => end_reply(w, scratch),
     }
 }
 
@@ -64,13 +52,10 @@ pub(crate) fn close_reply(w: Walk, scratch: &mut [u8]) -> usize
 fn reply_tag(head: Head, complete: Owed, tag: u32) -> u32
     ensures { result ≡ reply_tag (bare head) complete tag }
 {
-    let ends = head.ends;
     match complete {
         Owed::To(t) => t,
         Owed::Reflected => tag,
-        Owed::Complete => ends.peer_tag,
-        Owed::Nothing => ends.peer_tag,
-        Owed::Shutdown => ends.peer_tag,
+        Owed::Complete | Owed::Nothing | Owed::Shutdown => head.ends.peer_tag,
     }
 }
 
@@ -78,9 +63,8 @@ fn reply_tag(head: Head, complete: Owed, tag: u32) -> u32
 pub(crate) fn reply_head(head: Head, complete: Owed, h: Header) -> Header
     ensures { result ≡ reply_head (bare head) complete h }
 {
-    let ends = head.ends;
     Header {
-        source: ends.local_port,
+        source: head.ends.local_port,
         destination: h.source,
         tag: reply_tag(head, complete, h.tag),
     }
@@ -91,10 +75,9 @@ pub(crate) fn send(h: Header, reply: &[u8], out: &mut [u8]) -> usize
     requires { length reply.now ≤ 1460 }
     ensures { (result ≡ reply_length reply.now out.old) × (out.new ≡ sent_out h reply.now out.old) }
 {
-    let n = reply.len();
-    if n == 0 {
+    if reply.is_empty() {
         return 0;
     }
     octets::put_all(out, 12, reply);
-    packets::seal(out, 12 + n, h)
+    packets::seal(out, 12 + reply.len(), h)
 }

@@ -13,13 +13,15 @@ pub const WORDS: usize = Rail::VERDICT_WORDS;
 pub(crate) fn note(verdicts: &mut [u32; WORDS], count: usize, v: Verdict) -> usize
     ensures { (result ≡ count_after count) × (verdicts.new ≡ words_noted verdicts.old count v) }
 {
-    if count < CHUNKS {
-        let at = 4 * count;
-        verdicts[at] = (v.at % 65536) as u32;
-        verdicts[at + 1] = v.value;
-        verdicts[at + 2] = v.fate as u32 * 256 + v.number as u32;
-        verdicts[at + 3] = v.cause as u32 * 256 + v.event as u32;
-        return count + 1;
+    if count >= CHUNKS {
+        return count;
     }
-    count
+    let at = 4 * count;
+    verdicts[at..at + 4].copy_from_slice(&[
+        (v.at % 65536) as u32,
+        v.value,
+        u32::from(v.fate) * 256 + u32::from(v.number),
+        u32::from(v.cause) * 256 + u32::from(v.event),
+    ]);
+    count + 1
 }

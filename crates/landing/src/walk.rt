@@ -27,10 +27,7 @@ pub struct Walk {
 fn verdict_of(at: usize, d: Stepped) -> Verdict
     ensures { result ≡ verdict_at at d }
 {
-    let fate = d.fate;
-    let named = d.named;
-    let event = d.event;
-    Verdict::codes(at, fate, named, event)
+    Verdict::codes(at, d.fate, d.named, d.event)
 }
 
 // What became of a chunk, taken in; its verdict is the last of so many.
@@ -38,22 +35,19 @@ fn take_in(w: Walk, d: Stepped, count: usize) -> Walk
     requires { w.used + d.written ≤ 1460 }
     ensures { result ≡ walk_taken w d count }
 {
-    let head = d.head;
-    let owed = d.owed;
-    let before = w.complete;
     Walk {
-        head,
+        head: d.head,
         count,
         used: w.used + d.written,
         unread: d.unread,
-        due: is_due_after(w.due, owed),
-        complete: owe(before, owed),
+        due: is_due_after(w.due, d.owed),
+        complete: owe(w.complete, d.owed),
     }
 }
 
 // The chunk at the head of `s`, which begins at `at`; `space` is what is left behind the replies so far.
 fn turn(
-    mut w: Walk,
+    w: Walk,
     held: &mut [u32; 512],
     next_in: &mut [u16; 128],
     places: &mut [u32; 1024],
@@ -72,20 +66,18 @@ fn turn(
         ≡ table_turned at b cookie.now s.now (table_turn_of w held.old next_in.old places.old next_out.old kept.old area.old verdicts.old space.old)) × (result.used ≤ 1460) }
 {
     if w.unread {
-        let v = Verdict::unread(at);
-        let n = verdict::note(verdicts, w.count, v);
-        w.count = n;
-        return w;
+        let count = verdict::note(verdicts, w.count, Verdict::unread(at));
+        return Walk { count, ..w };
     }
-    let mut beside = b;
-    beside.first = at == 12;
-    let head = w.head;
+    let beside = Beside {
+        first: at == 12,
+        ..b
+    };
     let d = rows::step(
-        head, held, next_in, places, next_out, kept, area, beside, cookie, s, space,
+        w.head, held, next_in, places, next_out, kept, area, beside, cookie, s, space,
     );
-    let v = verdict_of(at, d);
-    let n = verdict::note(verdicts, w.count, v);
-    take_in(w, d, n)
+    let count = verdict::note(verdicts, w.count, verdict_of(at, d));
+    take_in(w, d, count)
 }
 
 // All chunks of a packet. The replies stand at the head of `scratch`.
@@ -118,8 +110,7 @@ pub(crate) fn walk_over(
     let mut at = 12;
     while at < packet.len() {
         let s = &packet[at..];
-        let used = w.used;
-        let after = turn(
+        w = turn(
             w,
             held,
             next_in,
@@ -132,9 +123,8 @@ pub(crate) fn walk_over(
             cookie,
             at,
             s,
-            &mut scratch[used..],
+            &mut scratch[w.used..],
         );
-        w = after;
         at += size(s);
     }
     w
