@@ -1,10 +1,10 @@
 -- No two refusals have one number, and none has 0: a number answered tells what was refused.
 -- Assumes nothing.
-use Rattle.std.specs.Prelude.{ℕ, ◌≡◌, refl, List, [], ◌∷◌, get_or}
-use Rattle.std.proofs.Common.{sym, ap, ◌∙◌}
+use Rattle.std.specs.Prelude.{ℕ, ◌≡◌, refl, List, [], ◌∷◌, get_or, Result, Ok, Err}
+use Rattle.std.proofs.Common.{sym, ap, ◌∙◌, arith}
 use Rattle.numbers.specs.declared.refusal.Refusal.{Refusal}
 use Rattle.numbers.specs.declared.refusal.Refusal.TheVariants as refusal
-use Rattle.numbers.specs.Refusal.{refusal_number}
+use Rattle.numbers.specs.Refusal.{refusal_number, answered_number}
 
 -- each at its number; the last at every number that is none's
 abbrev by_number : List Refusal
@@ -40,3 +40,13 @@ again refusal.Cookie = refl
 
 pub refusals-apart : (r q : Refusal) → refusal_number r ≡ refusal_number q → r ≡ q
 refusals-apart r q e = sym (again r) ∙ ap refusal_of e ∙ again q
+
+pub refusal-never-none : (r : Refusal) → refusal_number r ≡ 0 → ⊥
+refusal-never-none r e = let same : r ≡ refusal.Cookie = sym (again r) ∙ ap refusal_of e in absurd (omega (arith, sym e ∙ ap refusal_number same))
+
+-- two answers of one number are one
+pub answered-apart : (r q : Result Unit Refusal) → answered_number r ≡ answered_number q → r ≡ q
+answered-apart (Ok x) (Ok y) e = refl
+answered-apart (Ok x) (Err b) e = absurd (refusal-never-none b (sym e))
+answered-apart (Err a) (Ok x) e = absurd (refusal-never-none a e)
+answered-apart (Err a) (Err b) e = ap Err (refusals-apart a b e)
