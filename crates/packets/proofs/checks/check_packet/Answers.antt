@@ -1,15 +1,17 @@
-use borrow.Author.Tests.{eq-eqb, ne_eqb}
-use Rattle.packets.specs.Checks.{form_number}
+use Rattle.std.proofs.lemmas.Result.{err_from_is_err_and}
+use Rattle.std.proofs.Common.{sym, ◌∙◌, arith}
+use Rattle.packets.specs.Checks.{form_number, size_number}
+use Rattle.packets.specs.ChecksLaws.{size-or-none, sum-or-none, check-refuses, check-passes}
 use Rattle.packets.proofs.checks.check_packet.Goals as goal
 
-pub returns-then-check_size-eq2 : goal.returns-then-check_size-eq2
+pub returns-in_err-check_size : goal.returns-in_err-check_size
 unfolding form_number
-returns-then-check_size-eq2 c = rw (← c.check_size.ensures, eq-eqb _ 2 c.if-check_size-eq2.true)
+returns-in_err-check_size c =
+    let p = err_from_is_err_and c.from_residual.result c.from_residual.ensures.1 in
+    rw (p.1, p.2) (check-refuses 2 _ _ _ (size-or-none c.args.s.now) c.in_err-check_size.ensures)
 
-pub returns-then-check_sum-eq3 : goal.returns-then-check_sum-eq3
+pub returns-in_err-check_sum : goal.returns-in_err-check_sum
 unfolding form_number
-returns-then-check_sum-eq3 c = rw (← c.check_size.ensures, ne_eqb _ 2 c.if-check_size-eq2.false, ← c.check_sum.ensures, eq-eqb _ 3 c.if-check_sum-eq3.true)
-
-pub returns : goal.returns
-unfolding form_number
-returns c = rw (← c.check_size.ensures, ne_eqb _ 2 c.if-check_size-eq2.false, ← c.check_sum.ensures, ne_eqb _ 3 c.if-check_sum-eq3.false) c.check_shape.ensures
+returns-in_err-check_sum c =
+    let p = err_from_is_err_and c.from_residual-in_err-check_sum.result c.from_residual-in_err-check_sum.ensures.1 in
+    rw (p.1, p.2) (check-refuses 3 _ _ _ (sum-or-none c.args.s.now) c.in_err-check_sum.ensures ∙ sym (check-passes 2 (size_number c.args.s.now) _ (omega arith) (sym c.in_ok-check_size.ensures)))

@@ -7,8 +7,8 @@ use Rattle.packets.proofs.header.seal.Goals.{then-n-lt12-via-then-n-lt12, then-n
 pub returns-then-n-lt12 : goal.returns-then-n-lt12
 returns-then-n-lt12 c =
     elim c.then-n-lt12.branch [
-      then-n-lt12-via-then-n-lt12 w ↦ seal-none _ _ _ w.if-n-lt12.true
-    | then-n-lt12-via-else-n-lt12+then-out-n w ↦ seal-short _ _ _ w.if-n-lt12.false w.if-out-n.true
+      | then-n-lt12-via-then-n-lt12 w ↦ seal-none _ _ _ w.if-n-lt12.true
+      | then-n-lt12-via-else-n-lt12+then-out-n w ↦ seal-short _ _ _ w.if-n-lt12.false w.if-out-n.true
     ]
 
 pub returns : goal.returns
