@@ -1,5 +1,5 @@
 -- A packet all of whose chunks are refused, but for 11 and 14, leaves all and is not answered. Assumes nothing.
-use Rattle.std.specs.Prelude.{ℕ, zero, suc, ◌+◌, ◌-◌, ◌*◌, ◌<◌, ◌≤◌, ◌≡◌, Bool, List, [], ◌∷◌, ◌++◌, ltb, length, take, drop, set, replicate}
+use Rattle.std.specs.Prelude.{ℕ, zero, suc, ◌+◌, ◌-◌, ◌*◌, ◌<◌, ◌≤◌, ◌≡◌, Bool, List, [], ◌∷◌, ◌++◌, ltb, length, take, drop, set}
 use Rattle.std.proofs.Math.Path.{refl}
 use Rattle.std.proofs.Common.{sym, ap, subst, ◌∙◌, arith, lt-ltb, eq-eqb, eqb-true, length-set, take-suc-set}
 use Rattle.std.proofs.Math.Bool.{true, false}
@@ -36,7 +36,7 @@ use Rattle.arriving.specs.Walked.{Turn, walk_begun, verdict_noted, owes, is_due,
 use Rattle.arriving.specs.WalkedLaws.{walked_as}
 use Rattle.arriving.specs.Reply.{is_shutdown_sent, shutdown_added, closed_by, whole_reply}
 use Rattle.arriving.specs.Arrival.{lent_number, packet_number, packet_refused, packet_walked, packet_accepted, answered_length, arrival_number, arrived_of, packet_area, packet_out}
-use Rattle.arriving.specs.PacketOutcomes.{Sealed, nothing, behind, Arriving, left, answered, packet-arriving}
+use Rattle.arriving.specs.PacketOutcomes.{nothing, behind, Arriving, left, answered, packet-arriving}
 use Rattle.arriving.specs.PacketRefusal.{Barred, AllBarred, PacketLeavesAll}
 
 -- what holds at a place, and is kept by the step there for the next, holds at the end

@@ -1,6 +1,6 @@
 -- What carries another tag than ours is refused 4: so, after a restart, what is of the old life. Assumes nothing.
-use Rattle.std.specs.Prelude.{ℕ, ◌≡◌, refl, Bool, true, false, List, eqb}
-use Rattle.std.proofs.Common.{sym, ap, ◌∙◌, eqb-true, ne_eqb}
+use Rattle.std.specs.Prelude.{ℕ, ◌≡◌, refl, Bool, true, false, ◌⊎◌, List, eqb}
+use Rattle.std.proofs.Common.{sym, ap, ◌∙◌, inl, inr, ne_eqb}
 use Rattle.std.proofs.lemmas.Bool.{eqb-false}
 use Rattle.scans.specs.Scan.{pick}
 use Rattle.octets.specs.Bytes.{u8}
@@ -13,7 +13,7 @@ use Rattle.steps.specs.declared.lent.Echoed.{Echoed}
 use Rattle.steps.specs.declared.meeting.Action.TheVariants.{Restart}
 use Rattle.steps.specs.Meeting.{action_of, starts_anew, acts}
 use Rattle.steps.specs.MeetingLaws.{restart-tag, start-fresh}
-use Rattle.arriving.specs.Tags.{are_ports, is_reflecting, rule_of, has_abort, rule_for, is_tag, head_number}
+use Rattle.arriving.specs.Tags.{are_ports, is_reflecting, rule_of, rule_for, is_tag, head_number}
 
 -- an INIT, a COOKIE ECHO, and an ABORT or SHUTDOWN COMPLETE with the T bit have rules of their own; any other packet with another tag is refused
 pub other_tag : (a : Association) (h : Header) (s : List ℕ) (w : Echoed) → is_closed a.state ≡ false → eqb (u8 s 0) 1 ≡ false → eqb (u8 s 0) 10 ≡ false
@@ -32,3 +32,13 @@ pub old-life-out : (room : ℕ) (a : Association) (source : ℕ) (m : Made) → 
 old-life-out room a source m x q h s w t i e r =
     ap (λ (b : Association). head_number b h s w) (start-fresh room a source m Restart q)
     ∙ other_tag _ h s w refl i e r (ne_eqb h.tag m.my_tag (λ d. eqb-false m.my_tag a.ends.my_tag (restart-tag a.state a.ends m x) (sym d ∙ t)))
+
+-- 4, or no number
+pub head-or-none : (a : Association) (h : Header) (s : List ℕ) (w : Echoed) → (head_number a h s w ≡ 0) ⊎ (head_number a h s w ≡ 4)
+unfolding head_number
+head-or-none a h s w = go (are_ports a.state a.ends h) (is_tag (rule_for a.state a.ends s w) h.tag)
+  where
+    go : (x y : Bool) → ◌≡◌ {A = ℕ} (pick x (pick y 0 4) 4) 0 ⊎ ◌≡◌ {A = ℕ} (pick x (pick y 0 4) 4) 4
+    go true true = inl refl
+    go true false = inr refl
+    go false y = inr refl

@@ -1,11 +1,10 @@
 // Ports and verification tag (number 4). The first chunk settles which tag rule holds.
 ghost use Rattle.std.specs.Prelude.{◌≡◌};
-ghost use Rattle.octets.specs.Walk.{first_item};
 ghost use Rattle.arriving.specs.Tags.{are_ports, is_reflecting, echo_rule, rule_of, is_abort, has_abort, is_stray, rule_for, is_tag};
 
 use association::Ends;
 use chunks::types;
-use octets::size;
+use octets::{Test, first_item};
 use packets::Header;
 use states::State;
 use steps::Echoed;
@@ -61,24 +60,14 @@ fn rule_of(kind: u8, t: bool, state: State, ends: Ends, echoed: Echoed) -> Rule
     }
 }
 
-fn is_abort(s: &[u8]) -> bool
-    ensures { result ≡ is_abort s.now }
-{
-    octets::get8(s, 0) == types::ABORT
-}
+struct IsAbort;
 
-fn first_abort(s: &[u8]) -> usize
-    ensures { result ≡ first_item is_abort s.now 0 }
-{
-    let mut at = 0;
-    while at < s.len() {
-        let t = &s[at..];
-        if is_abort(t) {
-            return at;
-        }
-        at += size(t);
+impl Test for IsAbort {
+    ghost passes = { λ _ s. is_abort s };
+
+    fn passes(&self, s: &[u8]) -> bool {
+        octets::get8(s, 0) == types::ABORT
     }
-    s.len()
 }
 
 // Whether a packet contains an ABORT; `s` is the packet from its first chunk on.
@@ -86,7 +75,7 @@ fn first_abort(s: &[u8]) -> usize
 pub fn has_abort(s: &[u8]) -> bool
     ensures { result ≡ has_abort s.now }
 {
-    first_abort(s) < s.len()
+    first_item(s, 0, &IsAbort) < s.len()
 }
 
 fn is_stray(state: State, s: &[u8]) -> bool
