@@ -1,7 +1,6 @@
 -- The book that a record keeps to: no call changes it, and what is taken and acknowledged is the same in both. Assumes nothing.
-use Rattle.std.specs.Prelude.{ℕ, ◌≤◌, ◌^◌, ◌≡◌, Bool, List, eqb, length}
+use Rattle.std.specs.Prelude.{ℕ, ◌≤◌, ◌≡◌, Bool, List, eqb}
 use Rattle.std.proofs.Math.Path.{refl}
-use Rattle.std.proofs.Common.{ap}
 use Rattle.std.proofs.Math.Bool.{false}
 use Rattle.scans.specs.Upto.{pick-keeps}
 use Rattle.numbers.specs.declared.circle.StreamId.{StreamId}

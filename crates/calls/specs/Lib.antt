@@ -12,6 +12,7 @@ pub mod Messages
 pub mod Acknowledging
 pub mod AcknowledgingLaws
 pub mod Peek
+pub mod PeekLaws
 pub mod Transmit
 pub mod TransmitLaws
 pub mod CallLaws

@@ -2,7 +2,7 @@
 -- nothing.
 use Rattle.std.specs.Prelude.{ℕ, zero, suc, ◌*◌, ◌<◌, ◌≤◌, ◌≡◌, Bool, List, [], ◌∷◌, ◌++◌, take, drop, get_or}
 use Rattle.std.proofs.Math.Path.{refl}
-use Rattle.std.proofs.Common.{sym, ap, ◌∙◌, arith, length-append, length-drop, length-take-le}
+use Rattle.std.proofs.Common.{ap, arith, length-drop, length-take-le}
 use Rattle.std.proofs.Math.Bool.{true, false}
 use borrow.Author.Tests.{ltb-false, eqb-true, eqb-false}
 use Rattle.std.proofs.Math.Dec.{eqb}
@@ -11,7 +11,6 @@ use Rattle.scans.specs.Scan.{pick, either}
 use Rattle.scans.specs.Each.{All, neither}
 use Rattle.numbers.specs.Profile.{rail}
 use Rattle.numbers.specs.Circle.{tsn0}
-use Rattle.chunks.specs.Frame.{framed}
 use Rattle.chunks.specs.FrameLaws.{framed-long}
 use Rattle.chunks.specs.DataChunk.{data_fields, data_flags}
 use Rattle.chunks.specs.DataLaws.{data_is}

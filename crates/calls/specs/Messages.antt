@@ -1,5 +1,5 @@
 -- Messages: "handed in in ESTABLISHED, … taken in any state".
-use Rattle.std.specs.Prelude.{ℕ, Bool, false, List, eqb, length}
+use Rattle.std.specs.Prelude.{ℕ, Bool, false, List, eqb}
 use Rattle.scans.specs.Scan.{pick}
 use Rattle.numbers.specs.declared.circle.StreamId.{StreamId}
 use Rattle.numbers.specs.Circle.{ssn0}

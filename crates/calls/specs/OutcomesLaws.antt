@@ -25,7 +25,6 @@ use Rattle.octets.specs.Writing.{Wrote, wrote_count, bytes_wrote_at}
 use Rattle.octets.specs.WritingLaws.{holds-first, wrote-all, WroteAt, stayed, written, wrote_at}
 use Rattle.packets.specs.declared.header.Header.{Header}
 use Rattle.packets.specs.Header.{seal_count, seal_bytes}
-use Rattle.chunks.specs.declared.sack.Sack.{Sack}
 use Rattle.chunks.specs.CookieChunk.{longest_cookie, is_cookie}
 use Rattle.chunks.specs.DataChunk.{data_bytes, data_fields, data_flags}
 use Rattle.chunks.specs.DataLaws.{data_is, data-over, data-none}
@@ -55,8 +54,6 @@ use Rattle.association.specs.declared.ends.Ends.{Ends}
 use Rattle.association.specs.Bounds.{is_sound, is_head, are_ends, least_out, earlier}
 use Rattle.association.specs.BoundsLaws.{sound-parts, closed-head, first-none, earlier-none}
 use Rattle.calls.specs.declared.closing.Reason.{Reason}
-use Rattle.calls.specs.declared.acknowledging.Acknowledged.{Acknowledged}
-use Rattle.calls.specs.declared.transmitting.Transmitted.{Transmitted}
 use Rattle.calls.specs.Packet.{to_peer, sent_length, sent_one}
 use Rattle.calls.specs.Answer.{is_short_area, is_short_out, barred, Plan, refusing, carrying_chunk, closing_plan, unless, answer_of, plan_out}
 use Rattle.calls.specs.AnswerLaws.{call-let-in}

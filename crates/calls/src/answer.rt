@@ -23,8 +23,5 @@ pub const AREA: usize = Rail::AREA;
 pub fn earlier(m: u8, n: u8) -> u8
     ensures { result ≡ earlier m n }
 {
-    if m == 0 {
-        return n;
-    }
-    m
+    if m == 0 { n } else { m }
 }

@@ -1,8 +1,0 @@
-use borrow.Author.Tests.{eq-eqb, ne_eqb}
-use Rattle.calls.proofs.answer.earlier.Goals as goal
-
-pub returns-then-m-eq0 : goal.returns-then-m-eq0
-returns-then-m-eq0 c = rw (eq-eqb _ _ c.if-m-eq0.true)
-
-pub returns : goal.returns
-returns c = rw (ne_eqb _ _ c.if-m-eq0.false)
