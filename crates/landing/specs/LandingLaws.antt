@@ -1,5 +1,5 @@
 -- Which number a packet gets, and what it then leaves. Assumes nothing.
-use Rattle.std.specs.Prelude.{ℕ, ◌≡◌, Bool, List, eqb, length, take}
+use Rattle.std.specs.Prelude.{ℕ, ◌≡◌, Bool, List, length, take}
 use Rattle.std.proofs.Math.Path.{refl, ap}
 use Rattle.std.proofs.Common.{sym, ◌∙◌, eq-eqb, ne_eqb}
 use Rattle.scans.specs.Scan.{pick}

@@ -34,10 +34,9 @@ use Rattle.arriving.specs.Reply.{is_silenced, shutdown_added, closed_by, whole_r
 use Rattle.arriving.specs.Arrival.{packet_refused, answered_length, answered_out, packet_accepted, arrival_number, arrived_of, packet_area, packet_out, packet_walked}
 use Rattle.flat.specs.declared.head.Head.{Head}
 use Rattle.flat.specs.Shown.{shown}
-use Rattle.rows.specs.TableRows.{Rowed, rowed}
+use Rattle.rows.specs.TableRows.{Rowed}
 use Rattle.rows.specs.TableRowsLaws.{Sized, rowed-space, rowed-sized}
 use Rattle.rows.specs.RowShowLaws.{done_shown, octets-fit, rows-show}
-use Rattle.landing.specs.declared.walk.Walk.{Walk}
 use Rattle.landing.specs.Verdicts.{verdict_at, all_verdict_words, verdicts_of, count_after}
 use Rattle.landing.specs.VerdictsLaws.{VerdictSmall, words_back, verdicts_noted, Telling, telling-none, telling-one}
 use Rattle.landing.specs.TableWalk.{TableTurn, table_turn_of, head_walk_begun, bare_walked, unread_turn, read_turn, rowed_at, table_turned, in_part, in_whole, turned_in, table_walked_over}

@@ -1,7 +1,7 @@
 -- The words of the verdicts: one more stands behind those before, and all behind it stays as it was lent. Assumes nothing.
 use Rattle.std.specs.Prelude.{ℕ, suc, ◌+◌, ◌*◌, ◌/◌, ◌%◌, ◌<◌, ◌≤◌, ◌≡◌, Bool, List, [], ◌∷◌, ◌++◌, length, take, drop, set}
 use Rattle.std.proofs.Math.Path.{refl}
-use Rattle.std.proofs.Common.{sym, ap, ◌∙◌, arith, length-append, length-take-le, take-suc-set, drop-drop}
+use Rattle.std.proofs.Common.{sym, ap, ◌∙◌, arith, append_assoc, length-append, length-take-le, take-suc-set, drop-drop}
 use Rattle.std.proofs.Math.Bool.{true, false}
 use borrow.Author.Tests.{ltb-true}
 use Rattle.std.proofs.Math.Dec.{ltb}
@@ -13,6 +13,11 @@ use Rattle.octets.specs.Bytes.{laid}
 use Rattle.octets.specs.BytesLaws.{laid-is, length-laid, drop_past}
 use Rattle.arriving.specs.declared.verdict.Verdict.{Verdict}
 use Rattle.landing.specs.Verdicts.{verdict_words, all_verdict_words, verdict_in, verdicts_of, count_after, words_noted}
+
+-- what is copied into the k places from `at` on is laid there
+pub copied-laid : (ws : List ℕ) (at k : ℕ) (vs : List ℕ) → k ≡ length vs → at + length vs ≤ length ws → take at ws ++ (vs ++ drop k (drop at ws)) ≡ laid ws at vs
+copied-laid ws at k vs e h =
+    sym (append_assoc (take at ws) vs (drop k (drop at ws))) ∙ ap (λ (l : List ℕ). take at ws ++ vs ++ l) (drop-drop k at ws ∙ ap (λ (n : ℕ). drop (at + n) ws) e) ∙ sym (laid-is vs ws at h)
 
 words_append : (us vs : List Verdict) → all_verdict_words (us ++ vs) ≡ all_verdict_words us ++ all_verdict_words vs
 words_append [] vs = refl

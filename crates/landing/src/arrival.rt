@@ -1,5 +1,6 @@
 // A packet arrives.
 ghost use Rattle.std.specs.Prelude.{◌≡◌, List, ℕ, ◌≤◌, length, take};
+ghost use Rattle.numbers.specs.Refusal.{refusal_number, answered_number};
 ghost use Rattle.flat.specs.Shown.{bare, shown};
 ghost use Rattle.arriving.specs.Arrival.{lent_number, packet_number, answered_length, answered_out};
 ghost use Rattle.steps.specs.Lent.{heeded};
@@ -12,7 +13,7 @@ use crate::{reply, tags, walk};
 use arriving::walk::ROOM;
 use flat::Head;
 use flat::bounds::is_sound;
-use numbers::Rail;
+use numbers::{Rail, Refusal};
 use steps::{Beside, Echoed, Lent};
 
 // The number of the packet, 0 if it was let in; then how many of its chunks have a verdict, the length of the reply, and the head.
@@ -29,48 +30,45 @@ const AREA: usize = Rail::AREA;
 
 const OUTPUT: usize = Rail::LONGEST_PACKET;
 
-fn refused(head: Head, number: u8) -> Landed
-    ensures { result ≡ landing_refused_as head number }
+fn refused(head: Head, refusal: Refusal) -> Landed
+    ensures { result ≡ landing_refused_as head (refusal_number refusal) }
 {
     Landed {
-        number,
+        number: refusal.number(),
         count: 0,
         length: 0,
         head,
     }
 }
 
-// 1, 18, or 0, whatever the next SSNs and the bytes of the cookie.
-fn check_lent(head: Head, held: &[u32; 512], places: &[u32; 1024], area: usize, out: usize) -> u8
-    ensures { (ns ms cs : List ℕ) → result ≡ lent_number (shown head held.now ns places.now ms cs) area out }
+// 1 or 18, whatever the next SSNs and the bytes of the cookie.
+fn check_lent(
+    head: Head,
+    held: &[u32; 512],
+    places: &[u32; 1024],
+    area: usize,
+    out: usize,
+) -> Result<(), Refusal>
+    ensures { (ns ms cs : List ℕ) → answered_number result ≡ lent_number (shown head held.now ns places.now ms cs) area out }
 {
-    if is_sound(head, held, places) {
-        if area < AREA {
-            return 18;
-        }
-        if out < OUTPUT {
-            return 18;
-        }
-        return 0;
+    if !is_sound(head, held, places) {
+        return Err(Refusal::Record);
     }
-    1
+    if area < AREA || out < OUTPUT {
+        return Err(Refusal::Short);
+    }
+    Ok(())
 }
 
-// 2, 3, 4, 5, 6, or 0.
-fn check(head: Head, packet: &[u8], echoed: Echoed) -> u8
-    ensures { result ≡ packet_number (bare head) packet.now echoed }
+// 2, 3, 4, 5, 6.
+fn check(head: Head, packet: &[u8], echoed: Echoed) -> Result<(), Refusal>
+    ensures { answered_number result ≡ packet_number (bare head) packet.now echoed }
 {
-    if packets::check_size(packet) == 2 {
-        return 2;
-    }
-    if packets::check_sum(packet) == 3 {
-        return 3;
-    }
+    packets::check_size(packet)?;
+    packets::check_sum(packet)?;
     let h = packets::read_header(packet);
     let s = octets::part(packet, 12, packet.len());
-    if tags::check_head(head, h, s, echoed) == 4 {
-        return 4;
-    }
+    tags::check_head(head, h, s, echoed)?;
     packets::check_shape(packet)
 }
 
@@ -80,15 +78,12 @@ fn answer(w: Walk, packet: &[u8], scratch: &mut [u8], out: &mut [u8]) -> usize
     ensures { (result ≡ answered_length (bare_walked w) packet.now (take w.used scratch.old) out.old)
         × (out.new ≡ answered_out (bare_walked w) packet.now (take w.used scratch.old) out.old) }
 {
-    let s = octets::part(packet, 12, packet.len());
-    if arriving::tags::has_abort(s) {
+    if arriving::tags::has_abort(octets::part(packet, 12, packet.len())) {
         return 0;
     }
-    let after = w.head;
-    let complete = w.complete;
-    let h = reply::reply_head(after, complete, packets::read_header(packet));
+    let h = reply::reply_head(w.head, w.complete, packets::read_header(packet));
     let n = reply::close_reply(w, scratch);
-    reply::send(h, &scratch[0..n], out)
+    reply::send(h, &scratch[..n], out)
 }
 
 fn let_in(
@@ -109,10 +104,9 @@ fn let_in(
     ensures { after_of result held.new next_in.new places.new next_out.new kept.new area.new verdicts.new out.new
         ≡ let_in (packet_walked_over packet.now lent cookie.now echoed head held.old next_in.old places.old next_out.old kept.old area.old verdicts.old) packet.now out.old }
 {
-    let h = packets::read_header(packet);
     let b = Beside {
         first: true,
-        source: h.source,
+        source: packets::read_header(packet).source,
         lent,
         echoed,
     };
@@ -131,13 +125,11 @@ fn let_in(
         packet,
         &mut scratch,
     );
-    let length = answer(w, packet, &mut scratch, out);
-    let after = w.head;
     Landed {
         number: 0,
         count: w.count,
-        length,
-        head: after,
+        length: answer(w, packet, &mut scratch, out),
+        head: w.head,
     }
 }
 
@@ -145,9 +137,7 @@ fn let_in(
 fn heed(head: Head, echoed: Echoed) -> Echoed
     ensures { result ≡ heeded head.state head.ends echoed }
 {
-    let state = head.state;
-    let ends = head.ends;
-    echoed.heeded(state, ends)
+    echoed.heeded(head.state, head.ends)
 }
 
 // A packet: 1, 18, 2, 3, 4, 5, 6 for the whole, which then leaves all that is lent; else each chunk with its own verdict. The words of the verdicts
@@ -170,14 +160,12 @@ pub fn arrive(
     ensures { after_of result held.new next_in.new places.new next_out.new kept.new area.new verdicts.new out.new
         ≡ landed packet.now lent cookie.now echoed head held.old next_in.old places.old next_out.old kept.old area.old verdicts.old out.old }
 {
-    let n = check_lent(head, held, places, area.len(), out.len());
-    if n != 0 {
-        return refused(head, n);
+    if let Err(refusal) = check_lent(head, held, places, area.len(), out.len()) {
+        return refused(head, refusal);
     }
     let word = heed(head, echoed);
-    let m = check(head, packet, word);
-    if m != 0 {
-        return refused(head, m);
+    if let Err(refusal) = check(head, packet, word) {
+        return refused(head, refusal);
     }
     let_in(
         head, held, next_in, places, next_out, kept, area, verdicts, packet, lent, cookie, word,

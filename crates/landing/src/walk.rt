@@ -108,6 +108,7 @@ pub(crate) fn walk_over(
         complete: Owed::Nothing,
     };
     let mut at = 12;
+    // Stays a loop by hand: how far it goes on is told by the chunk itself, and each turn writes all that is lent.
     while at < packet.len() {
         let s = &packet[at..];
         w = turn(

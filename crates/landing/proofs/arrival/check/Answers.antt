@@ -1,20 +1,28 @@
-use borrow.Author.Tests.{eq-eqb, ne_eqb}
+use Rattle.std.proofs.lemmas.Result.{err_from_is_err_and}
+use Rattle.packets.specs.ChecksLaws.{size-or-none, sum-or-none, check-refuses}
+use Rattle.arriving.specs.TagsLaws.{head-or-none}
 use Rattle.arriving.specs.Arrival.{packet_number}
 use Rattle.arriving.specs.ArrivalLaws.{chunks-are}
 use Rattle.landing.proofs.arrival.check.Goals as goal
 
-pub returns-then-check_size-eq2 : goal.returns-then-check_size-eq2
+pub returns-in_err-check_size : goal.returns-in_err-check_size
 unfolding packet_number
-returns-then-check_size-eq2 c = rw (← c.check_size.ensures, eq-eqb _ _ c.if-check_size-eq2.true)
+returns-in_err-check_size c =
+    let p = err_from_is_err_and c.from_residual.result c.from_residual.ensures.1 in
+    rw (p.1, p.2) (check-refuses 2 _ _ _ (size-or-none c.args.packet.now) c.in_err-check_size.ensures)
 
-pub returns-then-check_sum-eq3 : goal.returns-then-check_sum-eq3
+pub returns-in_err-check_sum : goal.returns-in_err-check_sum
 unfolding packet_number
-returns-then-check_sum-eq3 c = rw (← c.check_size.ensures, ne_eqb _ _ c.if-check_size-eq2.false, ← c.check_sum.ensures, eq-eqb _ _ c.if-check_sum-eq3.true)
+returns-in_err-check_sum c =
+    let p = err_from_is_err_and c.from_residual-in_err-check_sum.result c.from_residual-in_err-check_sum.ensures.1 in
+    rw (p.1, p.2, ← c.in_ok-check_size.ensures) (check-refuses 3 _ _ _ (sum-or-none c.args.packet.now) c.in_err-check_sum.ensures)
 
-pub returns-then-check_head-eq4 : goal.returns-then-check_head-eq4
+pub returns-in_err-check_head : goal.returns-in_err-check_head
 unfolding packet_number
-returns-then-check_head-eq4 c = rw (← c.check_size.ensures, ne_eqb _ _ c.if-check_size-eq2.false, ← c.check_sum.ensures, ne_eqb _ _ c.if-check_sum-eq3.false, ← c.read_header-h.ensures, ← chunks-are c.args.packet.now 12, ← c.part-s.ensures, ← c.check_head.ensures, eq-eqb _ _ c.if-check_head-eq4.true)
+returns-in_err-check_head c =
+    let p = err_from_is_err_and c.from_residual-in_err-check_head.result c.from_residual-in_err-check_head.ensures.1 in
+    rw (p.1, p.2, ← c.in_ok-check_size.ensures, ← c.in_ok-check_sum.ensures, ← c.read_header-h.ensures, ← chunks-are c.args.packet.now 12, ← c.part-s.ensures) (check-refuses 4 _ _ _ (head-or-none _ _ _ _) c.in_err-check_head.ensures)
 
 pub returns : goal.returns
 unfolding packet_number
-returns c = rw (← c.check_size.ensures, ne_eqb _ _ c.if-check_size-eq2.false, ← c.check_sum.ensures, ne_eqb _ _ c.if-check_sum-eq3.false, ← c.read_header-h.ensures, ← chunks-are c.args.packet.now 12, ← c.part-s.ensures, ← c.check_head.ensures, ne_eqb _ _ c.if-check_head-eq4.false) c.check_shape.ensures
+returns c = rw (← c.in_ok-check_size.ensures, ← c.in_ok-check_sum.ensures, ← c.read_header-h.ensures, ← chunks-are c.args.packet.now 12, ← c.part-s.ensures, ← c.in_ok-check_head.ensures) c.check_shape.ensures
