@@ -3,7 +3,6 @@ ghost use Rattle.std.specs.Prelude.{◌≡◌, List, ℕ, ◌≤◌, length, tak
 ghost use Rattle.numbers.specs.Refusal.{refusal_number, answered_number};
 ghost use Rattle.flat.specs.Shown.{bare, shown};
 ghost use Rattle.arriving.specs.Arrival.{lent_number, packet_number, answered_length, answered_out};
-ghost use Rattle.steps.specs.Lent.{heeded};
 ghost use Rattle.landing.specs.TableWalk.{bare_walked};
 ghost use Rattle.landing.specs.Landing.{after_of, landing_refused_as, packet_walked_over, let_in, landed};
 
@@ -133,13 +132,6 @@ fn let_in(
     }
 }
 
-// The host's word on an echo, as it counts for this record.
-fn heed(head: Head, echoed: Echoed) -> Echoed
-    ensures { result ≡ heeded head.state head.ends echoed }
-{
-    echoed.heeded(head.state, head.ends)
-}
-
 // A packet: 1, 18, 2, 3, 4, 5, 6 for the whole, which then leaves all that is lent; else each chunk with its own verdict. The words of the verdicts
 // behind the last one stay. The first `length` bytes of `out` are the reply.
 pub fn arrive(
@@ -163,7 +155,8 @@ pub fn arrive(
     if let Err(refusal) = check_lent(head, held, places, area.len(), out.len()) {
         return refused(head, refusal);
     }
-    let word = heed(head, echoed);
+    // The host's word on an echo, as it counts for this record.
+    let word = echoed.heeded(head.state, head.ends);
     if let Err(refusal) = check(head, packet, word) {
         return refused(head, refusal);
     }
