@@ -1,47 +1,31 @@
 // What the host must know of a packet before it arrives.
-ghost use Rattle.std.specs.Prelude.{◌≡◌, [], ◌∷◌};
-ghost use Rattle.calls.specs.Peek.{peeked};
+ghost use Rattle.std.specs.Prelude.{◌≡◌};
+ghost use Rattle.calls.specs.Peek.{numbered, peeked};
 ghost use Rattle.face.specs.FacePeek.{seen_number, seen_words};
 
 use calls::Peeked;
-use chunks::init::Init;
-
-fn tell_init(v: Init, source: u16, options: u8, told: &mut [usize; 10])
-    ensures { told.new ≡ 1 ∷ source ∷ v.tag ∷ v.window ∷ v.outs ∷ v.ins ∷ v.tsn.0 ∷ 0 ∷ 0 ∷ options ∷ [] }
-{
-    let tsn = v.tsn;
-    let a = source as usize;
-    let b = v.tag as usize;
-    let c = v.window as usize;
-    let d = v.outs as usize;
-    let e = v.ins as usize;
-    let f = tsn.0 as usize;
-    let g = options as usize;
-    *told = [1, a, b, c, d, e, f, 0, 0, g];
-}
+use numbers::Refusal;
 
 // Told: kind (1 an INIT, 2 a COOKIE ECHO, else 0), the port that it came from, tag, window, streams out and in, first TSN; where the cookie stands, and its length; the
 // options that are offered.
-fn tell(p: Peeked, told: &mut [usize; 10]) -> u32
-    ensures { (result ≡ seen_number p) × (told.new ≡ seen_words p) }
+fn words_of(seen: Result<Option<Peeked>, Refusal>) -> [usize; 10]
+    ensures { result ≡ seen_words (numbered seen) }
 {
-    match p {
-        Peeked::Refused(n) => {
-            *told = [0; 10];
-            return n as u32;
-        }
-        Peeked::Nothing => {
-            *told = [0; 10];
-            return 0;
-        }
-        Peeked::Init(v, source, options) => {
-            tell_init(v, source, options, told);
-            return 0;
-        }
-        Peeked::Echo(at, len) => {
-            *told = [2, 0, 0, 0, 0, 0, 0, at, len, 0];
-            return 0;
-        }
+    match seen {
+        Ok(Some(Peeked::Init(v, source, options))) => [
+            1,
+            usize::from(source),
+            v.tag as usize,
+            v.window as usize,
+            usize::from(v.outs),
+            usize::from(v.ins),
+            v.tsn.0 as usize,
+            0,
+            0,
+            usize::from(options),
+        ],
+        Ok(Some(Peeked::Echo(at, len))) => [2, 0, 0, 0, 0, 0, 0, at, len, 0],
+        Ok(None) | Err(_) => [0; 10],
     }
 }
 
@@ -49,6 +33,10 @@ fn tell(p: Peeked, told: &mut [usize; 10]) -> u32
 pub extern "C" fn ow_lent_peek(packet: &[u8], told: &mut [usize; 10]) -> u32
     ensures { (result ≡ seen_number (peeked packet.now)) × (told.new ≡ seen_words (peeked packet.now)) }
 {
-    let p = calls::peek(packet);
-    tell(p, told)
+    let seen = calls::peek(packet);
+    *told = words_of(seen);
+    match seen {
+        Ok(_) => 0,
+        Err(refusal) => u32::from(refusal.number()),
+    }
 }
