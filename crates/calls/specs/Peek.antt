@@ -13,9 +13,9 @@ use Rattle.calls.specs.declared.peeking.Peeked.{Peeked}
 use Rattle.calls.specs.declared.peeking.Peeked.TheVariants.{Init, Echo}
 
 -- what is refused, told by its number
-abbrev pub numbered : {A : Type 0} → Result A Refusal → Result A ℕ
-numbered (Ok x) = Ok x
-numbered (Err r) = Err (refusal_number r)
+abbrev pub told_by_number : {A : Type 0} → Result A Refusal → Result A ℕ
+told_by_number (Ok x) = Ok x
+told_by_number (Err r) = Err (refusal_number r)
 
 -- the number of 01 for what was seen
 abbrev pub peeked_number : Result (Option Peeked) ℕ → ℕ

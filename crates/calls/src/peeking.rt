@@ -1,6 +1,6 @@
 // What the host must know of a packet before it arrives.
 ghost use Rattle.std.specs.Prelude.{◌≡◌};
-ghost use Rattle.calls.specs.Peek.{numbered, peeked_in, peeked};
+ghost use Rattle.calls.specs.Peek.{told_by_number, peeked_in, peeked};
 
 use chunks::init::Init;
 use chunks::types;
@@ -33,7 +33,7 @@ fn see(packet: &[u8], s: &[u8]) -> Option<Peeked>
 
 // The first of 2, 3, 5, 6 that holds, or what the first chunk is, if it is one that the host must know of.
 pub fn peek(packet: &[u8]) -> Result<Option<Peeked>, Refusal>
-    ensures { numbered result ≡ peeked packet.now }
+    ensures { told_by_number result ≡ peeked packet.now }
 {
     packets::check_packet(packet)?;
     Ok(see(packet, octets::part(packet, 12, packet.len())))

@@ -1,6 +1,6 @@
 // What the host must know of a packet before it arrives.
 ghost use Rattle.std.specs.Prelude.{◌≡◌};
-ghost use Rattle.calls.specs.Peek.{numbered, peeked};
+ghost use Rattle.calls.specs.Peek.{told_by_number, peeked};
 ghost use Rattle.face.specs.FacePeek.{seen_number, seen_words};
 
 use calls::Peeked;
@@ -9,7 +9,7 @@ use numbers::Refusal;
 // Told: kind (1 an INIT, 2 a COOKIE ECHO, else 0), the port that it came from, tag, window, streams out and in, first TSN; where the cookie stands, and its length; the
 // options that are offered.
 fn words_of(seen: Result<Option<Peeked>, Refusal>) -> [usize; 10]
-    ensures { result ≡ seen_words (numbered seen) }
+    ensures { result ≡ seen_words (told_by_number seen) }
 {
     match seen {
         Ok(Some(Peeked::Init(v, source, options))) => [

@@ -40,16 +40,16 @@ grown-none n hex e = rw e (go (ltb 4294967295 n))
 pub record WordsPassing (s : List ℕ) (k i : ℕ) (left : List ℕ) : Type 0 where
   pub rest : past_words (k - i) left ≡ past_words k s
 
-pub pass-start : (s : List ℕ) (k : ℕ) → WordsPassing s k 0 s
-pass-start s k = record { rest = upto-start (λ (j : ℕ). past_words j s) k refl }
+pub words-start : (s : List ℕ) (k : ℕ) → WordsPassing s k 0 s
+words-start s k = record { rest = upto-start (λ (j : ℕ). past_words j s) k refl }
 
 module _ {s : List ℕ} {k i : ℕ} {left : List ℕ} (w : WordsPassing s k i left) where
-  pub pass-more : i < k → {next : List ℕ} → next ≡ rest_of left → WordsPassing s k (i + 1) next
-  pass-more h e = record { rest = ap (past_words (k - (i + 1))) e ∙ upto-one (λ (j : ℕ). past_words j left) k i w.rest h }
+  pub words-more : i < k → {next : List ℕ} → next ≡ rest_of left → WordsPassing s k (i + 1) next
+  words-more h e = record { rest = ap (past_words (k - (i + 1))) e ∙ upto-one (λ (j : ℕ). past_words j left) k i w.rest h }
 
   -- at most 7
-  pub pass-end : k ≤ i → (n : ℕ) → k ≡ min n 7 → left ≡ past_words (pick (ltb n 7) n 7) s
-  pass-end h n e =
+  pub words-end : k ≤ i → (n : ℕ) → k ≡ min n 7 → left ≡ past_words (pick (ltb n 7) n 7) s
+  words-end h n e =
       let m : min n 7 ≡ pick (ltb n 7) n 7 = pick_less (λ (c : ℕ). min n 7 ≡ c) n 7 n 7 (λ h. omega arith) (λ h. omega arith) in
       upto-end (λ (j : ℕ). past_words j left) k i w.rest h ∙ ap (λ (j : ℕ). past_words j s) (e ∙ m)
 

@@ -1,14 +1,8 @@
--- The smaller and the larger of two numbers as the library's methods name them, and caps of sums that stop at a word's top. Assumes nothing.
+-- Caps of sums that stop at a word's top, and how far two numbers are apart. Assumes nothing.
 use Rattle.std.specs.Prelude.{ℕ, ◌+◌, ◌-◌, ◌*◌, ◌^◌, ◌<◌, ◌≡◌, min, max}
 use Rattle.std.proofs.Common.{arith}
-use Rattle.scans.specs.Upto.{smaller, larger, pick_less}
+use Rattle.scans.specs.Upto.{smaller, larger, min-smaller, max-larger}
 use Rattle.path.specs.Clock.{apart}
-
-pub max-larger : (a b : ℕ) → max a b ≡ larger a b
-max-larger a b = pick_less (λ c. max a b ≡ c) a b b a (λ h. omega arith) (λ h. omega arith)
-
-pub min-smaller : (a b : ℕ) → min a b ≡ smaller a b
-min-smaller a b = pick_less (λ c. min a b ≡ c) a b a b (λ h. omega arith) (λ h. omega arith)
 
 -- a sum that stops at a word's top, capped below it
 pub sum-capped : (a b cap : ℕ) → cap < 2 ^ 32 → min (min (a + b) (2 ^ 32 - 1)) cap ≡ smaller (a + b) cap

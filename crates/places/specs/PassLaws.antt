@@ -166,7 +166,3 @@ module _ (from : Tsn) (limit : ℕ) (p : Place) (e : gets from limit p ≡ false
   unfolding reaches_three
   unreached = rw e
 
--- a flag that is raised with no branch
-pub or-either : (a b : Bool) → (a || b) ≡ either a b
-or-either true b = refl
-or-either false b = refl

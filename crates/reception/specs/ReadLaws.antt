@@ -93,11 +93,6 @@ module _ {hs : List Held} {m : ℕ} {seen : List Bool} {i : ℕ} (w : Checking h
       go true q (inl r) = clash (sym r ∙ q)
       go true q (inr r) = check-noted (read_same w h u g e s r q refl) l
 
--- the code's own "or"
-pub or_either : (a b : Bool) → (a || b) ≡ either a b
-or_either true b = refl
-or_either false b = refl
-
 -- the answer of a test, turned round
 pub not-pick : (b : Bool) → not b ≡ pick b false true
 not-pick true = refl

@@ -6,7 +6,7 @@ use borrow.Author.Tests.{eq-eqb, ne_eqb}
 use Rattle.numbers.specs.Profile.{rail}
 use Rattle.scans.specs.Upto.{larger, top_start, top-more, top-end}
 use Rattle.scans.specs.Scan.{sum-start, sum_more, sum-end}
-use Rattle.path.specs.LeastLaws.{max-larger}
+use Rattle.scans.specs.Upto.{max-larger}
 use Rattle.places.specs.declared.place.Place.{Place}
 use Rattle.places.specs.Sack.{place_settled}
 use Rattle.places.specs.PassLaws.{taken-newly, taken-highest, free_bytes, free-offset, same_bytes, same-offset}

@@ -1,6 +1,6 @@
 use Rattle.std.proofs.Common.{◌∙◌, arith}
 use Rattle.chunks.specs.Frame.{chunk_end}
-use Rattle.chunks.specs.FrameLaws.{min-smaller}
+use Rattle.scans.specs.Upto.{min-smaller}
 use Rattle.chunks.proofs.frame.end.Goals as goal
 
 pub returns : goal.returns

@@ -1,6 +1,6 @@
 use Rattle.std.proofs.Common.{◌∙◌, arith}
 use Rattle.chunks.specs.SackChunk.{blocks_listed}
-use Rattle.chunks.specs.FrameLaws.{min-smaller}
+use Rattle.scans.specs.Upto.{min-smaller}
 use Rattle.chunks.proofs.sack.count_in.Goals as goal
 
 pub returns : goal.returns

@@ -5,14 +5,14 @@ use borrow.Author.Rules.{rules}
 use mir.Facts.{Fits-le, Fits-lit}
 use Rattle.numbers.specs.Numbering.{ring}
 use Rattle.numbers.specs.Profile.{rail}
-use Rattle.scans.specs.Scan.{either}
+use Rattle.scans.specs.Scan.{either, or_either}
 use Rattle.holding.specs.declared.held.Held.{Held}
 use Rattle.tables.specs.HeldWords.{held_of}
 use Rattle.tables.specs.HeldWordsLaws.{held-long}
 use Rattle.taking.specs.FreeLaws.{used-at}
 use Rattle.delivery.specs.LowLaws.{low_by}
 use Rattle.delivery.specs.LookLaws.{look-start, look-end}
-use Rattle.reception.specs.ReadLaws.{read-used, look-next, look-last, or_either}
+use Rattle.reception.specs.ReadLaws.{read-used, look-next, look-last}
 use Rattle.reception.proofs.arrival.look_for.Goals as goal
 
 pub loop-place-init : goal.loop-place-init

@@ -1,7 +1,8 @@
 use Rattle.std.proofs.Common.{◌≡◌, ◌∙◌}
 use Rattle.scans.specs.Upto.{smaller}
 use Rattle.path.specs.Clock.{clock_sampled, apart}
-use Rattle.path.specs.LeastLaws.{min-smaller, diff-apart}
+use Rattle.scans.specs.Upto.{min-smaller}
+use Rattle.path.specs.LeastLaws.{diff-apart}
 use Rattle.path.proofs.clock.Clock.sampled.Goals as goal
 
 pub returns-then-self : goal.returns-then-self

@@ -1,7 +1,8 @@
 use Rattle.std.proofs.Common.{◌≡◌, ℕ, ◌+◌, ◌-◌, ◌*◌, ◌^◌, min, max, ap, ◌∙◌, lit<}
 use Rattle.scans.specs.Upto.{smaller, larger}
 use Rattle.path.specs.Clock.{timed}
-use Rattle.path.specs.LeastLaws.{max-larger, four-clamped}
+use Rattle.scans.specs.Upto.{max-larger}
+use Rattle.path.specs.LeastLaws.{four-clamped}
 use Rattle.path.proofs.clock.Clock.timed.Goals as goal
 
 pub returns : goal.returns

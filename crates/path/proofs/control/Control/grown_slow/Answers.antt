@@ -2,7 +2,8 @@ use Rattle.std.proofs.Common.{◌≡◌, ℕ, ◌+◌, min, ap, ◌∙◌, lit<}
 use Rattle.scans.specs.Upto.{smaller}
 use Rattle.path.specs.Sizes.{sizes_of}
 use Rattle.path.specs.Control.{grown_slow}
-use Rattle.path.specs.LeastLaws.{min-smaller, sum-capped}
+use Rattle.scans.specs.Upto.{min-smaller}
+use Rattle.path.specs.LeastLaws.{sum-capped}
 use Rattle.path.proofs.control.Control.grown_slow.Goals as goal
 
 pub returns : goal.returns

@@ -2,7 +2,8 @@ use borrow.Author.Tests.{lt-ltb, le-ltb}
 use Rattle.std.proofs.Common.{◌≡◌, ℕ, ◌+◌, min, ap, ◌∙◌, lit<}
 use Rattle.scans.specs.Upto.{smaller}
 use Rattle.path.specs.Control.{grown_steady}
-use Rattle.path.specs.LeastLaws.{min-smaller, sum-capped}
+use Rattle.scans.specs.Upto.{min-smaller}
+use Rattle.path.specs.LeastLaws.{sum-capped}
 use Rattle.path.proofs.control.Control.grown_steady.Goals as goal
 
 pub returns-then-flight-self : goal.returns-then-flight-self

@@ -2,7 +2,7 @@ use Rattle.std.proofs.Common.{◌≡◌, ◌/◌, ◌∙◌}
 use Rattle.scans.specs.Upto.{larger}
 use Rattle.path.specs.Sizes.{sizes_of}
 use Rattle.path.specs.Control.{halved}
-use Rattle.path.specs.LeastLaws.{max-larger}
+use Rattle.scans.specs.Upto.{max-larger}
 use Rattle.path.proofs.control.Control.halved.Goals as goal
 
 pub returns : goal.returns
