@@ -4,7 +4,7 @@
 
 use numbers::{Distance, Judgement, Ssn, Tsn};
 use octets::part;
-use pages::page::{compare, same, say, say_named, say_number, say_packet, say_unread, text};
+use pages::page::{compare, say, say_named, say_number, say_packet, say_unread, text};
 use pages::reading::{
     deed, first, is_heading, line_after, line_at, rest, should, spell, value16, value32,
 };
@@ -14,67 +14,71 @@ const STANDARD_INPUT: i32 = 0;
 
 // ---- the checksum
 
+// The packet that a line spells behind its verb, in a buffer.
+fn packet_in<'a>(line: &[u8], buffer: &'a mut [u8]) -> &'a [u8] {
+    let n = spell(rest(line), buffer, 0);
+    part(buffer, 0, n)
+}
+
 // crc BYTES: the checksum as its four bytes stand on the wire
 fn say_crc(line: &[u8], right: &[u8]) -> usize {
-    let mut buf = [0u8; 64];
-    let n = spell(rest(line), &mut buf, 0);
+    let mut buffer = [0u8; 64];
+    let sum = crc32c::crc32c(packet_in(line, &mut buffer));
     let mut packet = [0u8; 12];
-    crc32c::put_checksum(&mut packet, crc32c::crc32c(part(&buf, 0, n)));
+    crc32c::put_checksum(&mut packet, sum);
     let a = say(right, 0, b"sum");
-    say_packet(right, a, part(&packet, 8, 4))
+    say_packet(right, a, &packet[8..])
 }
 
 // sealed BYTES: whether the packet's own field has its checksum
 fn say_sealed(line: &[u8], right: &[u8]) -> usize {
-    let mut buf = [0u8; 64];
-    let n = spell(rest(line), &mut buf, 0);
-    say_number(right, 0, crc32c::is_sealed(part(&buf, 0, n)) as u64)
+    let mut buffer = [0u8; 64];
+    let is_sealed = crc32c::is_sealed(packet_in(line, &mut buffer));
+    say_number(right, 0, u64::from(is_sealed))
 }
 
 // seals BYTES: the packet with its checksum in its own field
 fn say_sealing(line: &[u8], right: &[u8]) -> usize {
-    let mut buf = [0u8; 64];
-    let n = spell(rest(line), &mut buf, 0);
-    let sum = crc32c::packet_crc(part(&buf, 0, n));
-    crc32c::put_checksum(&mut buf, sum);
+    let mut buffer = [0u8; 64];
+    let n = spell(rest(line), &mut buffer, 0);
+    let sum = crc32c::packet_crc(part(&buffer, 0, n));
+    crc32c::put_checksum(&mut buffer, sum);
     let a = say(right, 0, b"packet");
-    say_packet(right, a, part(&buf, 0, n))
+    say_packet(right, a, part(&buffer, 0, n))
 }
 
 // ---- the circles
 
-fn say_distance(right: &[u8], d: Distance) -> usize {
-    match d {
-        Distance::Ahead(n) => say_named(right, 0, b"+", n as u64),
-        Distance::Behind(n) => say_named(right, 0, b"-", n as u64),
+fn say_distance(right: &[u8], distance: Distance) -> usize {
+    match distance {
+        Distance::Ahead(n) => say_named(right, 0, b"+", u64::from(n)),
+        Distance::Behind(n) => say_named(right, 0, b"-", u64::from(n)),
         Distance::Opposite => say(right, 0, b"opposite"),
     }
 }
 
 // tsns FROM TO: the distance
 fn say_tsns(line: &[u8], right: &[u8]) -> usize {
-    let a = Tsn(value32(line, 1));
-    say_distance(right, a.distance(Tsn(value32(line, 2))))
+    let from = Tsn(value32(line, 1));
+    say_distance(right, from.distance(Tsn(value32(line, 2))))
 }
 
 // ssns FROM TO: the distance
 fn say_ssns(line: &[u8], right: &[u8]) -> usize {
-    let a = Ssn(value16(line, 1));
-    say_distance(right, a.distance(Ssn(value16(line, 2))))
+    let from = Ssn(value16(line, 1));
+    say_distance(right, from.distance(Ssn(value16(line, 2))))
 }
 
 // tsn FROM STEPS: the number so many steps on
 fn say_tsn(line: &[u8], right: &[u8]) -> usize {
-    let a = Tsn(value32(line, 1));
-    let b = a.after(value32(line, 2));
-    say_number(right, 0, b.0 as u64)
+    let from = Tsn(value32(line, 1));
+    say_number(right, 0, u64::from(from.after(value32(line, 2)).0))
 }
 
 // ssn FROM STEPS: the number so many steps on
 fn say_ssn(line: &[u8], right: &[u8]) -> usize {
-    let a = Ssn(value16(line, 1));
-    let b = a.after(value16(line, 2));
-    say_number(right, 0, b.0 as u64)
+    let from = Ssn(value16(line, 1));
+    say_number(right, 0, u64::from(from.after(value16(line, 2)).0))
 }
 
 // judge TSN FROM ROOM
@@ -82,46 +86,26 @@ fn say_judged(line: &[u8], right: &[u8]) -> usize {
     let from = Tsn(value32(line, 2));
     match from.judge(Tsn(value32(line, 1)), value32(line, 3)) {
         Judgement::AtOrBehind => say(right, 0, b"at or behind"),
-        Judgement::AheadWithin(n) => say_named(right, 0, b"within ", n as u64),
-        Judgement::AheadBeyond(n) => say_named(right, 0, b"beyond ", n as u64),
+        Judgement::AheadWithin(n) => say_named(right, 0, b"within ", u64::from(n)),
+        Judgement::AheadBeyond(n) => say_named(right, 0, b"beyond ", u64::from(n)),
         Judgement::AtOpposite => say(right, 0, b"opposite"),
     }
 }
 
 // ---- the lines
 
-fn say_numbers(line: &[u8], right: &[u8]) -> usize {
-    let w = first(line);
-    if same(w, b"tsns") {
-        return say_tsns(line, right);
-    }
-    if same(w, b"ssns") {
-        return say_ssns(line, right);
-    }
-    if same(w, b"tsn") {
-        return say_tsn(line, right);
-    }
-    if same(w, b"ssn") {
-        return say_ssn(line, right);
-    }
-    if same(w, b"judge") {
-        return say_judged(line, right);
-    }
-    say_unread(right)
-}
-
 fn say_done(line: &[u8], right: &[u8]) -> usize {
-    let w = first(line);
-    if same(w, b"crc") {
-        return say_crc(line, right);
+    match first(line) {
+        b"crc" => say_crc(line, right),
+        b"sealed" => say_sealed(line, right),
+        b"seals" => say_sealing(line, right),
+        b"tsns" => say_tsns(line, right),
+        b"ssns" => say_ssns(line, right),
+        b"tsn" => say_tsn(line, right),
+        b"ssn" => say_ssn(line, right),
+        b"judge" => say_judged(line, right),
+        _ => say_unread(right),
     }
-    if same(w, b"sealed") {
-        return say_sealed(line, right);
-    }
-    if same(w, b"seals") {
-        return say_sealing(line, right);
-    }
-    say_numbers(line, right)
 }
 
 fn turn(line: &[u8]) {
@@ -138,7 +122,8 @@ fn turn(line: &[u8]) {
 }
 
 fn run(script: &[u8]) {
-    let mut at: usize = 0;
+    let mut at = 0;
+    // No range or iterator of the library steps to where the next line begins.
     while at < script.len() {
         turn(line_at(script, at));
         at = line_after(script, at);
@@ -148,5 +133,5 @@ fn run(script: &[u8]) {
 fn main() {
     let mut script = [0u8; 65536];
     let n = io::read_full(STANDARD_INPUT, &mut script);
-    run(part(&script, 0, n));
+    run(&script[..n]);
 }
