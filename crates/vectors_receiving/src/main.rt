@@ -3,16 +3,14 @@
 // U, B, E that are set, or -; every byte of its payload is its TSN modulo 251. 128 streams are agreed.
 #![tactic(auto)]
 
-ghost use Rattle.std.specs.Prelude.{◌≤◌};
-
-use delivery::{Sack, Verdict};
+use delivery::Verdict;
 use holding::{Answer, Chunk, Held, Message};
-use incoming::{Came, Incoming};
+use incoming::Incoming;
 use numbers::{Blocks, Rail, Ssn, StreamId, Tsn};
-use octets::{get8, part, put_all};
-use pages::page::{compare, same, say, say_answer, say_named, say_number, say_unread, text};
+use octets::{get8, part};
+use pages::page::{compare, say, say_answer, say_named, say_number, say_unread, text};
 use pages::reading::{
-    deed, find, first, is_heading, line_after, line_at, rest, should, value16, value32, word,
+    deed, first, is_heading, line_after, line_at, rest, should, value16, value32, word,
 };
 
 // The descriptor of the standard input.
@@ -23,17 +21,13 @@ const AREA: usize = 65536;
 
 // ---- a chunk
 
-fn has(flags: &[u8], letter: u8) -> bool {
-    find(flags, 0, letter) < flags.len()
-}
-
 // The chunk behind a word, at a number.
 fn chunk(line: &[u8], tsn: Tsn) -> Chunk {
     let flags = word(line, 2);
     Chunk {
-        begin: has(flags, b'B'),
-        end: has(flags, b'E'),
-        unordered: has(flags, b'U'),
+        begin: flags.contains(&b'B'),
+        end: flags.contains(&b'E'),
+        unordered: flags.contains(&b'U'),
         tsn,
         stream: StreamId(value16(line, 3)),
         ssn: Ssn(value16(line, 4)),
@@ -55,296 +49,180 @@ fn number_of(v: Verdict) -> u8 {
     }
 }
 
-fn deliver(r: Incoming, area: &mut [u8; AREA], line: &[u8], tsn: Tsn) -> Came {
+// The number that the chunk is answered.
+fn deliver(r: &mut Incoming, area: &mut [u8; AREA], line: &[u8], tsn: Tsn) -> u8 {
     let payload = [(tsn.0 % 251) as u8; 513];
-    let n = value16(line, 5) as usize;
-    incoming::arrive(r, area, chunk(line, tsn), part(&payload, 0, n), 128)
+    let n = usize::from(value16(line, 5));
+    let came = incoming::arrive(*r, area, chunk(line, tsn), part(&payload, 0, n), 128);
+    *r = came.incoming;
+    number_of(came.verdict)
 }
 
 // arrives CHUNK: its number
-fn arrives(r: Incoming, area: &mut [u8; AREA], line: &[u8], right: &[u8]) -> Incoming {
-    let a = deliver(r, area, line, Tsn(value32(line, 1)));
-    let v = a.verdict;
-    compare(right, say_answer(right, 0, number_of(v)));
-    a.incoming
-}
-
-// How many had the same number in a row.
-fn counted(alike: u32, again: bool) -> u32 {
-    if again {
-        return std::num::wrapping_add_u32(alike, 1);
-    }
-    1
-}
-
-fn say_filled(right: &[u8], alike: u32, number: u8) -> usize {
-    let a = say_number(right, 0, alike as u64);
-    let b = say(right, a, b" ");
-    say_answer(right, b, number)
+fn say_arrival(r: &mut Incoming, area: &mut [u8; AREA], line: &[u8], right: &[u8]) -> usize {
+    say_answer(right, 0, deliver(r, area, line, Tsn(value32(line, 1))))
 }
 
 // fills CHUNK TIMES, from its TSN on: the number of the last, and how many up to it had the same
-fn fills(
-    r0: Incoming,
-    area: &mut [u8; AREA],
-    line: &[u8],
-    right: &[u8],
-    start: Tsn,
-    times: u32,
-) -> Incoming {
-    let mut r = r0;
-    let mut number: u8 = 0;
+fn say_filled(r: &mut Incoming, area: &mut [u8; AREA], line: &[u8], right: &[u8]) -> usize {
+    let start = Tsn(value32(line, 1));
+    let mut last = 0;
     let mut alike: u32 = 0;
-    let mut i: u32 = 0;
-    while i < times {
-        let a = deliver(r, area, line, start.after(i));
-        let v = a.verdict;
-        let n = number_of(v);
-        alike = counted(alike, n == number);
-        number = n;
-        r = a.incoming;
-        i += 1;
+    for i in 0..value32(line, 7) {
+        let number = deliver(r, area, line, start.after(i));
+        alike = if number == last {
+            alike.wrapping_add(1)
+        } else {
+            1
+        };
+        last = number;
     }
-    compare(right, say_filled(right, alike, number));
-    r
+    let a = say_number(right, 0, u64::from(alike));
+    let b = say(right, a, b" ");
+    say_answer(right, b, last)
 }
 
 // ---- a take
 
-fn last_of(out: &[u8; AREA], n: usize) -> u8 {
-    if 0 < n {
-        return get8(out, n - 1);
-    }
-    0
-}
-
 // Its first byte, and its last.
 fn say_bytes(right: &[u8], at: usize, out: &[u8; AREA], n: usize) -> usize {
-    let a = say_named(right, at, b" bytes ", get8(out, 0) as u64);
-    say_named(right, a, b" to ", last_of(out, n) as u64)
+    let last = n.checked_sub(1).map_or(0, |i| get8(out, i));
+    let a = say_named(right, at, b" bytes ", u64::from(out[0]));
+    say_named(right, a, b" to ", u64::from(last))
 }
 
-fn say_message(right: &[u8], at: usize, m: Message) -> usize {
-    let stream = m.stream;
-    let ssn = m.ssn;
-    let a = say_named(right, at, b" stream ", stream.0 as u64);
-    let b = say_named(right, a, b" unordered ", m.unordered as u64);
-    let c = say_named(right, b, b" SSN ", ssn.0 as u64);
-    say_named(right, c, b" PPID ", m.ppid as u64)
+fn say_message(right: &[u8], at: usize, m: &Message) -> usize {
+    let a = say_named(right, at, b" stream ", u64::from(m.stream.0));
+    let b = say_named(right, a, b" unordered ", u64::from(m.unordered));
+    let c = say_named(right, b, b" SSN ", u64::from(m.ssn.0));
+    say_named(right, c, b" PPID ", u64::from(m.ppid))
 }
 
-fn say_given(right: &[u8], m: Message, out: &[u8; AREA]) -> usize {
+fn say_given(right: &[u8], m: &Message, out: &[u8; AREA]) -> usize {
     let a = say_named(right, 0, b"ok of ", m.length as u64);
     let b = say_message(right, a, m);
     say_bytes(right, b, out, m.length)
 }
 
-fn say_taken(right: &[u8], a: Answer, out: &[u8; AREA]) -> usize {
-    match a {
-        Answer::Taken(m) => say_given(right, m, out),
+// takes ROOM: the number, and the message; of 18 the length needed
+fn say_take(r: &mut Incoming, area: &[u8; AREA], line: &[u8], right: &[u8]) -> usize {
+    let mut out = [0u8; AREA];
+    let room = AREA.min(value32(line, 1) as usize);
+    let took = incoming::take(*r, area, &mut out[..room]);
+    *r = took.incoming;
+    match took.answer {
+        Answer::Taken(m) => say_given(right, &m, &out),
         Answer::Nothing => say_answer(right, 0, 17),
         Answer::Short(n) => say_named(right, 0, b"no 18 of ", n as u64),
     }
 }
 
-fn room_of(line: &[u8]) -> usize
-    ensures { result ≤ 65536 }
-{
-    let n = value32(line, 1);
-    if n < 65536 {
-        return n as usize;
-    }
-    AREA
-}
-
-// takes ROOM: the number, and the message; of 18 the length needed
-fn takes(r: Incoming, area: &[u8; AREA], line: &[u8], right: &[u8]) -> Incoming {
-    let mut out = [0u8; AREA];
-    let room = room_of(line);
-    let t = incoming::take(r, area, &mut out[0..room]);
-    let a = t.answer;
-    compare(right, say_taken(right, a, &out));
-    t.incoming
-}
-
 // ---- a SACK
 
-fn say_block(right: &[u8], at: usize, start: u16, end: u16) -> usize {
-    let a = say_named(right, at, b" ", start as u64);
-    say_named(right, a, b"-", end as u64)
-}
-
-fn say_blocks(right: &[u8], at: usize, b: Blocks) -> usize {
-    let count = b.count;
-    let mut to = say_named(right, at, b" blocks ", count as u64);
-    let mut i: usize = 0;
-    while i < Rail::BLOCKS {
-        if i < count {
-            to = say_block(right, to, b.starts[i], b.ends[i]);
-            i += 1;
-        } else {
-            i += 1;
-        }
+fn say_blocks(right: &[u8], at: usize, blocks: &Blocks) -> usize {
+    let mut to = say_named(right, at, b" blocks ", blocks.count as u64);
+    for (start, end) in blocks.starts.iter().zip(&blocks.ends).take(blocks.count) {
+        let a = say_named(right, to, b" ", u64::from(*start));
+        to = say_named(right, a, b"-", u64::from(*end));
     }
     to
 }
 
-fn say_tsn(right: &[u8], at: usize, t: Tsn) -> usize {
-    say_named(right, at, b" ", t.0 as u64)
-}
-
-fn say_dups(right: &[u8], at: usize, dups: [Tsn; Rail::LISTED], listed: usize) -> usize {
+fn say_dups(right: &[u8], at: usize, dups: &[Tsn; Rail::LISTED], listed: usize) -> usize {
     let mut to = say_named(right, at, b" duplicates ", listed as u64);
-    let mut i: usize = 0;
-    while i < Rail::LISTED {
-        if i < listed {
-            let t = dups[i];
-            to = say_tsn(right, to, t);
-            i += 1;
-        } else {
-            i += 1;
-        }
+    for tsn in dups.iter().take(listed) {
+        to = say_named(right, to, b" ", u64::from(tsn.0));
     }
     to
-}
-
-fn say_sack(right: &[u8], k: Sack) -> usize {
-    let point = k.point;
-    let blocks = k.blocks;
-    let dups = k.dups;
-    let a = say_named(right, 0, b"point ", point.0 as u64);
-    let b = say_named(right, a, b" window ", k.window as u64);
-    let c = say_blocks(right, b, blocks);
-    say_dups(right, c, dups, k.listed)
 }
 
 // sacks: the point, the window, how many blocks and each, how many duplicates and each
-fn sacks(r: Incoming, right: &[u8]) -> Incoming {
-    let a = incoming::sack(r);
-    let k = a.sack;
-    compare(right, say_sack(right, k));
-    a.incoming
+fn say_sack(r: &mut Incoming, right: &[u8]) -> usize {
+    let told = incoming::sack(*r);
+    *r = told.incoming;
+    let sack = told.sack;
+    let a = say_named(right, 0, b"point ", u64::from(sack.point.0));
+    let b = say_named(right, a, b" window ", u64::from(sack.window));
+    let c = say_blocks(right, b, &sack.blocks);
+    say_dups(right, c, &sack.dups, sack.listed)
 }
 
 // ---- the bounds
 
-fn number_bounded(sound: bool) -> u8 {
-    if sound {
-        return 0;
-    }
-    1
-}
-
 // bounds: 1 where the record is outside them
-fn bounds(r: Incoming, right: &[u8]) -> Incoming {
-    let keeping = r.keeping;
-    let sound = reception::bounds::is_sound(keeping, &r.held);
-    compare(right, say_answer(right, 0, number_bounded(sound)));
-    r
+fn say_bounds(r: &Incoming, right: &[u8]) -> usize {
+    let is_sound = reception::bounds::is_sound(r.keeping, &r.held);
+    say_answer(right, 0, u8::from(!is_sound))
 }
 
 // ---- records of a line's own making
 
-// fresh TSN: the peer's first
-fn fresh(area: &mut [u8; AREA], line: &[u8]) -> Incoming {
-    put_all(area, 0, &[0u8; AREA]);
-    Incoming::fresh(Tsn(value32(line, 1)))
-}
-
 // expects STREAM SSN
-fn expects(mut r: Incoming, line: &[u8]) -> Incoming {
-    let i = value16(line, 1) as usize;
-    tables::ssns::put_ssn(&mut r.next, i, Ssn(value16(line, 2)));
-    r
+fn expect(r: &mut Incoming, line: &[u8]) {
+    let stream = usize::from(value16(line, 1));
+    tables::ssns::put_ssn(&mut r.next, stream, Ssn(value16(line, 2)));
 }
 
 // holds PLACE CHUNK: it is not marked come
-fn holds(mut r: Incoming, line: &[u8]) -> Incoming {
-    let i = value16(line, 1) as usize;
+fn hold(r: &mut Incoming, line: &[u8]) {
+    let place = usize::from(value16(line, 1));
     let behind = rest(line);
-    let h = Held::of(chunk(behind, Tsn(value32(behind, 1))), value16(behind, 5));
-    tables::held::put_held(&mut r.held, i, h);
-    r
+    let held = Held::of(chunk(behind, Tsn(value32(behind, 1))), value16(behind, 5));
+    tables::held::put_held(&mut r.held, place, held);
 }
 
-fn prepared(r: Incoming, area: &mut [u8; AREA], line: &[u8]) -> Incoming {
-    let w = first(line);
-    if same(w, b"fresh") {
-        return fresh(area, line);
+// fresh TSN, of the peer's first; or one of the two above
+fn prepare(r: &mut Incoming, area: &mut [u8; AREA], line: &[u8]) {
+    match first(line) {
+        b"fresh" => {
+            *area = [0; AREA];
+            *r = Incoming::fresh(Tsn(value32(line, 1)));
+        }
+        b"expects" => expect(r, line),
+        b"holds" => hold(r, line),
+        _ => text(b" unread"),
     }
-    if same(w, b"expects") {
-        return expects(r, line);
-    }
-    if same(w, b"holds") {
-        return holds(r, line);
-    }
-    text(b" unread");
-    r
 }
 
 // ---- the lines
 
-fn unread(r: Incoming, right: &[u8]) -> Incoming {
-    compare(right, say_unread(right));
-    r
-}
-
-fn arrived(r: Incoming, area: &mut [u8; AREA], line: &[u8], right: &[u8]) -> Incoming {
-    let w = first(line);
-    if same(w, b"arrives") {
-        return arrives(r, area, line, right);
+fn say_done(r: &mut Incoming, area: &mut [u8; AREA], line: &[u8], right: &[u8]) -> usize {
+    match first(line) {
+        b"arrives" => say_arrival(r, area, line, right),
+        b"fills" => say_filled(r, area, line, right),
+        b"takes" => say_take(r, area, line, right),
+        b"sacks" => say_sack(r, right),
+        b"bounds" => say_bounds(r, right),
+        _ => say_unread(right),
     }
-    if same(w, b"fills") {
-        return fills(
-            r,
-            area,
-            line,
-            right,
-            Tsn(value32(line, 1)),
-            value32(line, 7),
-        );
-    }
-    unread(r, right)
-}
-
-fn performed(r: Incoming, area: &mut [u8; AREA], line: &[u8], right: &[u8]) -> Incoming {
-    let w = first(line);
-    if same(w, b"takes") {
-        return takes(r, area, line, right);
-    }
-    if same(w, b"sacks") {
-        return sacks(r, right);
-    }
-    if same(w, b"bounds") {
-        return bounds(r, right);
-    }
-    arrived(r, area, line, right)
 }
 
 // A line without a colon prepares a record.
-fn turn(r: Incoming, area: &mut [u8; AREA], line: &[u8]) -> Incoming {
+fn turn(r: &mut Incoming, area: &mut [u8; AREA], line: &[u8]) {
     if is_heading(line) {
         text(line);
         text(b"\n");
-        return r;
+        return;
     }
     let event = deed(line);
     text(event);
     if event.len() == line.len() {
-        let q = prepared(r, area, event);
+        prepare(r, area, event);
         text(b"\n");
-        return q;
+        return;
     }
     text(b": ");
-    performed(r, area, event, should(line))
+    let right = should(line);
+    compare(right, say_done(r, area, event, right));
 }
 
 fn run(script: &[u8]) {
     let mut area = [0u8; AREA];
     let mut r = Incoming::fresh(Tsn(0));
-    let mut at: usize = 0;
+    let mut at = 0;
+    // No range or iterator of the library steps to where the next line begins.
     while at < script.len() {
-        r = turn(r, &mut area, line_at(script, at));
+        turn(&mut r, &mut area, line_at(script, at));
         at = line_after(script, at);
     }
 }
@@ -352,5 +230,5 @@ fn run(script: &[u8]) {
 fn main() {
     let mut script = [0u8; 65536];
     let n = io::read_full(STANDARD_INPUT, &mut script);
-    run(part(&script, 0, n));
+    run(&script[..n]);
 }
