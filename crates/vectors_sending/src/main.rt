@@ -5,10 +5,10 @@
 use numbers::{Blocks, StreamId, Tsn};
 use octets::part;
 use outgoing::Outgoing;
-use pages::page::{compare, same, say_answer, say_named, say_number, say_unread, text};
+use pages::page::{compare, say_answer, say_named, say_number, say_unread, text};
 use pages::reading::{deed, first, is_heading, line_after, line_at, should, value16, value32};
 use path::{Clock, Control, Path};
-use places::{Chunk, Place};
+use places::Place;
 use sender::Sender;
 use sending::choosing::Load;
 use tables::place;
@@ -26,49 +26,36 @@ struct Sides {
 // ---- what is done
 
 // hands LENGTH STREAM UNORDERED PPID: the number, and its chunks
-fn hands(r: Outgoing, line: &[u8], right: &[u8]) -> Outgoing {
+fn say_handed(r: &mut Outgoing, line: &[u8], right: &[u8]) -> usize {
     let message = [7u8; 65537];
     let mut area = [0u8; 65536];
-    let n = value32(line, 1) as usize;
-    let h = outgoing::hand_in(
-        r,
+    let handed = outgoing::hand_in(
+        *r,
         &mut area,
-        part(&message, 0, n),
+        part(&message, 0, value32(line, 1) as usize),
         StreamId(value16(line, 2)),
         value16(line, 3) == 1,
         value32(line, 4),
         4,
     );
-    let a = say_answer(right, 0, h.number);
-    compare(right, say_named(right, a, b" chunks ", h.chunks as u64));
-    h.outgoing
+    *r = handed.outgoing;
+    let a = say_answer(right, 0, handed.number);
+    say_named(right, a, b" chunks ", handed.chunks as u64)
 }
 
-fn say_load(right: &[u8], l: Load) -> usize {
-    let first = l.first;
-    let last = l.last;
+fn say_load(right: &[u8], l: &Load) -> usize {
     let a = say_number(right, 0, l.count as u64);
-    let b = say_named(right, a, b" resent ", l.resent as u64);
-    let c = say_named(right, b, b" TSN ", first.0 as u64);
-    say_named(right, c, b" to ", last.0 as u64)
-}
-
-fn flight_of(s: Sender) -> u32 {
-    let p = s.path;
-    p.flight
+    let b = say_named(right, a, b" resent ", u64::from(l.resent));
+    let c = say_named(right, b, b" TSN ", u64::from(l.first.0));
+    say_named(right, c, b" to ", u64::from(l.last.0))
 }
 
 // sends: how many chunks, whether one is sent again, the first and the last TSN, and the flight after it
-fn sends(r: Outgoing, right: &[u8]) -> Outgoing {
-    let c = outgoing::choose(r);
-    let l = c.load;
-    let q = c.outgoing;
-    let a = say_load(right, l);
-    compare(
-        right,
-        say_named(right, a, b" flight ", flight_of(q.head) as u64),
-    );
-    q
+fn say_sent(r: &mut Outgoing, right: &[u8]) -> usize {
+    let chosen = outgoing::choose(*r);
+    *r = chosen.outgoing;
+    let a = say_load(right, &chosen.load);
+    say_named(right, a, b" flight ", u64::from(r.head.path.flight))
 }
 
 // COUNT START END START END, the fourth word on: so many blocks, of which two can be said
@@ -78,339 +65,197 @@ fn blocks_of(line: &[u8]) -> Blocks {
     b.ends[0] = value16(line, 5);
     b.starts[1] = value16(line, 6);
     b.ends[1] = value16(line, 7);
-    b.count = value16(line, 3) as usize;
+    b.count = usize::from(value16(line, 3));
     b
 }
 
 // acks POINT WINDOW BLOCKS: the number
-fn acks(r: Outgoing, line: &[u8], right: &[u8]) -> Outgoing {
-    let a = outgoing::acknowledge(r, Tsn(value32(line, 1)), value32(line, 2), blocks_of(line));
-    compare(right, say_answer(right, 0, a.number));
-    a.outgoing
+fn say_acknowledged(r: &mut Outgoing, line: &[u8], right: &[u8]) -> usize {
+    let a = outgoing::acknowledge(*r, Tsn(value32(line, 1)), value32(line, 2), blocks_of(line));
+    *r = a.outgoing;
+    say_answer(right, 0, a.number)
 }
 
 // shuts POINT: the number
-fn shuts(r: Outgoing, line: &[u8], right: &[u8]) -> Outgoing {
-    let a = outgoing::shutdown_point(r, Tsn(value32(line, 1)));
-    compare(right, say_answer(right, 0, a.number));
-    a.outgoing
+fn say_shut(r: &mut Outgoing, line: &[u8], right: &[u8]) -> usize {
+    let a = outgoing::shutdown_point(*r, Tsn(value32(line, 1)));
+    *r = a.outgoing;
+    say_answer(right, 0, a.number)
 }
 
 // t3: the number, and whether the association is over
-fn expires(r: Outgoing, right: &[u8]) -> Outgoing {
-    let e = outgoing::t3(r);
-    let a = say_answer(right, 0, e.number);
-    compare(right, say_named(right, a, b" over ", e.over as u64));
-    e.outgoing
+fn say_expired(r: &mut Outgoing, right: &[u8]) -> usize {
+    let expired = outgoing::t3(*r);
+    *r = expired.outgoing;
+    let a = say_answer(right, 0, expired.number);
+    say_named(right, a, b" over ", u64::from(expired.over))
 }
 
-// ---- what is asked
+// ---- what is asked, which changes nothing
 
-fn say_control(right: &[u8], at: usize, k: Control) -> usize {
-    let a = say_named(right, at, b" cwnd ", k.cwnd as u64);
-    let b = say_named(right, a, b" ssthresh ", k.ssthresh as u64);
-    say_named(right, b, b" partial ", k.partial as u64)
+fn say_control(right: &[u8], at: usize, k: &Control) -> usize {
+    let a = say_named(right, at, b" cwnd ", u64::from(k.cwnd));
+    let b = say_named(right, a, b" ssthresh ", u64::from(k.ssthresh));
+    say_named(right, b, b" partial ", u64::from(k.partial))
 }
 
-fn say_path(right: &[u8], p: Path) -> usize {
-    let k = p.control;
-    let a = say_named(right, 0, b"flight ", p.flight as u64);
-    let b = say_control(right, a, k);
-    say_named(right, b, b" recovery ", p.running as u64)
+// shows
+fn say_path(p: &Path, right: &[u8]) -> usize {
+    let a = say_named(right, 0, b"flight ", u64::from(p.flight));
+    let b = say_control(right, a, &p.control);
+    say_named(right, b, b" recovery ", u64::from(p.running))
 }
 
-fn say_clock(right: &[u8], k: Clock) -> usize {
-    let a = say_named(right, 0, b"RTO ", k.rto as u64);
-    let b = say_named(right, a, b" SRTT ", k.srtt as u64);
-    say_named(right, b, b" RTTVAR ", k.rttvar as u64)
+fn say_clock(right: &[u8], k: &Clock) -> usize {
+    let a = say_named(right, 0, b"RTO ", u64::from(k.rto));
+    let b = say_named(right, a, b" SRTT ", u64::from(k.srtt));
+    say_named(right, b, b" RTTVAR ", u64::from(k.rttvar))
 }
 
-fn say_times(right: &[u8], p: Path) -> usize {
-    let k = p.clock;
-    let a = say_clock(right, k);
-    say_named(right, a, b" tries ", p.tries as u64)
+// clock
+fn say_times(p: &Path, right: &[u8]) -> usize {
+    let a = say_clock(right, &p.clock);
+    say_named(right, a, b" tries ", u64::from(p.tries))
 }
 
-fn say_chunk(right: &[u8], at: usize, c: Chunk) -> usize {
-    let tsn = c.tsn;
-    let ssn = c.ssn;
-    let a = say_named(right, at, b" TSN ", tsn.0 as u64);
-    say_named(right, a, b" SSN ", ssn.0 as u64)
-}
-
-fn say_place(right: &[u8], p: Place) -> usize {
-    let c = p.chunk;
-    let a = say_named(right, 0, b"status ", p.status as u64);
-    let b = say_named(right, a, b" misses ", p.misses as u64);
-    say_chunk(right, b, c)
+fn say_place(right: &[u8], p: &Place) -> usize {
+    let a = say_named(right, 0, b"status ", u64::from(p.status));
+    let b = say_named(right, a, b" misses ", u64::from(p.misses));
+    let c = say_named(right, b, b" TSN ", u64::from(p.chunk.tsn.0));
+    say_named(right, c, b" SSN ", u64::from(p.chunk.ssn.0))
 }
 
 // place I: free 0, waiting 1, in flight 2, marked 3, acknowledged by a block 4; its misses, its TSN, its SSN
-fn say_placed(r: Outgoing, line: &[u8], right: &[u8]) -> usize {
-    let i = value16(line, 1) as usize;
-    let p = place::place_at(&r.places, i);
-    say_place(right, p)
-}
-
-fn number_bounded(within: bool) -> u8 {
-    if within {
-        return 0;
-    }
-    1
+fn say_placed(r: &Outgoing, line: &[u8], right: &[u8]) -> usize {
+    let i = usize::from(value16(line, 1));
+    say_place(right, &place::place_at(&r.places, i))
 }
 
 // bounds: 1 where the record is outside them
-fn say_bounds(r: Outgoing, right: &[u8]) -> usize {
-    let h = r.head;
-    let within = sender::is_within(h, &r.places);
-    say_answer(right, 0, number_bounded(within))
+fn say_bounds(r: &Outgoing, right: &[u8]) -> usize {
+    let is_within = sender::is_within(r.head, &r.places);
+    say_answer(right, 0, u8::from(!is_within))
 }
 
-fn path_of(r: Outgoing) -> Path {
-    let h = r.head;
-    h.path
-}
-
-fn say_asked(r: Outgoing, line: &[u8], right: &[u8]) -> usize {
-    let w = first(line);
-    if same(w, b"shows") {
-        return say_path(right, path_of(r));
+fn say_done(r: &mut Outgoing, line: &[u8], right: &[u8]) -> usize {
+    match first(line) {
+        b"hands" => say_handed(r, line, right),
+        b"sends" => say_sent(r, right),
+        b"acks" => say_acknowledged(r, line, right),
+        b"shuts" => say_shut(r, line, right),
+        b"t3" => say_expired(r, right),
+        b"shows" => say_path(&r.head.path, right),
+        b"clock" => say_times(&r.head.path, right),
+        b"place" => say_placed(r, line, right),
+        b"bounds" => say_bounds(r, right),
+        _ => say_unread(right),
     }
-    if same(w, b"clock") {
-        return say_times(right, path_of(r));
-    }
-    if same(w, b"place") {
-        return say_placed(r, line, right);
-    }
-    if same(w, b"bounds") {
-        return say_bounds(r, right);
-    }
-    say_unread(right)
-}
-
-// What is asked changes nothing.
-fn asked(r: Outgoing, line: &[u8], right: &[u8]) -> Outgoing {
-    compare(right, say_asked(r, line, right));
-    r
-}
-
-fn performed(r: Outgoing, line: &[u8], right: &[u8]) -> Outgoing {
-    let w = first(line);
-    if same(w, b"hands") {
-        return hands(r, line, right);
-    }
-    if same(w, b"sends") {
-        return sends(r, right);
-    }
-    if same(w, b"acks") {
-        return acks(r, line, right);
-    }
-    if same(w, b"shuts") {
-        return shuts(r, line, right);
-    }
-    if same(w, b"t3") {
-        return expires(r, right);
-    }
-    asked(r, line, right)
 }
 
 // ---- records of a line's own making
 
-// control CWND SSTHRESH PARTIAL
-fn controlled(mut p: Path, line: &[u8]) -> Path {
-    let k = Control {
-        cwnd: value32(line, 1),
-        ssthresh: value32(line, 2),
-        partial: value32(line, 3),
-    };
-    p.control = k;
-    p
-}
-
-fn tried(mut p: Path, tries: u16) -> Path {
-    if tries < 256 {
-        p.tries = tries as u8;
-    }
-    p
-}
-
-fn in_flight(mut p: Path, flight: u32) -> Path {
-    p.flight = flight;
-    p
-}
-
-// control, tries N, flight N
-fn on_path(p: Path, line: &[u8]) -> Path {
-    let w = first(line);
-    if same(w, b"control") {
-        return controlled(p, line);
-    }
-    if same(w, b"tries") {
-        return tried(p, value16(line, 1));
-    }
-    if same(w, b"flight") {
-        return in_flight(p, value32(line, 1));
-    }
-    text(b" unread");
-    p
-}
-
-fn with_path(mut s: Sender, line: &[u8]) -> Sender {
-    let p = s.path;
-    let q = on_path(p, line);
-    s.path = q;
-    s
-}
-
-// next TSN
-fn with_next(mut s: Sender, tsn: Tsn) -> Sender {
-    s.next_tsn = tsn;
-    s
-}
-
 // samples MILLISECONDS TIMES
-fn sampled(s0: Sender, sample: u32, times: u32) -> Sender {
-    let mut s = s0;
-    let mut i: u32 = 0;
-    while i < times {
-        s = s.sampled(sample);
-        i += 1;
+fn sample(head: &mut Sender, milliseconds: u32, times: u32) {
+    for _ in 0..times {
+        *head = head.sampled(milliseconds);
     }
-    s
 }
 
-fn on_head(s: Sender, line: &[u8]) -> Sender {
-    let w = first(line);
-    if same(w, b"samples") {
-        return sampled(s, value32(line, 1), value32(line, 2));
+// control CWND SSTHRESH PARTIAL, tries N, flight N
+fn prepare_path(path: &mut Path, line: &[u8]) {
+    match first(line) {
+        b"control" => {
+            path.control = Control {
+                cwnd: value32(line, 1),
+                ssthresh: value32(line, 2),
+                partial: value32(line, 3),
+            };
+        }
+        b"tries" => {
+            if let Ok(tries) = u8::try_from(value16(line, 1)) {
+                path.tries = tries;
+            }
+        }
+        b"flight" => path.flight = value32(line, 1),
+        _ => text(b" unread"),
     }
-    if same(w, b"doubles") {
-        return s.doubled();
-    }
-    if same(w, b"next") {
-        return with_next(s, Tsn(value32(line, 1)));
-    }
-    with_path(s, line)
 }
 
-fn with_head(mut r: Outgoing, line: &[u8]) -> Outgoing {
-    let h = r.head;
-    let s = on_head(h, line);
-    r.head = s;
-    r
-}
-
-fn with_status(mut p: Place, status: u16) -> Place {
-    if status < 256 {
-        p.status = status as u8;
+// samples, doubles, next TSN, or of the path
+fn prepare_head(head: &mut Sender, line: &[u8]) {
+    match first(line) {
+        b"samples" => sample(head, value32(line, 1), value32(line, 2)),
+        b"doubles" => *head = head.doubled(),
+        b"next" => head.next_tsn = Tsn(value32(line, 1)),
+        _ => prepare_path(&mut head.path, line),
     }
-    p
 }
 
 // status PLACE STATUS
-fn stated(mut r: Outgoing, line: &[u8]) -> Outgoing {
-    let i = value16(line, 1) as usize;
-    let p = place::place_at(&r.places, i);
-    let q = with_status(p, value16(line, 2));
-    place::put_place(&mut r.places, i, q);
-    r
+fn set_status(r: &mut Outgoing, line: &[u8]) {
+    let i = usize::from(value16(line, 1));
+    let mut p = place::place_at(&r.places, i);
+    if let Ok(status) = u8::try_from(value16(line, 2)) {
+        p.status = status;
+    }
+    place::put_place(&mut r.places, i, p);
 }
 
 // copies PLACE TO
-fn copied(mut r: Outgoing, line: &[u8]) -> Outgoing {
-    let i = value16(line, 1) as usize;
-    let j = value16(line, 2) as usize;
-    let p = place::place_at(&r.places, i);
-    place::put_place(&mut r.places, j, p);
-    r
+fn copy_place(r: &mut Outgoing, line: &[u8]) {
+    let p = place::place_at(&r.places, usize::from(value16(line, 1)));
+    place::put_place(&mut r.places, usize::from(value16(line, 2)), p);
 }
 
-// The book, 0 where none is said.
-fn mode_of(n: u16) -> u8 {
-    if n < 256 {
-        return n as u8;
-    }
-    255
+// fresh TSN WINDOW MODE: the book, 0 where none is said
+fn fresh(line: &[u8]) -> Outgoing {
+    let mode = u8::try_from(value16(line, 3)).unwrap_or(255);
+    Outgoing::fresh(Tsn(value32(line, 1)), value32(line, 2), mode)
 }
 
-// fresh TSN WINDOW MODE
-fn prepared(r: Outgoing, line: &[u8]) -> Outgoing {
-    let w = first(line);
-    if same(w, b"fresh") {
-        return Outgoing::fresh(
-            Tsn(value32(line, 1)),
-            value32(line, 2),
-            mode_of(value16(line, 3)),
-        );
+// saves, restores, or a record of the line's own making
+fn prepare(sides: &mut Sides, line: &[u8]) {
+    match first(line) {
+        b"saves" => sides.aside = sides.present,
+        b"restores" => sides.present = sides.aside,
+        b"fresh" => sides.present = fresh(line),
+        b"status" => set_status(&mut sides.present, line),
+        b"copies" => copy_place(&mut sides.present, line),
+        _ => prepare_head(&mut sides.present.head, line),
     }
-    if same(w, b"status") {
-        return stated(r, line);
-    }
-    if same(w, b"copies") {
-        return copied(r, line);
-    }
-    with_head(r, line)
 }
 
 // ---- the lines
 
-fn with_present(mut s: Sides, line: &[u8]) -> Sides {
-    let r = s.present;
-    let q = prepared(r, line);
-    s.present = q;
-    s
-}
-
-// saves, restores, or a record of the line's own making
-fn readied(mut s: Sides, line: &[u8]) -> Sides {
-    let w = first(line);
-    if same(w, b"saves") {
-        let r = s.present;
-        s.aside = r;
-        return s;
-    }
-    if same(w, b"restores") {
-        let r = s.aside;
-        s.present = r;
-        return s;
-    }
-    with_present(s, line)
-}
-
 // A line without a colon prepares a record.
-fn turn(mut s: Sides, line: &[u8]) -> Sides {
+fn turn(sides: &mut Sides, line: &[u8]) {
     if is_heading(line) {
         text(line);
         text(b"\n");
-        return s;
+        return;
     }
     let event = deed(line);
     text(event);
     if event.len() == line.len() {
-        let t = readied(s, event);
+        prepare(sides, event);
         text(b"\n");
-        return t;
+        return;
     }
     text(b": ");
-    let r = s.present;
-    let q = performed(r, event, should(line));
-    s.present = q;
-    s
-}
-
-fn begun() -> Sides {
-    let r = Outgoing::fresh(Tsn(0), 0, 0);
-    Sides {
-        present: r,
-        aside: r,
-    }
+    let right = should(line);
+    compare(right, say_done(&mut sides.present, event, right));
 }
 
 fn run(script: &[u8]) {
-    let mut s = begun();
-    let mut at: usize = 0;
+    let present = Outgoing::fresh(Tsn(0), 0, 0);
+    let mut sides = Sides {
+        present,
+        aside: present,
+    };
+    let mut at = 0;
+    // No range or iterator of the library steps to where the next line begins.
     while at < script.len() {
-        s = turn(s, line_at(script, at));
+        turn(&mut sides, line_at(script, at));
         at = line_after(script, at);
     }
 }
@@ -418,5 +263,5 @@ fn run(script: &[u8]) {
 fn main() {
     let mut script = [0u8; 65536];
     let n = io::read_full(STANDARD_INPUT, &mut script);
-    run(part(&script, 0, n));
+    run(&script[..n]);
 }
