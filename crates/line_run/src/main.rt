@@ -2,12 +2,12 @@
 // keeps one byte for each number: 0 not come, 1 held, 2 given. What differs is counted.
 #![tactic(auto)]
 
-ghost use Rattle.std.specs.Prelude.{◌≤◌, length};
+ghost use Rattle.std.specs.Prelude.{◌≤◌};
 
 use delivery::{Sack, Verdict};
 use holding::{Answer, Chunk, Message};
-use incoming::{Incoming, Took};
-use numbers::{Blocks, Ssn, StreamId, Tsn};
+use incoming::Incoming;
+use numbers::{Blocks, Rail, Ssn, StreamId, Tsn};
 
 // The descriptor of the standard output.
 const STANDARD_OUTPUT: i32 = 1;
@@ -25,9 +25,19 @@ const TAKEN: u64 = 65500;
 
 const CIRCLE: u64 = 4294967296;
 
-const PLACES: u32 = 128;
+const PLACES: u32 = Rail::PLACES as u32;
+
+// Of a number that has not come, of one that is held, and of one that was given.
+const MISSING: u8 = 0;
+
+const HELD: u8 = 1;
+
+const GIVEN: u8 = 2;
 
 const ROOM: usize = 24;
+
+// What stands in an output before a take.
+const BLANK: u8 = 255;
 
 // ---- the sender: ten numbers make a message of one chunk, then of two, of three (unordered) and of four
 
@@ -42,17 +52,11 @@ fn chunks(i: u32) -> u32 {
 }
 
 fn ends(i: u32) -> bool {
-    match i % 10 {
-        0 | 2 | 5 | 9 => true,
-        _ => false,
-    }
+    matches!(i % 10, 0 | 2 | 5 | 9)
 }
 
 fn unordered(i: u32) -> bool {
-    match i % 10 {
-        3 | 4 | 5 => true,
-        _ => false,
-    }
+    matches!(i % 10, 3 | 4 | 5)
 }
 
 fn stream(i: u32) -> u16 {
@@ -63,7 +67,7 @@ fn stream(i: u32) -> u16 {
 }
 
 fn ordinal(i: u32) -> u64 {
-    let round = (i / 10) as u64;
+    let round = u64::from(i / 10);
     match i % 10 {
         0 => TAKEN + round + round,
         1 | 2 => TAKEN + round,
@@ -84,7 +88,7 @@ fn size(i: u32) -> u32
 }
 
 fn tsn(i: u32) -> Tsn {
-    Tsn(((FIRST + i as u64) % CIRCLE) as u32)
+    Tsn(((FIRST + u64::from(i)) % CIRCLE) as u32)
 }
 
 fn ssn(i: u32) -> Ssn {
@@ -105,285 +109,179 @@ fn chunk(i: u32) -> Chunk {
 
 // ---- the line receiver
 
-#[derive(Clone, Copy)]
+#[derive(Drop)]
 struct Line {
     point: u32,
     next0: u64,
     next1: u64,
-    dups: [u32; 16],
+    dups: [u32; Rail::LISTED],
     listed: usize,
 }
 
-fn at(s: &[u8], i: u32) -> u8 {
-    let k = i as usize;
-    if k < s.len() {
-        return s[k];
-    }
-    0
+fn at(status: &[u8], i: u32) -> u8 {
+    status.get(i as usize).copied().unwrap_or(0)
 }
 
-fn put(s: &mut [u8], i: u32, v: u8) {
+fn put(status: &mut [u8], i: u32, v: u8) {
     let k = i as usize;
-    if k < s.len() {
-        s[k] = v;
+    if k < status.len() {
+        status[k] = v;
     }
-}
-
-fn plus(a: u32, b: u32) -> u32 {
-    std::num::wrapping_add_u32(a, b)
 }
 
 // How many of the numbers below `to` are held.
 fn held(status: &[u8], to: u32) -> u32 {
     let mut n: u32 = 0;
-    let mut i: u32 = 0;
-    while i < to {
-        if at(status, i) == 1 {
-            n = plus(n, 1);
+    for i in 0..to {
+        if at(status, i) == HELD {
+            n = n.wrapping_add(1);
         }
-        i += 1;
     }
     n
 }
 
 fn is_whole(status: &[u8], i: u32, n: u32) -> bool {
-    let mut k: u32 = 0;
-    while k < n {
-        if at(status, plus(i, k)) != 1 {
-            return false;
+    (0..n).all(|k| at(status, i.wrapping_add(k)) == HELD)
+}
+
+impl Line {
+    fn expected(&self, stream: u16) -> u64 {
+        match stream {
+            1 => self.next1,
+            _ => self.next0,
         }
-        k += 1;
     }
-    true
-}
 
-fn expected(l: Line, s: u16) -> u64 {
-    if s == 1 {
-        return l.next1;
+    fn is_ready(&self, status: &[u8], i: u32) -> bool {
+        let n = chunks(i);
+        n != 0 && is_whole(status, i, n) && (unordered(i) || ordinal(i) == self.expected(stream(i)))
     }
-    l.next0
-}
 
-fn is_ready(status: &[u8], l: Line, i: u32) -> bool {
-    let n = chunks(i);
-    if n == 0 {
-        return false;
+    // The first number of the lowest message that can be taken.
+    fn choose(&self, status: &[u8]) -> Option<u32> {
+        (0..NUMBERS).find(|&i| self.is_ready(status, i))
     }
-    if !is_whole(status, i, n) {
-        return false;
-    }
-    if unordered(i) {
-        return true;
-    }
-    ordinal(i) == expected(l, stream(i))
-}
 
-// The first number of the lowest message that can be taken.
-fn choose(status: &[u8], l: Line) -> u32 {
-    let mut i: u32 = 0;
-    while i < NUMBERS {
-        if is_ready(status, l, i) {
-            return i;
+    // The number that a chunk is answered.
+    fn judge(&self, status: &[u8], i: u32) -> u8 {
+        if i < self.point || at(status, i) != MISSING {
+            return 11;
         }
-        i += 1;
+        let low = held(status, self.point);
+        if low == PLACES && self.choose(status).is_none() {
+            return 12;
+        }
+        if u64::from(self.point) + u64::from(PLACES) < u64::from(i) + 1 + u64::from(low) {
+            return 13;
+        }
+        0
     }
-    NUMBERS
+
+    fn list(&mut self, i: u32) {
+        let k = self.listed;
+        if k < Rail::LISTED {
+            self.dups[k] = i;
+            self.listed = k + 1;
+        }
+    }
+
+    // A chunk arrives that is answered so.
+    fn arrive(&mut self, status: &mut [u8], i: u32, number: u8) {
+        match number {
+            11 => self.list(i),
+            0 => {
+                put(status, i, HELD);
+                self.point = advance(status, self.point);
+            }
+            _ => {}
+        }
+    }
+
+    fn count(&mut self, i: u32) {
+        if unordered(i) {
+            return;
+        }
+        if stream(i) == 1 {
+            self.next1 = self.next1.wrapping_add(1);
+        } else {
+            self.next0 = self.next0.wrapping_add(1);
+        }
+    }
+
+    // A take of the message that begins with number i, into so many bytes.
+    fn take(&mut self, status: &mut [u8], i: u32, room: u32) {
+        let n = chunks(i);
+        if room < length_of(i, n) {
+            return;
+        }
+        for k in 0..n {
+            put(status, i.wrapping_add(k), GIVEN);
+        }
+        self.count(i);
+    }
 }
 
 // The first number that has not come.
 fn advance(status: &[u8], point: u32) -> u32 {
-    let mut i = point;
-    while i < NUMBERS {
-        if at(status, i) == 0 {
-            return i;
-        }
-        i += 1;
-    }
-    NUMBERS
-}
-
-fn judge(status: &[u8], l: Line, i: u32) -> u8 {
-    if i < l.point {
-        return 11;
-    }
-    if at(status, i) != 0 {
-        return 11;
-    }
-    let low = held(status, l.point);
-    if low == PLACES {
-        if choose(status, l) == NUMBERS {
-            return 12;
-        }
-    }
-    if l.point as u64 + 128 < i as u64 + 1 + low as u64 {
-        return 13;
-    }
-    0
-}
-
-fn list(mut l: Line, i: u32) -> Line {
-    let k = l.listed;
-    if k < 16 {
-        l.dups[k] = i;
-        l.listed = k + 1;
-    }
-    l
-}
-
-// What the line receiver has after a chunk that was answered so.
-fn arrived(status: &mut [u8], mut l: Line, i: u32, number: u8) -> Line {
-    if number == 11 {
-        return list(l, i);
-    }
-    if number == 0 {
-        put(&mut *status, i, 1);
-        l.point = advance(status, l.point);
-    }
-    l
+    (point..NUMBERS)
+        .find(|&i| at(status, i) == MISSING)
+        .unwrap_or(NUMBERS)
 }
 
 fn length_of(i: u32, n: u32) -> u32 {
     let mut sum: u32 = 0;
-    let mut k: u32 = 0;
-    while k < n {
-        sum = plus(sum, size(plus(i, k)));
-        k += 1;
+    for k in 0..n {
+        sum = sum.wrapping_add(size(i.wrapping_add(k)));
     }
     sum
-}
-
-fn give(status: &mut [u8], i: u32, n: u32) {
-    let mut k: u32 = 0;
-    while k < n {
-        put(&mut *status, plus(i, k), 2);
-        k += 1;
-    }
-}
-
-fn counted(mut l: Line, i: u32) -> Line {
-    if unordered(i) {
-        return l;
-    }
-    if stream(i) == 1 {
-        l.next1 = std::num::wrapping_add_u64(l.next1, 1);
-        return l;
-    }
-    l.next0 = std::num::wrapping_add_u64(l.next0, 1);
-    l
-}
-
-// What the line receiver has after a take into so many bytes.
-fn taken(status: &mut [u8], l: Line, i: u32, room: u32) -> Line {
-    let n = chunks(i);
-    if i == NUMBERS {
-        return l;
-    }
-    if room < length_of(i, n) {
-        return l;
-    }
-    give(status, i, n);
-    counted(l, i)
 }
 
 // ---- what the line receiver's SACK says
 
 fn is_come(status: &[u8], point: u32, offset: u16) -> bool {
-    if 127 < offset {
-        return false;
-    }
-    at(status, plus(point, offset as u32)) != 0
+    u32::from(offset) < PLACES && at(status, point.wrapping_add(u32::from(offset))) != MISSING
 }
 
-// A run that begins at an offset, counted from 0, or has ended before it.
-fn edged(mut b: Blocks, inside: bool, come: bool, offset: u16) -> Blocks {
-    let k = b.count;
-    if 63 < k {
-        return b;
-    }
-    if 1000 < offset {
-        return b;
-    }
-    if come {
-        if !inside {
+// The runs of numbers that have come, by their offsets, counted from 1.
+fn runs(status: &[u8], point: u32) -> Blocks {
+    let mut b = Blocks::none();
+    let mut inside = false;
+    for offset in 0..129 {
+        let come = is_come(status, point, offset);
+        let k = b.count;
+        if k < Rail::BLOCKS && come && !inside {
             b.starts[k] = offset + 1;
         }
-        return b;
-    }
-    if inside {
-        b.ends[k] = offset;
-        b.count = k + 1;
-    }
-    b
-}
-
-fn runs(status: &[u8], point: u32) -> Blocks {
-    let mut b = Blocks {
-        count: 0,
-        starts: [0; 64],
-        ends: [0; 64],
-    };
-    let mut inside = false;
-    let mut offset: u16 = 0;
-    while offset < 129 {
-        let come = is_come(status, point, offset);
-        b = edged(b, inside, come, offset);
+        if k < Rail::BLOCKS && inside && !come {
+            b.ends[k] = offset;
+            b.count = k + 1;
+        }
         inside = come;
-        offset += 1;
     }
     b
 }
 
-fn same_blocks(a: Blocks, b: Blocks) -> bool {
-    let mut k: usize = 0;
-    while k < 64 {
-        if a.starts[k] != b.starts[k] {
-            return false;
-        }
-        if a.ends[k] != b.ends[k] {
-            return false;
-        }
-        k += 1;
-    }
-    a.count == b.count
+fn same_blocks(a: &Blocks, b: &Blocks) -> bool {
+    a.starts == b.starts && a.ends == b.ends && a.count == b.count
 }
 
-fn dup_at(l: Line, k: usize) -> u32 {
-    if 15 < k {
-        return 0;
-    }
-    if l.listed <= k {
-        return 0;
-    }
-    tsn(l.dups[k]).0
-}
-
-fn same_dups(l: Line, dups: [Tsn; 16]) -> bool {
-    let mut k: usize = 0;
-    while k < 16 {
-        if dups[k].0 != dup_at(l, k) {
+// The numbers that are listed, and 0 behind them.
+fn same_dups(l: &Line, dups: &[Tsn; Rail::LISTED]) -> bool {
+    for (k, dup) in dups.iter().enumerate() {
+        let should = if k < l.listed { tsn(l.dups[k]).0 } else { 0 };
+        if dup.0 != should {
             return false;
         }
-        k += 1;
     }
     true
 }
 
-fn same_sack(status: &[u8], l: Line, s: Sack) -> bool {
-    let blocks = s.blocks;
-    let dups = s.dups;
-    if s.point.0 as u64 != (FIRST + l.point as u64 - 1) % CIRCLE {
-        return false;
-    }
-    if s.window as u64 + 512 * held(status, NUMBERS) as u64 != 65536 {
-        return false;
-    }
-    if s.listed != l.listed {
-        return false;
-    }
-    if !same_dups(l, dups) {
-        return false;
-    }
-    same_blocks(runs(status, l.point), blocks)
+fn same_sack(status: &[u8], l: &Line, s: &Sack) -> bool {
+    u64::from(s.point.0) == (FIRST + u64::from(l.point) - 1) % CIRCLE
+        && u64::from(s.window) + 512 * u64::from(held(status, NUMBERS)) == 65536
+        && s.listed == l.listed
+        && same_dups(l, &s.dups)
+        && same_blocks(&runs(status, l.point), &s.blocks)
 }
 
 // ---- the answers, one against the other
@@ -403,98 +301,52 @@ fn number_of(v: Verdict) -> u8 {
 }
 
 fn same_bytes(out: &[u8], from: u32, n: u32, b: u8) -> bool {
-    let mut k: u32 = 0;
-    while k < n {
-        if at(out, plus(from, k)) != b {
-            return false;
-        }
-        k += 1;
-    }
-    true
+    (0..n).all(|k| at(out, from.wrapping_add(k)) == b)
 }
 
 // The message's bytes stand first, and the rest of the output is as it was.
 fn same_message(out: &[u8], i: u32, n: u32) -> bool {
     let mut from: u32 = 0;
-    let mut k: u32 = 0;
-    while k < n {
-        let j = plus(i, k);
+    for k in 0..n {
+        let j = i.wrapping_add(k);
         if !same_bytes(out, from, size(j), byte(j)) {
             return false;
         }
-        from = plus(from, size(j));
-        k += 1;
+        from = from.wrapping_add(size(j));
     }
-    at(out, from) == 255
+    at(out, from) == BLANK
 }
 
-fn same_told(m: Message, i: u32) -> bool {
-    if m.length as u64 != length_of(i, chunks(i)) as u64 {
-        return false;
-    }
-    if m.stream.0 != stream(i) {
-        return false;
-    }
-    if m.unordered != unordered(i) {
-        return false;
-    }
-    if m.ssn.0 != ssn(i).0 {
-        return false;
-    }
-    m.ppid == i
+fn same_told(m: &Message, i: u32) -> bool {
+    m.length as u64 == u64::from(length_of(i, chunks(i)))
+        && m.stream.0 == stream(i)
+        && m.unordered == unordered(i)
+        && m.ssn.0 == ssn(i).0
+        && m.ppid == i
 }
 
 // A take that finds nothing, or too little room, leaves the output as it was.
 fn is_untouched(out: &[u8; ROOM]) -> bool {
-    same_bytes(out, 0, 24, 255)
-}
-
-fn same_nothing(out: &[u8; ROOM], i: u32) -> bool {
-    if i != NUMBERS {
-        return false;
-    }
-    is_untouched(out)
-}
-
-fn same_short(out: &[u8; ROOM], i: u32, k: u64, need: u32, room: u32) -> bool {
-    if i == NUMBERS {
-        return false;
-    }
-    if k != need as u64 {
-        return false;
-    }
-    if need <= room {
-        return false;
-    }
-    is_untouched(out)
-}
-
-fn same_taken(m: Message, out: &[u8; ROOM], i: u32, need: u32, room: u32) -> bool {
-    if i == NUMBERS {
-        return false;
-    }
-    if room < need {
-        return false;
-    }
-    if !same_told(m, i) {
-        return false;
-    }
-    same_message(out, i, chunks(i))
+    *out == [BLANK; ROOM]
 }
 
 // The answer to a take into `room` bytes, where the line receiver's lowest message begins with number i.
-fn same_take(a: Answer, out: &[u8; ROOM], i: u32, room: u32) -> bool {
+fn same_take(a: &Answer, out: &[u8; ROOM], i: Option<u32>, room: u32) -> bool {
+    let Some(i) = i else {
+        return matches!(a, Answer::Nothing) && is_untouched(out);
+    };
     let need = length_of(i, chunks(i));
     match a {
-        Answer::Nothing => same_nothing(out, i),
-        Answer::Short(k) => same_short(out, i, k as u64, need, room),
-        Answer::Taken(m) => same_taken(m, out, i, need, room),
+        Answer::Nothing => false,
+        Answer::Short(n) => *n as u64 == u64::from(need) && room < need && is_untouched(out),
+        Answer::Taken(m) => need <= room && same_told(m, i) && same_message(out, i, chunks(i)),
     }
 }
 
 // ---- a step of the plan
 
-#[derive(Clone, Copy)]
+// The circle receiver and the line receiver with what each keeps, how many answers differ, and the numbers that were answered.
+#[derive(Drop)]
 struct Both {
     incoming: Incoming,
     line: Line,
@@ -502,7 +354,7 @@ struct Both {
     seen: [bool; 32],
 }
 
-fn number_taken(a: Answer) -> u8 {
+fn number_taken(a: &Answer) -> u8 {
     match a {
         Answer::Taken(_) => 0,
         Answer::Nothing => 17,
@@ -510,95 +362,90 @@ fn number_taken(a: Answer) -> u8 {
     }
 }
 
-// The number was answered.
-fn noted(mut seen: [bool; 32], number: u8) -> [bool; 32] {
-    let k = number as usize;
-    if k < 32 {
-        seen[k] = true;
-    }
-    seen
-}
-
-fn tallied(same: bool, differ: u32) -> u32 {
-    if same {
-        return differ;
-    }
-    plus(differ, 1)
-}
-
-fn arrive(b: Both, area: &mut [u8], status: &mut [u8], i: u32) -> Both {
-    let line = b.line;
-    let r = b.incoming;
-    let x = byte(i);
-    let p = [x, x, x, x, x];
-    let n = size(i) as usize;
-    let a = incoming::arrive(r, area, chunk(i), &p[0..n], 2);
-    let should = judge(status, line, i);
-    let verdict = a.verdict;
-    let number = number_of(verdict);
-    let same = number == should;
-    let incoming = a.incoming;
-    let seen = b.seen;
-    Both {
-        incoming,
-        line: arrived(status, line, i, should),
-        differ: tallied(same, b.differ),
-        seen: noted(seen, number),
-    }
-}
-
-fn take_into(r: Incoming, area: &[u8], out: &mut [u8], room: usize) -> Took
-    requires { room ≤ length out.old }
-{
-    incoming::take(r, area, &mut out[0..room])
-}
-
-fn take(b: Both, area: &[u8], status: &mut [u8], room: usize) -> Both
-    requires { room ≤ 24 }
-{
-    let line = b.line;
-    let r = b.incoming;
-    let mut out = [255u8; ROOM];
-    let t = take_into(r, area, &mut out, room);
-    let i = choose(status, line);
-    let answer = t.answer;
-    let same = same_take(answer, &out, i, room as u32);
-    let incoming = t.incoming;
-    let seen = b.seen;
-    Both {
-        incoming,
-        line: taken(status, line, i, room as u32),
-        differ: tallied(same, b.differ),
-        seen: noted(seen, number_taken(answer)),
-    }
-}
-
-fn told(mut l: Line) -> Line {
-    l.listed = 0;
-    l
-}
-
-fn sack(b: Both, status: &[u8]) -> Both {
-    let line = b.line;
-    let r = b.incoming;
-    let a = incoming::sack(r);
-    let s = a.sack;
-    let same = same_sack(status, line, s);
-    let incoming = a.incoming;
-    let seen = b.seen;
-    Both {
-        incoming,
-        line: told(line),
-        differ: tallied(same, b.differ),
-        seen,
-    }
-}
-
 fn capped(i: u64) -> u32 {
-    if i < 512 {
-        return i as u32;
+    if i < u64::from(NUMBERS) { i as u32 } else { 0 }
+}
+
+impl Both {
+    fn fresh() -> Both {
+        let mut incoming = Incoming::fresh(tsn(0));
+        incoming.next[0] = (TAKEN % 65536) as u16;
+        incoming.next[1] = (TAKEN % 65536) as u16;
+        Both {
+            incoming,
+            line: Line {
+                point: 0,
+                next0: TAKEN,
+                next1: TAKEN,
+                dups: [0; Rail::LISTED],
+                listed: 0,
+            },
+            differ: 0,
+            seen: [false; 32],
+        }
     }
-    0
+
+    // The number was answered.
+    fn note(&mut self, number: u8) {
+        let k = usize::from(number);
+        if k < 32 {
+            self.seen[k] = true;
+        }
+    }
+
+    fn tally(&mut self, same: bool) {
+        if !same {
+            self.differ = self.differ.wrapping_add(1);
+        }
+    }
+
+    fn arrive(&mut self, area: &mut [u8], status: &mut [u8], i: u32) {
+        let payload = [byte(i); 5];
+        let n = size(i) as usize;
+        let came = incoming::arrive(self.incoming, area, chunk(i), &payload[..n], 2);
+        self.incoming = came.incoming;
+        let number = number_of(came.verdict);
+        let should = self.line.judge(status, i);
+        self.line.arrive(status, i, should);
+        self.tally(number == should);
+        self.note(number);
+    }
+
+    fn take(&mut self, area: &[u8], status: &mut [u8], room: usize)
+        requires { room ≤ 24 }
+    {
+        let mut out = [BLANK; ROOM];
+        let took = incoming::take(self.incoming, area, &mut out[..room]);
+        self.incoming = took.incoming;
+        let first = self.line.choose(status);
+        let same = same_take(&took.answer, &out, first, room as u32);
+        if let Some(i) = first {
+            self.line.take(status, i, room as u32);
+        }
+        self.tally(same);
+        self.note(number_taken(&took.answer));
+    }
+
+    fn sack(&mut self, status: &[u8]) {
+        let told = incoming::sack(self.incoming);
+        self.incoming = told.incoming;
+        let same = same_sack(status, &self.line, &told.sack);
+        self.line.listed = 0;
+        self.tally(same);
+    }
+
+    // One event, as the number x says: a chunk that arrives, a take into 3 bytes or into all, a SACK.
+    fn step(&mut self, area: &mut [u8], status: &mut [u8], x: u64) {
+        match x % 16 {
+            11 => self.take(area, status, 3),
+            12 => self.sack(status),
+            13..=15 => self.take(area, status, ROOM),
+            kind => {
+                let i = arriving(self.line.point, kind, x / 16);
+                self.arrive(area, status, i);
+            }
+        }
+    }
 }
 
 fn random(x: u64) -> u64 {
@@ -609,54 +456,11 @@ fn random(x: u64) -> u64 {
 
 // The number that arrives: near the point, up to 150 ahead, any before it.
 fn arriving(point: u32, kind: u64, y: u64) -> u32 {
-    let p = point as u64;
-    if kind < 7 {
-        return capped(p + y % 6);
-    }
-    if kind < 10 {
-        return capped(p + y % 150);
-    }
-    capped(y % (p + 1))
-}
-
-// A take into 3 bytes, or into all.
-fn room_of(kind: u64) -> usize
-    ensures { result ≤ 24 }
-{
-    if kind == 11 {
-        return 3;
-    }
-    ROOM
-}
-
-// One event, as the number x says: a chunk that arrives, a take, a SACK.
-fn step(b: Both, area: &mut [u8; 65536], status: &mut [u8; 512], x: u64) -> Both {
-    let kind = x % 16;
-    if kind < 11 {
-        let i = arriving(b.line.point, kind, x / 16);
-        return arrive(b, area, status, i);
-    }
-    if kind == 12 {
-        return sack(b, status);
-    }
-    take(b, area, status, room_of(kind))
-}
-
-fn fresh() -> Both {
-    let mut incoming = Incoming::fresh(tsn(0));
-    incoming.next[0] = (TAKEN % 65536) as u16;
-    incoming.next[1] = (TAKEN % 65536) as u16;
-    Both {
-        incoming,
-        line: Line {
-            point: 0,
-            next0: TAKEN,
-            next1: TAKEN,
-            dups: [0; 16],
-            listed: 0,
-        },
-        differ: 0,
-        seen: [false; 32],
+    let p = u64::from(point);
+    match kind {
+        0..7 => capped(p + y % 6),
+        7..10 => capped(p + y % 150),
+        _ => capped(y % (p + 1)),
     }
 }
 
@@ -666,60 +470,42 @@ fn text(s: &[u8]) {
 
 fn said(name: &[u8], yes: bool) {
     text(name);
-    if yes {
-        text(b" yes\n");
-    } else {
-        text(b" no\n");
-    }
+    text(if yes { b" yes\n" } else { b" no\n" });
 }
 
 // The numbers that were answered.
-fn print_seen(seen: [bool; 32]) {
-    let mut k: usize = 0;
-    while k < 32 {
-        if seen[k] {
+fn print_seen(seen: &[bool; 32]) {
+    for (number, is_seen) in seen.iter().enumerate() {
+        if *is_seen {
             text(b" ");
-            io::print_decimal(STANDARD_OUTPUT, k as u64);
+            io::print_decimal(STANDARD_OUTPUT, number as u64);
         }
-        k += 1;
     }
 }
 
 fn run(seed: u64) -> Both {
-    let mut area = [0u8; 65536];
-    let mut status = [0u8; 512];
-    let mut b = fresh();
+    let mut area = [0u8; Rail::AREA];
+    let mut status = [MISSING; NUMBERS as usize];
+    let mut both = Both::fresh();
     let mut x = seed;
-    let mut k: u32 = 0;
-    while k < STEPS {
+    for _ in 0..STEPS {
         x = random(x);
-        b = step(b, &mut area, &mut status, x);
-        k += 1;
+        both.step(&mut area, &mut status, x);
     }
-    b
-}
-
-fn answered(b: Both) {
-    let seen = b.seen;
-    text(b"  answered:");
-    print_seen(seen);
-    text(b" | 0 11 13 17 18\n");
-}
-
-fn ended(b: Both) {
-    said(b"  past the end of the TSNs:", 50 < b.line.point);
-    said(b"  past the end of the SSNs:", 65536 < b.line.next0);
+    both
 }
 
 fn plan(seed: u64) {
-    let b = run(seed);
+    let both = run(seed);
     text(b"plan ");
     io::print_decimal(STANDARD_OUTPUT, seed);
     text(b": differences ");
-    io::print_decimal(STANDARD_OUTPUT, b.differ as u64);
-    text(b" | 0\n");
-    answered(b);
-    ended(b);
+    io::print_decimal(STANDARD_OUTPUT, u64::from(both.differ));
+    text(b" | 0\n  answered:");
+    print_seen(&both.seen);
+    text(b" | 0 11 13 17 18\n");
+    said(b"  past the end of the TSNs:", 50 < both.line.point);
+    said(b"  past the end of the SSNs:", 65536 < both.line.next0);
 }
 
 fn main() {
