@@ -5,7 +5,7 @@
 use octets::{part, put_all, put8, put16};
 use packets::Header;
 use pages::page::{compare, say_answer, say_named, say_number, say_packet, say_unread, text};
-use pages::reading::{deed, first, is_heading, line_after, line_at, rest, should, spell, value16};
+use pages::reading::{deed, first, is_heading, line_at, rest, should, spell, value16};
 
 // The descriptor of the standard input.
 const STANDARD_INPUT: i32 = 0;
@@ -108,11 +108,8 @@ fn turn(line: &[u8]) {
 }
 
 fn run(script: &[u8]) {
-    let mut at = 0;
-    // No range or iterator of the library steps to where the next line begins.
-    while at < script.len() {
-        turn(line_at(script, at));
-        at = line_after(script, at);
+    for line in script.split_inclusive(|byte| *byte == b'\n') {
+        turn(line_at(line, 0));
     }
 }
 

@@ -9,9 +9,7 @@ use incoming::Incoming;
 use numbers::{Blocks, Rail, Ssn, StreamId, Tsn};
 use octets::{get8, part};
 use pages::page::{compare, say, say_answer, say_named, say_number, say_unread, text};
-use pages::reading::{
-    deed, first, is_heading, line_after, line_at, rest, should, value16, value32, word,
-};
+use pages::reading::{deed, first, is_heading, line_at, rest, should, value16, value32, word};
 
 // The descriptor of the standard input.
 const STANDARD_INPUT: i32 = 0;
@@ -219,11 +217,8 @@ fn turn(r: &mut Incoming, area: &mut [u8; AREA], line: &[u8]) {
 fn run(script: &[u8]) {
     let mut area = [0u8; AREA];
     let mut r = Incoming::fresh(Tsn(0));
-    let mut at = 0;
-    // No range or iterator of the library steps to where the next line begins.
-    while at < script.len() {
-        turn(&mut r, &mut area, line_at(script, at));
-        at = line_after(script, at);
+    for line in script.split_inclusive(|byte| *byte == b'\n') {
+        turn(&mut r, &mut area, line_at(line, 0));
     }
 }
 

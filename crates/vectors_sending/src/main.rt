@@ -6,7 +6,7 @@ use numbers::{Blocks, StreamId, Tsn};
 use octets::part;
 use outgoing::Outgoing;
 use pages::page::{compare, say_answer, say_named, say_number, say_unread, text};
-use pages::reading::{deed, first, is_heading, line_after, line_at, should, value16, value32};
+use pages::reading::{deed, first, is_heading, line_at, should, value16, value32};
 use path::{Clock, Control, Path};
 use places::Place;
 use sender::Sender;
@@ -252,11 +252,8 @@ fn run(script: &[u8]) {
         present,
         aside: present,
     };
-    let mut at = 0;
-    // No range or iterator of the library steps to where the next line begins.
-    while at < script.len() {
-        turn(&mut sides, line_at(script, at));
-        at = line_after(script, at);
+    for line in script.split_inclusive(|byte| *byte == b'\n') {
+        turn(&mut sides, line_at(line, 0));
     }
 }
 
