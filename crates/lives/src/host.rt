@@ -1,61 +1,70 @@
 // What the host does: each line names an event of its association, a packet that comes, or a record of the line's own making.
 ghost use Rattle.std.specs.Prelude.{◌≤◌};
 
-use crate::forms::row_of;
+use crate::verbs::Verb;
 use crate::{showing, verbs};
 use flat::{Association, Head};
 use happening::Told;
 use numbers::Rail;
-use octets::{get32, part, put_all};
+use octets::{get32, part};
 use pages::page::say;
 use pages::reading::{rest, spell, value16, value32, word};
 use states::State;
+use std::alloc::{AllocError, Global};
 
 // Of a packet; of an area, and of the output of a take.
 pub(crate) const LONGEST: usize = Rail::LONGEST_PACKET;
 
 pub(crate) const SPACE: usize = Rail::AREA;
 
+// The numbers of events, as `happening::run_coded` takes them. That of a packet is the host's word on an echoed cookie.
+pub(crate) const BAD: u8 = 0;
+
+pub(crate) const STALE: u8 = 1;
+
+pub(crate) const GOOD: u8 = 2;
+
+pub(crate) const HAND_IN: u8 = 4;
+
+pub(crate) const HAND_IN_UNORDERED: u8 = 5;
+
+pub(crate) const TRANSMIT: u8 = 6;
+
+pub(crate) const TAKE: u8 = 7;
+
+pub(crate) const ACKNOWLEDGE: u8 = 8;
+
+const ABORT: u8 = 13;
+
+const ABORT_NO_DATA: u8 = 14;
+
+const ABORT_VIOLATION: u8 = 15;
+
+const HEARTBEAT: u8 = 18;
+
 // What the host lends with a packet, as the event of one: for an INIT its tag, its first TSN, its streams, and a cookie; for a COOKIE ECHO what the cookie
-// was made from; and its word, which is the event's number: 0 bad, 1 stale, 2 good. Of any other event its number and its values.
-#[derive(Clone, Copy)]
+// was made from; and its word.
+#[derive(Drop)]
 pub(crate) struct Host {
-    pub(crate) number: u8,
-    pub(crate) values: [u32; 12],
-    pub(crate) cookie: [u8; 300],
-    pub(crate) cookie_len: usize,
+    word: u8,
+    values: [u32; 12],
+    cookie: Vec<u8>,
+}
+
+// An event by its number, and its values.
+#[derive(Drop)]
+struct Event {
+    code: u8,
+    values: [u32; 12],
 }
 
 // The record after an event, the length of the packet that it wrote, how many bytes it wrote at all, and how far what it answered is as it should be.
-#[derive(Clone, Copy)]
+#[derive(Drop)]
 pub(crate) struct Said {
     pub(crate) association: Association,
     pub(crate) length: usize,
     pub(crate) written: usize,
     pub(crate) at: usize,
-}
-
-pub(crate) fn nobody() -> Host {
-    Host {
-        number: 0,
-        values: [0u32; 12],
-        cookie: [0u8; 300],
-        cookie_len: 0,
-    }
-}
-
-// lends TAG TSN STREAMS COOKIE
-pub(crate) fn lends(mut h: Host, line: &[u8]) -> Host {
-    let mut values = h.values;
-    values[0] = value32(line, 1);
-    values[1] = value32(line, 2);
-    values[2] = value32(line, 3);
-    let mut cookie = [0u8; 300];
-    let n = spell(word(line, 4), &mut cookie, 0);
-    h.values = values;
-    h.cookie = cookie;
-    h.cookie_len = n;
-    h
 }
 
 // Of the words behind the verb: a line is looked through seven words far, so the ties are read from the middle on.
@@ -68,91 +77,81 @@ fn judged(line: &[u8], k: usize) -> u32 {
     }
 }
 
-// good or stale, with MY TAG, PEER'S TAG, STREAMS IN, OUT, MY TSN, PEER'S TSN, WINDOW, and the ties, MY and PEER'S, where there are some; or bad
-pub(crate) fn judges(mut h: Host, line: &[u8]) -> Host {
-    let mut values = h.values;
-    let mut k: usize = 0;
-    while k < 9 {
-        values[k + 3] = judged(line, k + 1);
-        k += 1;
+impl Host {
+    pub(crate) fn new(alloc: Global) -> Self {
+        Host {
+            word: BAD,
+            values: [0; 12],
+            cookie: Vec::new(alloc),
+        }
     }
-    h.values = values;
-    h.number = row_of(b"bad\nstale\ngood", word(line, 1), 0);
-    h
+
+    // lends TAG TSN STREAMS COOKIE
+    pub(crate) fn lend(&mut self, line: &[u8]) -> Result<(), AllocError> {
+        let mut buffer = [0u8; 300];
+        let cookie = spelt(word(line, 4), &mut buffer);
+        self.values[0] = value32(line, 1);
+        self.values[1] = value32(line, 2);
+        self.values[2] = value32(line, 3);
+        self.cookie.clear();
+        self.cookie.extend_from_slice(cookie)
+    }
+
+    // good or stale, with MY TAG, PEER'S TAG, STREAMS IN, OUT, MY TSN, PEER'S TSN, WINDOW, and the ties, MY and PEER'S, where there are some; or bad
+    pub(crate) fn judge(&mut self, line: &[u8]) {
+        for k in 1..10 {
+            self.values[k + 2] = judged(line, k);
+        }
+        self.word = match word(line, 1) {
+            b"stale" => STALE,
+            b"good" => GOOD,
+            _ => BAD,
+        };
+    }
+}
+
+// What a text spells, in a buffer.
+fn spelt<'a>(s: &[u8], buffer: &'a mut [u8]) -> &'a [u8] {
+    let n = spell(s, buffer, 0);
+    part(buffer, 0, n)
 }
 
 // ---- packets that come, and messages
 
 // Ports, tag and chunks, which then move behind the checksum.
-fn sealed(args: &[u8], packet: &mut [u8]) -> usize {
+fn sealed<'a>(args: &[u8], packet: &'a mut [u8]) -> &'a [u8] {
     spell(args, packet, 0);
-    let h = packets::read_header(packet);
+    let header = packets::read_header(packet);
     let n = spell(rest(rest(args)), packet, 12);
-    packets::seal(packet, n, h)
-}
-
-fn copied(last: &[u8], packet: &mut [u8]) -> usize {
-    put_all(packet, 0, last);
-    last.len()
+    let length = packets::seal(packet, n, header);
+    part(packet, 0, length)
 }
 
 // What is handed to the event: the other end's last packet, one whose bytes all stand there, the checksum too, one that is sealed, or a message behind
 // STREAM UNORDERED PPID.
-pub(crate) fn put_input(line: &[u8], last: &[u8], input: &mut [u8]) -> usize {
+pub(crate) fn input_of<'a>(line: &[u8], last: &'a [u8], buffer: &'a mut [u8]) -> &'a [u8] {
     match verbs::of(line) {
-        verbs::GETS | verbs::PEEKS => copied(last, input),
-        verbs::RAW => spell(rest(line), input, 0),
-        verbs::HEARS | verbs::GLANCES => sealed(rest(line), input),
-        verbs::HANDS => spell(rest(rest(rest(rest(line)))), input, 0),
-        _ => 0,
+        Verb::Gets | Verb::Peeks => last,
+        Verb::Raw => spelt(rest(line), buffer),
+        Verb::Hears | Verb::Glances => sealed(rest(line), buffer),
+        Verb::Hands => spelt(rest(rest(rest(rest(line)))), buffer),
+        _ => &[],
     }
 }
 
 // ---- the event of a line, by its number and its values
 
-// hands STREAM UNORDERED PPID BYTES
-fn number_handed(line: &[u8]) -> u8 {
-    if value32(line, 2) == 1 {
-        return 5;
+fn numbered(code: u8, a: u32, b: u32, c: u32, d: u32) -> Event {
+    Event {
+        code,
+        values: [a, b, c, d, 0, 0, 0, 0, 0, 0, 0, 0],
     }
-    4
-}
-
-// aborts user, data TSN, or violation
-fn number_aborted(line: &[u8]) -> u8 {
-    match row_of(b"user\ndata\nviolation", word(line, 1), 0) {
-        1 => 14,
-        2 => 15,
-        _ => 13,
-    }
-}
-
-// A packet's is the host's word.
-fn number_of(word: u8, line: &[u8]) -> u8 {
-    let verb = verbs::of(line);
-    match verb {
-        verbs::HEARS | verbs::GETS | verbs::RAW => word,
-        verbs::HANDS => number_handed(line),
-        verbs::ABORTS => number_aborted(line),
-        verbs::TAKES8 => verbs::TAKES,
-        _ => verb,
-    }
-}
-
-fn four(a: u32, b: u32, c: u32, d: u32) -> [u32; 12] {
-    [a, b, c, d, 0, 0, 0, 0, 0, 0, 0, 0]
-}
-
-// beats VALUE
-fn values_beaten(line: &[u8]) -> [u32; 12] {
-    let mut value = [0u8; 8];
-    spell(word(line, 1), &mut value, 0);
-    four(get32(&value, 0), get32(&value, 4), 0, 0)
 }
 
 // associates TAG TSN PORT STREAMS; lates PORT TAG MICROSECONDS; strays STREAM; rtt MILLISECONDS
-fn values_called(line: &[u8]) -> [u32; 12] {
-    four(
+fn called(code: u8, line: &[u8]) -> Event {
+    numbered(
+        code,
         value32(line, 1),
         value32(line, 2),
         value32(line, 3),
@@ -160,151 +159,125 @@ fn values_called(line: &[u8]) -> [u32; 12] {
     )
 }
 
-fn values_of(given: [u32; 12], number: u8, line: &[u8]) -> [u32; 12] {
-    match number {
-        0 | 1 | 2 => given,
-        4 | 5 => four(value32(line, 1), value32(line, 3), 0, 0),
-        14 => four(value32(line, 2), 0, 0, 0),
-        18 => values_beaten(line),
-        _ => values_called(line),
+// hands STREAM UNORDERED PPID BYTES
+fn handed(line: &[u8]) -> Event {
+    let code = if value32(line, 2) == 1 {
+        HAND_IN_UNORDERED
+    } else {
+        HAND_IN
+    };
+    numbered(code, value32(line, 1), value32(line, 3), 0, 0)
+}
+
+// aborts user, data TSN, or violation
+fn aborted(line: &[u8]) -> Event {
+    match word(line, 1) {
+        b"data" => numbered(ABORT_NO_DATA, value32(line, 2), 0, 0, 0),
+        b"violation" => called(ABORT_VIOLATION, line),
+        _ => called(ABORT, line),
     }
 }
 
-// The event of a line.
-fn event_of(mut h: Host, line: &[u8]) -> Host {
-    let given = h.values;
-    let number = number_of(h.number, line);
-    let values = values_of(given, number, line);
-    h.number = number;
-    h.values = values;
-    h
+// beats VALUE
+fn beaten(line: &[u8]) -> Event {
+    let mut value = [0u8; 8];
+    spell(word(line, 1), &mut value, 0);
+    numbered(HEARTBEAT, get32(&value, 0), get32(&value, 4), 0, 0)
 }
 
-// A take that is refused for want of room tells the length needed, and a message that is handed in its chunks.
-fn written(event: u8, t: Told) -> usize {
-    match event {
-        4 | 5 => 0,
-        7 => if t.number == 0 { t.length } else { 0 },
+// The event of a line; a packet has what the host lends.
+fn event_of(host: &Host, line: &[u8]) -> Event {
+    match verbs::of(line) {
+        Verb::Hears | Verb::Gets | Verb::Raw => Event {
+            code: host.word,
+            values: host.values,
+        },
+        Verb::Hands => handed(line),
+        Verb::Aborts => aborted(line),
+        Verb::Beats => beaten(line),
+        Verb::Event(code) => called(code, line),
+        _ => called(TAKE, line),
+    }
+}
+
+// A take that is refused for want of room tells the length needed, and a message that is handed in its chunks; a message that is taken is no packet.
+fn outcome(association: Association, code: u8, t: &Told, at: usize) -> Said {
+    let written = match code {
+        HAND_IN | HAND_IN_UNORDERED => 0,
+        TAKE if t.number != 0 => 0,
         _ => t.length,
-    }
-}
-
-// The bytes of a packet: a message that is taken is none.
-fn length_of(event: u8, n: usize) -> usize {
-    if event == 7 {
-        return 0;
-    }
-    n
-}
-
-fn outcome(association: Association, event: u8, t: Told, at: usize) -> Said {
-    let n = written(event, t);
+    };
     Said {
         association,
-        length: length_of(event, n),
-        written: n,
+        length: if code == TAKE { 0 } else { written },
+        written,
         at,
     }
 }
 
-fn cookie_of(cookie: &[u8; 300], len: usize) -> &[u8] {
-    part(cookie, 0, len)
-}
-
 // Every event goes through here.
 fn happens(
-    a: Association,
-    e: Host,
+    a: &Association,
+    event: &Event,
+    cookie: &[u8],
     input: &[u8],
-    into: &mut [u8],
-    from: &mut [u8],
+    received: &mut [u8],
+    sent: &mut [u8],
     out: &mut [u8],
     should: &[u8],
 ) -> Said {
-    let values = e.values;
-    let cookie = e.cookie;
     let mut verdicts = [0u32; 1460];
-    let r = happening::run_coded(
-        a,
-        e.number,
-        &values,
-        into,
-        from,
+    let ran = happening::run_coded(
+        *a,
+        event.code,
+        &event.values,
+        received,
+        sent,
         &mut verdicts,
         input,
-        cookie_of(&cookie, e.cookie_len),
+        cookie,
         out,
     );
-    let t = r.told;
-    let at = showing::say_told(should, e.number, t, &verdicts, out);
-    outcome(r.association, e.number, t, at)
+    let at = showing::say_told(should, event.code, &ran.told, &verdicts, out);
+    outcome(ran.association, event.code, &ran.told, at)
 }
 
 // ---- records that no call leaves
 
-fn in_flight(mut h: Head) -> Head {
-    let mut s = h.sender;
-    let mut p = s.path;
-    p.flight = 1;
-    s.path = p;
-    h.sender = s;
-    h
-}
-
-fn tagless(mut h: Head) -> Head {
-    let mut e = h.ends;
-    e.my_tag = 0;
-    h.ends = e;
-    h
-}
-
-fn come_first(mut h: Head) -> Head {
-    let mut k = h.keeping;
-    let mut come = k.come;
-    come[0] = true;
-    k.come = come;
-    h.keeping = k;
-    h
-}
-
 // spoils flight, tag, tries or come
-fn spoilt(h: Head, w: &[u8]) -> Head {
-    match row_of(b"flight\ntag\ntries\ncome", w, 3) {
-        0 => in_flight(h),
-        1 => tagless(h),
-        2 => h.moved(State::CookieWait(9)),
-        _ => come_first(h),
+fn spoil(h: &mut Head, what: &[u8]) {
+    match what {
+        b"flight" => h.sender.path.flight = 1,
+        b"tag" => h.ends.my_tag = 0,
+        b"tries" => h.state = State::CookieWait(9),
+        _ => h.keeping.come[0] = true,
     }
 }
 
-fn spoils(mut a: Association, w: &[u8]) -> Association {
-    let h = spoilt(a.head, w);
-    a.head = h;
-    a
-}
-
-// The book, 0 where none is said.
-fn mode_of(n: u16) -> u8 {
-    if n < 256 {
-        return n as u8;
-    }
-    255
+// closed PORT MODE: the book, 0 where none is said
+fn closed(line: &[u8]) -> Association {
+    let mode = u8::try_from(value16(line, 2)).unwrap_or(255);
+    Association::closed(value16(line, 1), mode)
 }
 
 // A closed record, a spoilt one, or the present one.
-fn made_up(a: Association, line: &[u8]) -> Association {
+fn made_up(a: &Association, line: &[u8]) -> Association {
     match verbs::of(line) {
-        verbs::CLOSED => Association::closed(value16(line, 1), mode_of(value16(line, 2))),
-        verbs::SPOILS => spoils(a, word(line, 1)),
-        _ => a,
+        Verb::Closed => closed(line),
+        Verb::Spoils => {
+            let mut spoilt = *a;
+            spoil(&mut spoilt.head, word(line, 1));
+            spoilt
+        }
+        _ => *a,
     }
 }
 
 // ---- a line
 
-fn kept(a: Association, at: usize) -> Said {
+fn kept(association: Association, at: usize) -> Said {
     Said {
-        association: a,
+        association,
         length: 0,
         written: 0,
         at,
@@ -312,31 +285,24 @@ fn kept(a: Association, at: usize) -> Said {
 }
 
 // What is no event.
-fn acts_alone(a: Association, line: &[u8], packet: &[u8], should: &[u8]) -> Said {
+fn acts_alone(a: &Association, line: &[u8], packet: &[u8], should: &[u8]) -> Said {
     match verbs::of(line) {
-        verbs::PEEKS | verbs::GLANCES => kept(a, showing::say_peeked(should, calls::peek(packet))),
-        verbs::SHOWS => kept(a, showing::say_record(should, a)),
+        Verb::Peeks | Verb::Glances => {
+            kept(*a, showing::say_peeked(should, &calls::peek(packet)))
+        }
+        Verb::Shows => kept(*a, showing::say_record(should, a)),
         _ => kept(made_up(a, line), say(should, 0, b"ok")),
     }
-}
-
-pub(crate) fn least(a: usize, b: usize) -> usize
-    ensures { result ≤ b }
-{
-    if a < b {
-        return a;
-    }
-    b
 }
 
 // `small`: the areas lack a byte.
 fn area_of(line: &[u8], len: usize) -> usize
     ensures { result ≤ len }
 {
-    if verbs::of(line) == verbs::SMALL {
-        return least(SPACE - 1, len);
+    match verbs::of(line) {
+        Verb::Small => len.min(SPACE - 1),
+        _ => len,
     }
-    len
 }
 
 // `short`: the output lacks a byte. A take has a longer one.
@@ -344,38 +310,39 @@ fn room_of(line: &[u8], len: usize) -> usize
     ensures { result ≤ len }
 {
     match verbs::of(line) {
-        verbs::SHORT => least(LONGEST - 1, len),
-        verbs::TAKES => len,
-        verbs::TAKES8 => least(8, len),
-        _ => least(LONGEST, len),
+        Verb::Short => len.min(LONGEST - 1),
+        Verb::Takes => len,
+        Verb::TakesEight => len.min(8),
+        _ => len.min(LONGEST),
     }
 }
 
 // `input` is what is handed to the event.
 pub(crate) fn acts(
-    a: Association,
-    h: Host,
+    a: &Association,
+    host: &Host,
     line: &[u8],
     input: &[u8],
-    into: &mut [u8],
-    from: &mut [u8],
+    received: &mut [u8],
+    sent: &mut [u8],
     out: &mut [u8],
     should: &[u8],
 ) -> Said {
     let deed = verbs::deed(line);
-    if verbs::PEEKS <= verbs::of(deed) {
+    if !verbs::of(deed).is_event() {
         return acts_alone(a, deed, input, should);
     }
-    let i = area_of(line, into.len());
-    let f = area_of(line, from.len());
+    let i = area_of(line, received.len());
+    let j = area_of(line, sent.len());
     let n = room_of(line, out.len());
     happens(
         a,
-        event_of(h, deed),
+        &event_of(host, deed),
+        &host.cookie,
         input,
-        &mut into[0..i],
-        &mut from[0..f],
-        &mut out[0..n],
+        &mut received[..i],
+        &mut sent[..j],
+        &mut out[..n],
         should,
     )
 }

@@ -8,15 +8,18 @@ mod sameness;
 mod showing;
 mod verbs;
 
-use crate::host::{Host, LONGEST, SPACE, Said, least};
+use crate::host::{Host, LONGEST, SPACE, Said};
+use crate::verbs::Verb;
 use flat::Association;
-use octets::{get8, part, put_all};
-use pages::page::{compare, plus, say, text};
-use pages::reading::{between, find, rest};
+use octets::{get8, part};
+use pages::page::{compare, say, say_packet, text};
+use pages::reading::{deed, line_at, rest, should};
+use std::alloc::{AllocError, Global};
 
 // The descriptor of the standard input.
 const STANDARD_INPUT: i32 = 0;
 
+// More lines are not read.
 const LINES: usize = 4000;
 
 // How much of an area and of an output is looked at.
@@ -31,272 +34,155 @@ const BLANK: u8 = 0xee;
 // Bytes of the longest message, and some more.
 const INPUT: usize = 65600;
 
-// An end: its record, a record that was put aside, its host, its last packet and how long that is.
-#[derive(Clone, Copy)]
+// An end: its record, a record that was put aside, its host, its last packet, and its areas.
+#[derive(Drop)]
 struct Side {
     association: Association,
     aside: Association,
     host: Host,
-    wire: [u8; LONGEST],
-    length: usize,
+    wire: Vec<u8>,
+    received: Vec<u8>,
+    sent: Vec<u8>,
 }
 
-#[derive(Clone, Copy)]
+#[derive(Drop)]
 struct Both {
     a: Side,
     b: Side,
 }
 
 fn is_blank(out: &[u8], from: usize) -> bool {
-    let mut i = from;
-    while i < out.len() {
-        if get8(out, i) != BLANK {
-            return false;
-        }
-        i += 1;
-    }
-    true
+    out.iter().skip(from).all(|byte| *byte == BLANK)
 }
 
 fn say_if(should: &[u8], at: usize, told: bool, s: &[u8]) -> usize {
-    if told {
-        return say(should, at, s);
-    }
-    at
+    if told { say(should, at, s) } else { at }
 }
 
 fn say_sent(should: &[u8], at: usize, packet: &[u8]) -> usize {
-    if packet.len() == 0 {
+    if packet.is_empty() {
         return at;
     }
     let to = say(should, at, b" /");
-    pages::page::say_packet(should, to, packet)
+    say_packet(should, to, packet)
 }
 
 // The state, whether the record and the areas are kept, and the packet.
-fn tell(should: &[u8], a: Association, r: Said, changed: bool, out: &[u8]) {
-    let b = r.association;
-    let h = b.head;
-    let state = h.state;
-    let p = say(should, r.at, b" / ");
-    let q = showing::say_state(should, p, state);
-    let s = say_if(should, q, sameness::same_record(a, b), b" kept");
+fn tell(should: &[u8], a: &Association, said: &Said, changed: bool, out: &[u8]) {
+    let is_same = sameness::same_record(a, &said.association);
+    let is_spilt = !is_blank(part(out, 0, HEAD), said.written);
+    let p = say(should, said.at, b" / ");
+    let q = showing::say_state(should, p, said.association.head.state);
+    let s = say_if(should, q, is_same, b" kept");
     let t = say_if(should, s, changed, b" area");
-    let u = say_if(
-        should,
-        t,
-        !is_blank(part(out, 0, HEAD), r.written),
-        b" SPILT",
-    );
-    let end = say_sent(should, u, part(out, 0, r.length));
-    compare(should, end);
-}
-
-// The packet that was written is the end's last one.
-fn settled(mut side: Side, r: Said, out: &[u8]) -> Side {
-    let b = r.association;
-    side.association = b;
-    if r.length == 0 {
-        return side;
-    }
-    let mut wire = [0u8; LONGEST];
-    put_all(&mut wire, 0, part(out, 0, r.length));
-    side.wire = wire;
-    side.length = r.length;
-    side
+    let u = say_if(should, t, is_spilt, b" SPILT");
+    compare(should, say_sent(should, u, part(out, 0, said.length)));
 }
 
 // The heads of an end's areas, by their checksums.
-fn sums(into: &[u8], from: &[u8]) -> u64 {
-    let i = crc32c::crc32c(part(into, 0, HEAD));
-    let f = crc32c::crc32c(part(from, 0, HEAD));
-    i as u64 * 4294967296 + f as u64
+fn sums(received: &[u8], sent: &[u8]) -> [u32; 2] {
+    [
+        crc32c::crc32c(part(received, 0, HEAD)),
+        crc32c::crc32c(part(sent, 0, HEAD)),
+    ]
 }
 
-// The record put aside, or the present one.
-fn start(side: Side, line: &[u8]) -> Association {
-    if verbs::of(line) == verbs::FROM {
-        return side.aside;
+impl Side {
+    fn new(alloc: Global) -> Result<Side, AllocError> {
+        let association = Association::closed(0, 0);
+        Ok(Side {
+            association,
+            aside: association,
+            host: Host::new(alloc),
+            wire: Vec::new(alloc),
+            received: vec![in alloc; 0; SPACE]?,
+            sent: vec![in alloc; 0; SPACE]?,
+        })
     }
-    side.association
-}
 
-fn packet_of(wire: &[u8; LONGEST], len: usize) -> &[u8] {
-    part(wire, 0, len)
-}
-
-// An event of one end, with the last packet of the other.
-fn lives(
-    side: Side,
-    other: Side,
-    line: &[u8],
-    should: &[u8],
-    into: &mut [u8],
-    from: &mut [u8],
-) -> Side {
-    let a = start(side, line);
-    let event = verbs::behind(line, verbs::FROM);
-    let last = other.wire;
-    let mut input = [0u8; INPUT];
-    let n = host::put_input(
-        verbs::deed(event),
-        packet_of(&last, other.length),
-        &mut input,
-    );
-    let mut out = [BLANK; SPACE];
-    let before = sums(into, from);
-    let r = host::acts(
-        a,
-        side.host,
-        event,
-        part(&input, 0, n),
-        into,
-        from,
-        &mut out,
-        should,
-    );
-    tell(should, a, r, before != sums(into, from), &out);
-    settled(side, r, &out)
-}
-
-fn end_of(both: Both, second: bool) -> Side {
-    if second {
-        return both.b;
+    // The record put aside, or the present one.
+    fn start(&self, line: &[u8]) -> Association {
+        match verbs::of(line) {
+            Verb::From => self.aside,
+            _ => self.association,
+        }
     }
-    both.a
-}
 
-fn with_end(mut both: Both, second: bool, side: Side) -> Both {
-    if second {
-        both.b = side;
-        return both;
+    // The packet that was written is the end's last one.
+    fn settle(&mut self, said: &Said, out: &[u8]) -> Result<(), AllocError> {
+        self.association = said.association;
+        if said.length == 0 {
+            return Ok(());
+        }
+        self.wire.clear();
+        self.wire
+            .extend_from_slice(part(out, 0, said.length.min(LONGEST)))
     }
-    both.a = side;
-    both
-}
 
-// Where an end's areas begin.
-fn area_at(second: bool) -> usize {
-    if second {
-        return SPACE;
+    // An event, with the last packet of the other end.
+    fn live(&mut self, last: &[u8], line: &[u8], should: &[u8]) -> Result<(), AllocError> {
+        text(b": ");
+        let a = self.start(line);
+        let event = verbs::behind(line, Verb::From);
+        let mut buffer = [0u8; INPUT];
+        let input = host::input_of(verbs::deed(event), last, &mut buffer);
+        let mut out = [BLANK; SPACE];
+        let before = sums(&self.received, &self.sent);
+        let said = host::acts(
+            &a,
+            &self.host,
+            event,
+            input,
+            &mut self.received,
+            &mut self.sent,
+            &mut out,
+            should,
+        );
+        let after = sums(&self.received, &self.sent);
+        tell(should, &a, &said, before != after, &out);
+        self.settle(&said, &out)
     }
-    0
-}
 
-fn happens(
-    both: Both,
-    second: bool,
-    line: &[u8],
-    should: &[u8],
-    into: &mut [u8],
-    from: &mut [u8],
-) -> Both {
-    text(b": ");
-    let at = area_at(second);
-    let i = least(plus(at, SPACE), into.len());
-    let f = least(plus(at, SPACE), from.len());
-    let j = least(at, i);
-    let g = least(at, f);
-    let s = lives(
-        end_of(both, second),
-        end_of(both, !second),
-        line,
-        should,
-        &mut into[j..i],
-        &mut from[g..f],
-    );
-    with_end(both, second, s)
-}
-
-fn is_prepared(verb: u8) -> bool {
-    match verb {
-        verbs::SAVES | verbs::LENDS | verbs::JUDGES => true,
-        _ => false,
-    }
-}
-
-// A record is put aside, or the host changes its mind.
-fn prepared(mut side: Side, line: &[u8]) -> Side {
-    let h = side.host;
-    let verb = verbs::of(line);
-    if verb == verbs::SAVES {
-        let a = side.association;
-        side.aside = a;
-        return side;
-    }
-    if verb == verbs::LENDS {
-        let k = host::lends(h, line);
-        side.host = k;
-        return side;
-    }
-    let k = host::judges(h, line);
-    side.host = k;
-    side
-}
-
-fn prepares(both: Both, second: bool, line: &[u8]) -> Both {
-    text(b"\n");
-    let s = prepared(end_of(both, second), line);
-    with_end(both, second, s)
-}
-
-fn is_heading(c: u8) -> bool {
-    match c {
-        65 | 66 => false,
-        _ => true,
+    // A record is put aside, the host changes its mind, or an event happens.
+    fn turn(&mut self, other: &Side, line: &[u8]) -> Result<(), AllocError> {
+        let event = rest(deed(line));
+        match verbs::of(event) {
+            Verb::Saves => self.aside = self.association,
+            Verb::Lends => self.host.lend(event)?,
+            Verb::Judges => self.host.judge(event),
+            _ => return self.live(&other.wire, event, should(line)),
+        }
+        text(b"\n");
+        Ok(())
     }
 }
 
 // A line: an event of A, one of B, or a heading.
-fn turn(both: Both, line: &[u8], into: &mut [u8], from: &mut [u8]) -> Both {
-    let colon = find(line, 0, 58);
-    let event = between(line, 0, colon);
-    let c = get8(line, 0);
-    text(part(event, 0, ECHOED));
-    if is_heading(c) {
-        text(b"\n");
-        return both;
-    }
-    let deed = rest(event);
-    if is_prepared(verbs::of(deed)) {
-        return prepares(both, c == 66, deed);
-    }
-    let should = between(line, plus(colon, 2), line.len());
-    happens(both, c == 66, deed, should, into, from)
-}
-
-fn begun() -> Both {
-    let a = Association::closed(0, 0);
-    let s = Side {
-        association: a,
-        aside: a,
-        host: host::nobody(),
-        wire: [0u8; LONGEST],
-        length: 0,
-    };
-    Both { a: s, b: s }
-}
-
-// `into` and `from` have the areas of both ends.
-fn run(script: &[u8], into: &mut [u8], from: &mut [u8]) {
-    let mut both = begun();
-    let mut at = 0;
-    let mut n = 0;
-    while n < LINES {
-        if script.len() <= at {
-            return;
+fn turn(both: &mut Both, line: &[u8]) -> Result<(), AllocError> {
+    text(part(deed(line), 0, ECHOED));
+    match get8(line, 0) {
+        b'A' => both.a.turn(&both.b, line),
+        b'B' => both.b.turn(&both.a, line),
+        _ => {
+            text(b"\n");
+            Ok(())
         }
-        let end = find(script, at, 10);
-        both = turn(both, between(script, at, end), into, from);
-        at = plus(end, 1);
-        n += 1;
     }
 }
 
-fn main() {
+fn run(alloc: Global, script: &[u8]) -> Result<(), AllocError> {
+    let mut both = Both {
+        a: Side::new(alloc)?,
+        b: Side::new(alloc)?,
+    };
+    for line in script.split_inclusive(|byte| *byte == b'\n').take(LINES) {
+        turn(&mut both, line_at(line, 0))?;
+    }
+    Ok(())
+}
+
+fn main(rt: HostRuntime) -> Result<(), AllocError> {
     let mut script = [0u8; 262144];
-    let mut into = [0u8; 131072];
-    let mut from = [0u8; 131072];
     let n = io::read_full(STANDARD_INPUT, &mut script);
-    run(part(&script, 0, n), &mut into, &mut from);
+    run(rt.alloc(), &script[..n])
 }

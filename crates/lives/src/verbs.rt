@@ -1,65 +1,99 @@
-// The word at the head of a line. That of an event is the event's number; 0, 1 and 2 are those of a packet, whose number is the host's word.
-use crate::forms::row_of;
+// The word at the head of a line.
 use pages::reading::{first, rest};
 
-pub(crate) const HEARS: u8 = 0;
+#[derive(Clone, Copy, PartialEq, Eq)]
+pub(crate) enum Verb {
+    // Packets: in parts, the other end's last one, or one whose bytes all stand there.
+    Hears,
+    Gets,
+    Raw,
+    // Other events that take more than numbers, or have their own output.
+    Hands,
+    Takes,
+    TakesEight,
+    Aborts,
+    Beats,
+    // Any other event, by its number.
+    Event(u8),
+    // No event.
+    Peeks,
+    Glances,
+    Shows,
+    Closed,
+    Spoils,
+    Rests,
+    Saves,
+    Lends,
+    Judges,
+    // What stands before another word.
+    From,
+    Short,
+    Small,
+}
 
-pub(crate) const GETS: u8 = 1;
-
-pub(crate) const RAW: u8 = 2;
-
-pub(crate) const HANDS: u8 = 4;
-
-pub(crate) const TAKES: u8 = 7;
-
-pub(crate) const ABORTS: u8 = 13;
-
-// What is no word of a line, and no event.
+// A number that names no event.
 const UNKNOWN: u8 = 20;
 
-pub(crate) const TAKES8: u8 = 21;
+impl Verb {
+    pub(crate) fn is_event(self) -> bool {
+        matches!(
+            self,
+            Verb::Hears
+                | Verb::Gets
+                | Verb::Raw
+                | Verb::Hands
+                | Verb::Takes
+                | Verb::TakesEight
+                | Verb::Aborts
+                | Verb::Beats
+                | Verb::Event(_)
+        )
+    }
+}
 
-// From here on no event.
-pub(crate) const PEEKS: u8 = 22;
-
-pub(crate) const GLANCES: u8 = 23;
-
-pub(crate) const SHOWS: u8 = 24;
-
-pub(crate) const CLOSED: u8 = 25;
-
-pub(crate) const SPOILS: u8 = 26;
-
-pub(crate) const SAVES: u8 = 28;
-
-pub(crate) const LENDS: u8 = 29;
-
-pub(crate) const JUDGES: u8 = 30;
-
-// What stands before another word.
-pub(crate) const FROM: u8 = 31;
-
-pub(crate) const SHORT: u8 = 32;
-
-pub(crate) const SMALL: u8 = 33;
-
-pub(crate) fn of(line: &[u8]) -> u8 {
-    row_of(
-        b"hears\ngets\nraw\nassociates\nhands\n.\ntransmits\ntakes\nacknowledges\nt1\nt2\nt3\nshuts\naborts\n.\n.\nstrays\nlates\nbeats\nrtt\n.\ntakes8\npeeks\nglances\nshows\nclosed\nspoils\nrests\nsaves\nlends\njudges\nfrom\nshort\nsmall",
-        first(line),
-        UNKNOWN,
-    )
+// A line with no word rests.
+pub(crate) fn of(line: &[u8]) -> Verb {
+    match first(line) {
+        b"hears" => Verb::Hears,
+        b"gets" => Verb::Gets,
+        b"raw" => Verb::Raw,
+        b"associates" => Verb::Event(3),
+        b"hands" => Verb::Hands,
+        b"transmits" => Verb::Event(6),
+        b"takes" => Verb::Takes,
+        b"takes8" => Verb::TakesEight,
+        b"acknowledges" => Verb::Event(8),
+        b"t1" => Verb::Event(9),
+        b"t2" => Verb::Event(10),
+        b"t3" => Verb::Event(11),
+        b"shuts" => Verb::Event(12),
+        b"aborts" => Verb::Aborts,
+        b"strays" => Verb::Event(16),
+        b"lates" => Verb::Event(17),
+        b"beats" => Verb::Beats,
+        b"rtt" => Verb::Event(19),
+        b"peeks" => Verb::Peeks,
+        b"glances" => Verb::Glances,
+        b"shows" => Verb::Shows,
+        b"closed" => Verb::Closed,
+        b"spoils" => Verb::Spoils,
+        b"rests" | b"" => Verb::Rests,
+        b"saves" => Verb::Saves,
+        b"lends" => Verb::Lends,
+        b"judges" => Verb::Judges,
+        b"from" => Verb::From,
+        b"short" => Verb::Short,
+        b"small" => Verb::Small,
+        _ => Verb::Event(UNKNOWN),
+    }
 }
 
 // The line behind a word, if it stands there.
-pub(crate) fn behind(line: &[u8], verb: u8) -> &[u8] {
-    if of(line) == verb {
-        return rest(line);
-    }
-    line
+pub(crate) fn behind(line: &[u8], verb: Verb) -> &[u8] {
+    if of(line) == verb { rest(line) } else { line }
 }
 
 // The line behind what says with which output and areas it is done.
 pub(crate) fn deed(line: &[u8]) -> &[u8] {
-    behind(behind(line, SHORT), SMALL)
+    behind(behind(line, Verb::Short), Verb::Small)
 }
