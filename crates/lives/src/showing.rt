@@ -8,7 +8,7 @@ use events::told::Went;
 use flat::{Association, Head};
 use happening::Told;
 use holding::taking::Message;
-use numbers::Keeping;
+use numbers::{Keeping, Refusal};
 use octets::part;
 use pages::page::{say, say_answer, say_named, say_number, say_packet};
 use path::Path;
@@ -229,12 +229,12 @@ fn say_init(should: &[u8], v: &Init, port: u16) -> usize {
     )
 }
 
-pub(crate) fn say_peeked(should: &[u8], p: &Peeked) -> usize {
-    match p {
-        Peeked::Refused(number) => say_answer(should, 0, *number),
-        Peeked::Nothing => say(should, 0, b"nothing"),
-        Peeked::Init(v, port, _) => say_init(should, v, *port),
-        Peeked::Echo(from, len) => say_form(
+pub(crate) fn say_peeked(should: &[u8], seen: &Result<Option<Peeked>, Refusal>) -> usize {
+    match seen {
+        Err(refusal) => say_answer(should, 0, refusal.number()),
+        Ok(None) => say(should, 0, b"nothing"),
+        Ok(Some(Peeked::Init(v, port, _))) => say_init(should, v, *port),
+        Ok(Some(Peeked::Echo(from, len))) => say_form(
             should,
             0,
             b"echo at # of #",

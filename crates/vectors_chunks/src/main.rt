@@ -15,7 +15,7 @@ use pages::page::{compare, plus, say, say_named, say_number, say_packet, say_unr
 use pages::reading::{
     deed, first, is_heading, line_at, rest, should, spell, value16, value32, word,
 };
-use parameters::parameter::{Parameter, Step, Treatment};
+use parameters::parameter::Parameter;
 
 // The descriptor of the standard input.
 const STANDARD_INPUT: i32 = 0;
@@ -243,10 +243,10 @@ fn say_handling(right: &[u8], at: usize, h: Handling) -> usize {
     }
 }
 
-fn say_treatment(right: &[u8], at: usize, t: Treatment) -> usize {
+fn say_treatment(right: &[u8], at: usize, t: Option<Handling>) -> usize {
     match t {
-        Treatment::Known => say(right, at, b"known"),
-        Treatment::Unknown(h) => say_handling(right, at, h),
+        None => say(right, at, b"known"),
+        Some(h) => say_handling(right, at, h),
     }
 }
 
@@ -263,8 +263,8 @@ fn say_parameter(line: &[u8], right: &[u8]) -> usize {
     let mut buffer = [0u8; ROOM];
     let items = spelt(rest(rest(line)), &mut buffer);
     match parameters::parameter::parameter_at(items, usize::from(value16(line, 1))) {
-        Step::At(p) => say_found(right, p),
-        Step::Done => say(right, 0, b"none"),
+        Some(p) => say_found(right, p),
+        None => say(right, 0, b"none"),
     }
 }
 

@@ -2,6 +2,7 @@
 // what came of it before what should, and whether they are the same.
 #![tactic(auto)]
 
+use numbers::refusal::number_of;
 use octets::{part, put_all, put8, put16};
 use packets::Header;
 use pages::page::{compare, say_answer, say_named, say_number, say_packet, say_unread, text};
@@ -19,7 +20,7 @@ const HEADER: usize = 12;
 // size N: of a packet of so many bytes
 fn size(line: &[u8]) -> u8 {
     let buffer = [0u8; 2048];
-    packets::check_size(part(&buffer, 0, usize::from(value16(line, 1))))
+    number_of(packets::check_size(part(&buffer, 0, usize::from(value16(line, 1)))))
 }
 
 // one KIND LENGTH N: one chunk that says it is so long, in a packet of N bytes of which the rest is 0
@@ -28,7 +29,7 @@ fn one(line: &[u8]) -> u8 {
     let mut buffer = [0u8; 2048];
     put8(&mut buffer, HEADER, kind);
     put16(&mut buffer, HEADER + 2, value16(line, 2));
-    packets::check_shape(part(&buffer, 0, usize::from(value16(line, 3))))
+    number_of(packets::check_shape(part(&buffer, 0, usize::from(value16(line, 3)))))
 }
 
 // What a line spells behind its verb, in a buffer from `at` on, with all that stands before it.
@@ -39,7 +40,7 @@ fn packet_in<'a>(line: &[u8], buffer: &'a mut [u8], at: usize) -> &'a [u8] {
 
 // chunks BYTES, behind a header
 fn shape(line: &[u8]) -> u8 {
-    packets::check_shape(packet_in(line, &mut [0u8; 2048], HEADER))
+    number_of(packets::check_shape(packet_in(line, &mut [0u8; 2048], HEADER)))
 }
 
 // many BYTES: 365 chunks of 4 bytes, all but the last COOKIE ACK
@@ -49,12 +50,12 @@ fn many(line: &[u8]) -> u8 {
         put_all(&mut buffer, at, COOKIE_ACK);
     }
     spell(rest(line), &mut buffer, 1468);
-    packets::check_shape(&buffer)
+    number_of(packets::check_shape(&buffer))
 }
 
 // packet BYTES: all checks of a whole packet
 fn whole(line: &[u8]) -> u8 {
-    packets::check_packet(packet_in(line, &mut [0u8; 2048], 0))
+    number_of(packets::check_packet(packet_in(line, &mut [0u8; 2048], 0)))
 }
 
 // header BYTES
