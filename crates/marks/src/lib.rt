@@ -66,12 +66,19 @@ pub fn missed_all(t: &mut [u32; 1024], from: Tsn, limit: u64) -> Missing
             continue;
         }
         let p = tables::place::place_at(t, i);
-        let q = p.missed(from, limit);
-        struck |= p.reaches(from, limit);
-        flight += q.flight();
-        left |= q.is_outstanding();
-        last = last.max(q.last(from));
-        tables::place::put_state(t, i, q);
+        if p.gets(from, limit) {
+            let q = p.missed(from, limit);
+            struck |= p.reaches(from, limit);
+            flight += q.flight();
+            left |= q.is_outstanding();
+            last = last.max(q.last(from));
+            tables::place::put_state(t, i, q);
+            continue;
+        }
+        flight += p.flight();
+        left |= p.is_outstanding();
+        last = last.max(p.last(from));
+        tables::place::put_state(t, i, p);
     }
     Missing {
         struck,

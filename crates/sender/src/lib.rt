@@ -111,7 +111,8 @@ fn blank_before(t: &[u32; 1024]) -> usize
 }
 
 // What one pass finds, where the places before `start` are free with no misses. Each arm does only what a place of its status asks for: where many are
-// used, most are in flight. Whether eight are free is asked of none that is in flight. A `for` doesn't fit: the pass goes on by one or by eight.
+// used, most are in flight. Whether eight are free is asked of none that is in flight. A `for` doesn't fit: the pass goes on by one or by eight;
+// and with what the arms share said once before them it takes two fifths longer.
 fn survey_of(t: &[u32; 1024], start: usize, acked: Tsn, oldest: u32) -> Survey
     requires { (blank_for rail t.now 0 start ≡ true) × (start ≤ 128) }
     ensures { Surveyed rail acked oldest (places_of rail t.now) result }
@@ -127,22 +128,30 @@ fn survey_of(t: &[u32; 1024], start: usize, acked: Tsn, oldest: u32) -> Survey
     let mut i: usize = start;
     while i < Rail::PLACES {
         let p = tables::place::place_at(t, i);
-        if p.status != Place::FLYING && are_blank(t, i) {
-            i += 8;
-            continue;
-        }
-        i += 1;
-        v.odd = bounds::or_odd(v.odd, p);
         if p.status == Place::FLYING {
+            v.odd = bounds::or_odd(v.odd, p);
             v.flight += p.weight();
             v.sent += 1;
-            v.seen_sent[bounds::spot_of(u64::from(p.offset(acked)))] = true;
+            let j = bounds::spot_of(p.offset(acked) as u64);
+            v.seen_sent[j] = true;
+            i += 1;
+        } else if are_blank(t, i) {
+            i += 8;
+        } else if p.status == Place::FREE {
+            v.odd = bounds::or_odd(v.odd, p);
+            i += 1;
         } else if p.status == Place::WAITING {
+            v.odd = bounds::or_odd(v.odd, p);
             v.waiting += 1;
-            v.seen_waiting[bounds::spot_of(bounds::key_of(p, false, acked, oldest))] = true;
-        } else if p.status != Place::FREE {
+            let k = bounds::spot_of(bounds::key_of(p, false, acked, oldest));
+            v.seen_waiting[k] = true;
+            i += 1;
+        } else {
+            v.odd = bounds::or_odd(v.odd, p);
             v.sent += p.is_sent() as usize;
-            v.seen_sent[bounds::spot_of(bounds::key_of(p, true, acked, oldest))] = true;
+            let j = bounds::spot_of(bounds::key_of(p, true, acked, oldest));
+            v.seen_sent[j] = true;
+            i += 1;
         }
     }
     v
