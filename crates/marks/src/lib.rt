@@ -65,6 +65,7 @@ pub fn missed_all(t: &mut [u32; 1024], from: Tsn, limit: u64) -> Missing
         if tables::place::status_at(t, i) == Place::FREE {
             continue;
         }
+        // Two ways, and not one for both: with one it was measured 6 to 11 ns slower where few places are used.
         let p = tables::place::place_at(t, i);
         if p.gets(from, limit) {
             let q = p.missed(from, limit);
