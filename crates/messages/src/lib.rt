@@ -28,11 +28,7 @@ fn part_len(len: usize, k: usize) -> u16
     requires { 512 * k < len }
     ensures { result ≡ part_len rail len k }
 {
-    let left = len - Rail::PAYLOAD * k;
-    if left < Rail::PAYLOAD {
-        return left as u16;
-    }
-    Rail::PAYLOAD as u16
+    (len - Rail::PAYLOAD * k).min(Rail::PAYLOAD) as u16
 }
 
 // The chunk k of n.
@@ -40,16 +36,13 @@ fn chunk_at(m: Message, n: usize, k: usize) -> Chunk
     requires { (512 * k < m.len) × (k < 128) }
     ensures { result ≡ chunk_at rail m n k }
 {
-    let len = part_len(m.len, k);
-    let order = std::num::wrapping_add_u32(m.first, k as u32);
-    let stream = m.stream;
     Chunk {
         tsn: Tsn(0),
-        order: order,
-        stream: stream,
+        order: m.first.wrapping_add(k as u32),
+        stream: m.stream,
         ssn: Ssn(0),
         ppid: m.ppid,
-        len: len,
+        len: part_len(m.len, k),
         begin: k == 0,
         end: k + 1 == n,
         unordered: m.unordered,
@@ -60,11 +53,10 @@ fn waiting_at(m: Message, n: usize, k: usize) -> Place
     requires { (512 * k < m.len) × (k < 128) }
     ensures { result ≡ waiting_at rail m n k }
 {
-    let chunk = chunk_at(m, n, k);
     Place {
         status: Place::WAITING,
         misses: 0,
-        chunk: chunk,
+        chunk: chunk_at(m, n, k),
     }
 }
 
@@ -83,17 +75,12 @@ fn room_of(t: &[u32; 1024]) -> Room
 {
     let mut free: usize = 0;
     let mut waiting: usize = 0;
-    let mut i: usize = 0;
-    while i < Rail::PLACES {
+    for i in 0..Rail::PLACES {
         let status = tables::place::status_at(t, i);
-        free += (status == Place::FREE) as usize;
-        waiting += (status == Place::WAITING) as usize;
-        i += 1;
+        free += usize::from(status == Place::FREE);
+        waiting += usize::from(status == Place::WAITING);
     }
-    Room {
-        free: free,
-        waiting: waiting,
-    }
+    Room { free, waiting }
 }
 
 // The chunks of the message into the places, and its payloads into the area.
@@ -103,17 +90,12 @@ fn lay_out(t: &mut [u32; 1024], area: &mut [u8], message: &[u8], m: Message, n: 
     ensures area_after { area.new ≡ stored_in rail n message.now (places_of rail t.old) area.old }
 {
     let mut k: usize = 0;
-    let mut i: usize = 0;
-    while i < Rail::PLACES {
+    for i in 0..Rail::PLACES {
         let p = tables::place::place_at(t, i);
         if cutting::takes(p, k, n) {
             store(area, message, i, k);
-            let q = waiting_at(m, n, k);
-            tables::place::put_place(t, i, q);
+            tables::place::put_place(t, i, waiting_at(m, n, k));
             k += 1;
-            i += 1;
-        } else {
-            i += 1;
         }
     }
 }
@@ -148,13 +130,12 @@ pub fn hand_in(
             chunks: 0,
         };
     }
-    let first = std::num::wrapping_add_u32(s.oldest, r.waiting as u32);
     let m = Message {
-        len: len,
-        first: first,
-        stream: stream,
-        ppid: ppid,
-        unordered: unordered,
+        len,
+        first: s.oldest.wrapping_add(r.waiting as u32),
+        stream,
+        ppid,
+        unordered,
     };
     lay_out(t, area, message, m, n);
     Handing {

@@ -4,4 +4,4 @@ use Rattle.tables.specs.OpenLaws.{by-law}
 use Rattle.messages.proofs.chunk_at.Goals as goal
 
 pub returns : goal.returns
-returns c = by-law (chunk-is _ _ _ _) (rw (c.wrapping_add_u32-order.ensures.value, c.part_len-len.ensures))
+returns c = by-law (chunk-is _ _ _ _) (rw c.part_len.ensures)

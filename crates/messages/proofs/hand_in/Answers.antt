@@ -10,4 +10,4 @@ pub returns-then-r-n : goal.returns-then-r-n
 returns-then-r-n c = let t = sym c.is_refused.ensures ∙ c.if-is_refused.false in let a = c.room_of-r.ensures.0 in let b = c.chunks-n.ensures in let l = c.if-r-n.true in record { value = handing-by rail _ _ _ _ _ (refused-20 rail _ _ _ _ _ t a b l) refl; t_after = words-kept rail _ _ _ _ _ (refused-20 rail _ _ _ _ _ t a b l) _ _ refl; area_after = area-kept rail _ _ _ _ _ _ (refused-20 rail _ _ _ _ _ t a b l) refl }
 
 pub returns : goal.returns
-returns c = let t = sym c.is_refused.ensures ∙ c.if-is_refused.false in let a = c.room_of-r.ensures.0 in let b = c.chunks-n.ensures in let l = c.if-r-n.false in record { value = handing-by rail _ _ _ _ _ (refused_none rail _ _ _ _ _ t a b l) b; t_after = words-laid rail _ _ _ _ _ (refused_none rail _ _ _ _ _ t a b l) _ _ c.room_of-r.ensures.1 c.wrapping_add_u32-first.ensures.value b c.lay_out.ensures.t_after; area_after = area-laid rail _ _ _ _ _ _ (refused_none rail _ _ _ _ _ t a b l) b c.lay_out.ensures.area_after }
+returns c = let t = sym c.is_refused.ensures ∙ c.if-is_refused.false in let a = c.room_of-r.ensures.0 in let b = c.chunks-n.ensures in let l = c.if-r-n.false in record { value = handing-by rail _ _ _ _ _ (refused_none rail _ _ _ _ _ t a b l) b; t_after = words-laid rail _ _ _ _ _ (refused_none rail _ _ _ _ _ t a b l) _ _ c.room_of-r.ensures.1 refl b c.lay_out.ensures.t_after; area_after = area-laid rail _ _ _ _ _ _ (refused_none rail _ _ _ _ _ t a b l) b c.lay_out.ensures.area_after }

@@ -10,6 +10,7 @@ use Rattle.tables.specs.PlaceWords.{vacant}
 use Rattle.tables.specs.PlaceWordsLaws.{places-long}
 use Rattle.messages.specs.MessageWords.{lay-start, lay-next, lay-more, lay-keep, lay-end}
 use Rattle.messages.proofs.lay_out.Goals as goal
+use Rattle.messages.proofs.lay_out.Goals.{then-takes, else-takes}
 
 pub loop-i-init : goal.loop-i-init
 loop-i-init c = (lay-start _ _ _ _, record { long = places-long rail _; rest = refl }, refl, omega arith)
@@ -17,14 +18,17 @@ loop-i-init c = (lay-start _ _ _ _, record { long = places-long rail _; rest = r
 pub store-requires : goal.store-requires
 store-requires c = let t = takes-so _ _ _ (sym c.takes.ensures ∙ c.if-takes.true) in omega arith
 
-pub waiting_at-q-requires : goal.waiting_at-q-requires
-waiting_at-q-requires c = let t = takes-so _ _ _ (sym c.takes.ensures ∙ c.if-takes.true) in omega arith
-
-pub loop-i-preserved-then-takes : goal.loop-i-preserved-then-takes
-loop-i-preserved-then-takes c = let w = c.loop-i.invariant in let h = c.loop-i-test.true in let e = c.place_at-p.ensures in let t = sym c.takes.ensures ∙ c.if-takes.true in let a = rw e at t in let b = rw (lay-next w.0 h) at a in (lay-more w.0 h a c.waiting_at-q.ensures c.put_place.ensures, fold_more w.1 vacant _ h (rw (b, c.store.ensures)), ap length c.store.ensures ∙ length-laid _ _ _ ∙ w.2, omega (arith, takes-so _ _ _ t))
+pub waiting_at-requires : goal.waiting_at-requires
+waiting_at-requires c = let t = takes-so _ _ _ (sym c.takes.ensures ∙ c.if-takes.true) in omega arith
 
 pub loop-i-preserved : goal.loop-i-preserved
-loop-i-preserved c = let w = c.loop-i.invariant in let h = c.loop-i-test.true in let e = c.place_at-p.ensures in let t = sym c.takes.ensures ∙ c.if-takes.false in let a = rw e at t in let b = rw (lay-next w.0 h) at a in (lay-keep w.0 h a, fold_more w.1 vacant _ h (rw b), w.2, w.3)
+loop-i-preserved c =
+    let w = c.loop-i.invariant in
+    let h = c.loop-i-test.true in
+    let e = c.place_at-p.ensures in
+    elim c.if-takes.branch [
+      then-takes v ↦ let t = sym c.takes.ensures ∙ v.if-takes.true in let a = rw e at t in let b = rw (lay-next w.0 h) at a in rw (v.t-is, v.area-is, v.k-is) (lay-more w.0 h a v.waiting_at.ensures v.put_place.ensures, fold_more w.1 vacant _ h (rw (b, v.store.ensures)), ap length v.store.ensures ∙ length-laid _ _ _ ∙ w.2, omega (arith, takes-so _ _ _ t))
+    | else-takes v ↦ let t = sym c.takes.ensures ∙ v.if-takes.false in let a = rw e at t in let b = rw (lay-next w.0 h) at a in rw (v.t-is, v.area-is, v.k-is) (lay-keep w.0 h a, fold_more w.1 vacant _ h (rw b), w.2, w.3) ]
 
 pub shape_of-area : goal.shape_of-area
 shape_of-area c = c.loop-i.invariant.2

@@ -8,6 +8,3 @@ use Rattle.messages.proofs.lay_out.Given as goal
 
 abbrev pub invariant-loop-i : goal.invariant-loop-i
 invariant-loop-i l = LayingOut rail l.m l.n l.initial.t l.i l.k l.t × Folding (chunk_stored rail l.n l.message) (record { chunk = 0; area = l.initial.area }) (places_of rail l.initial.t) 128 l.i (record { chunk = l.k; area = l.area }) × (length l.area ≡ length l.initial.area) × (l.k ≤ l.n)
-
-abbrev pub decreases-loop-i : goal.decreases-loop-i
-decreases-loop-i l = 128 - l.i

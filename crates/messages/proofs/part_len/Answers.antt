@@ -1,8 +1,6 @@
-use Rattle.std.proofs.Common.{◌-◌, le-ltb, lt-ltb}
+use Rattle.std.proofs.Common.{◌≡◌, ℕ, ◌-◌, ◌*◌, arith}
+use Rattle.scans.specs.Upto.{pick_less}
 use Rattle.messages.proofs.part_len.Goals as goal
 
-pub returns-then-left-lt-PAYLOAD : goal.returns-then-left-lt-PAYLOAD
-returns-then-left-lt-PAYLOAD c = rw (lt-ltb _ _ c.if-left-lt-PAYLOAD.true)
-
 pub returns : goal.returns
-returns c = rw (le-ltb _ _ c.if-left-lt-PAYLOAD.false)
+returns c = let left : ℕ = c.args.len - 512 * c.args.k in pick_less (λ (n : ℕ). c.min.result ≡ n) left 512 left 512 (λ h. omega (arith, c.min.ensures)) (λ h. omega (arith, c.min.ensures))

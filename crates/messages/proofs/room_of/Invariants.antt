@@ -7,6 +7,3 @@ use Rattle.messages.proofs.room_of.Given as goal
 
 abbrev pub invariant-loop-i : goal.invariant-loop-i
 invariant-loop-i l = Counting (has_status 0) (places_of rail l.t) 128 l.i l.free × Counting (has_status 1) (places_of rail l.t) 128 l.i l.waiting
-
-abbrev pub decreases-loop-i : goal.decreases-loop-i
-decreases-loop-i l = 128 - l.i
