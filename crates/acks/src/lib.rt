@@ -32,54 +32,47 @@ pub struct Expired {
 fn judge(s: Sender, k: Sack) -> u8
     ensures { result ≡ judged_point (sending_shown rail s [] []) k }
 {
-    let from = s.acked;
-    let point = k.point;
-    let b = k.blocks;
     let room = s.room();
-    if from.0 == point.0 {
-        return acknowledging::judge_blocks(b, room);
+    if s.acked.0 == k.point.0 {
+        return acknowledging::judge_blocks(k.blocks, room);
     }
-    let j = from.judge(point, room);
-    acknowledging::judge_by(j, b, room)
+    acknowledging::judge_by(s.acked.judge(k.point, room), k.blocks, room)
 }
 
 // Below which offset an unacknowledged chunk gets a miss.
 fn limit(s: Sender, k: Sack, highest: u32) -> u64
     ensures { result ≡ limit_of (sending_shown rail s [] []) k highest }
 {
-    let p = s.path;
-    if p.running {
-        let d = numbers::keeping::ahead_of(s.acked, k.point);
-        if d < 1 {
-            return highest as u64;
-        }
-        let b = k.blocks;
-        let top = places::blocks::top(b);
-        return d as u64 + top as u64;
+    if !s.path.running {
+        return u64::from(highest);
     }
-    highest as u64
+    match numbers::keeping::ahead_of(s.acked, k.point) {
+        0 => u64::from(highest),
+        moved => u64::from(moved) + u64::from(places::blocks::top(k.blocks)),
+    }
 }
 
 fn accepted(mut s: Sender, t: &mut [u32; 1024], k: Sack) -> Sender
     ensures value { result ≡ accepted_head (sizes_of s.mode) rail s t.old k }
     ensures t_after { t.new ≡ accepted_words rail s t.old k }
 {
-    let from = s.acked;
-    let was = s.path;
-    let point = k.point;
-    let p = acknowledging::answered_by(was, k);
-    let moved = acknowledging::is_moved(from, point);
-    let took = marks::taken_in(k, t, from);
+    let answered = acknowledging::answered_by(s.path, k);
+    let took = marks::taken_in(k, t, s.acked);
     let limit = limit(s, k, took.highest);
-    let w = marks::missed_all(t, from, limit);
-    let last = from.after(w.last);
-    let mut q = acknowledging::path_after(
-        p, s.mode, took.newly, moved, w.struck, last, w.left, point,
+    let missing = marks::missed_all(t, s.acked, limit);
+    s.path = acknowledging::path_after(
+        answered,
+        s.mode,
+        took.newly,
+        acknowledging::is_moved(s.acked, k.point),
+        missing.struck,
+        s.acked.after(missing.last),
+        missing.left,
+        k.point,
     );
-    q.flight = w.flight;
-    s.acked = point;
+    s.path.flight = missing.flight;
+    s.acked = k.point;
     s.advertised = k.window;
-    s.path = q;
     s
 }
 
@@ -87,12 +80,9 @@ fn answered(s: Sender, t: &mut [u32; 1024], k: Sack) -> Acked
     ensures value { result ≡ acked_head (sizes_of s.mode) rail s t.old k }
     ensures t_after { t.new ≡ acked_words rail s t.old k }
 {
-    let n = judge(s, k);
-    if n == 0 {
-        let head = accepted(s, t, k);
-        return Acked { number: n, head };
-    }
-    Acked { number: n, head: s }
+    let number = judge(s, k);
+    let head = if number == 0 { accepted(s, t, k) } else { s };
+    Acked { number, head }
 }
 
 // A SACK.
@@ -101,10 +91,10 @@ pub fn acknowledge(s: Sender, t: &mut [u32; 1024], point: Tsn, window: u32, bloc
     ensures t_after { t.new ≡ acked_words rail s t.old (whole_sack point window blocks) }
 {
     let k = Sack {
-        point: point,
-        window: window,
+        point,
+        window,
         whole: true,
-        blocks: blocks,
+        blocks,
     };
     answered(s, t, k)
 }
@@ -114,12 +104,11 @@ pub fn shutdown_point(s: Sender, t: &mut [u32; 1024], point: Tsn) -> Acked
     ensures value { result ≡ shut_head (sizes_of s.mode) rail s t.old point }
     ensures t_after { t.new ≡ shut_words rail s t.old point }
 {
-    let none = Blocks::none();
     let k = Sack {
-        point: point,
+        point,
         window: s.advertised,
         whole: false,
-        blocks: none,
+        blocks: Blocks::none(),
     };
     if judge(s, k) == 15 {
         return Acked { number: 0, head: s };
@@ -131,19 +120,15 @@ fn overdue(mut s: Sender, t: &mut [u32; 1024]) -> Sender
     ensures value { result ≡ overdue_head (sizes_of s.mode) rail s t.old }
     ensures t_after { t.new ≡ overdue_words rail t.old }
 {
-    let flight = marks::marked_all(t);
-    let p = s.path;
-    let mut q = p.expired(s.mode);
-    q.flight = flight;
-    s.path = q;
+    s.path = s.path.expired(s.mode);
+    s.path.flight = marks::marked_all(t);
     s
 }
 
 fn has_outstanding(s: Sender, t: &[u32; 1024]) -> bool
     ensures { result ≡ has_outstanding (sending_shown rail s t.now []) }
 {
-    let w = marks::tallied(t, s.acked);
-    w.left
+    marks::tallied(t, s.acked).left
 }
 
 // T3 expires.

@@ -5,4 +5,4 @@ use Rattle.tables.specs.OpenLaws.{by-law}
 use Rattle.acks.proofs.has_outstanding.Goals as goal
 
 pub returns : goal.returns
-returns c = by-law (outstanding-is _) (ap (λ (w : Tally). w.left) c.tallied-w.ensures.0)
+returns c = by-law (outstanding-is _) (ap (λ (w : Tally). w.left) c.tallied.ensures.0)

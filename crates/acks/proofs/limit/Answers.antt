@@ -1,13 +1,15 @@
-use borrow.Author.Tests.{lt-ltb, le-ltb}
+use borrow.Author.Tests.{le-ltb}
+use Rattle.std.proofs.Common.{◌≤◌, arith}
+use Rattle.std.proofs.lemmas.Bool.{not-true, not-false}
 use Rattle.sending.specs.SendingTableLaws.{limit_is}
 use Rattle.tables.specs.OpenLaws.{by-law}
 use Rattle.acks.proofs.limit.Goals as goal
 
-pub returns-then-d-lt1 : goal.returns-then-d-lt1
-returns-then-d-lt1 c = by-law (limit_is _ _ _) (rw (c.if-p.true, ← c.ahead_of-d.ensures, lt-ltb _ _ c.if-d-lt1.true))
+pub returns-then-not-s : goal.returns-then-not-s
+returns-then-not-s c = by-law (limit_is _ _ _) (rw (not-true _ c.if-not-s.true) c.from.ensures)
 
-pub returns-then-p : goal.returns-then-p
-returns-then-p c = by-law (limit_is _ _ _) (rw (c.if-p.true, ← c.ahead_of-d.ensures, le-ltb _ _ c.if-d-lt1.false, c.top-top.ensures))
+pub returns-in-0 : goal.returns-in-0
+returns-in-0 c = by-law (limit_is _ _ _) (rw (not-false _ c.if-not-s.false, ← c.ahead_of.ensures, c.in-0.is) c.from-in-0.ensures)
 
-pub returns : goal.returns
-returns c = by-law (limit_is _ _ _) (rw c.if-p.false)
+pub returns-in_default : goal.returns-in_default
+returns-in_default c = let l : 1 ≤ c.ahead_of.result = omega (arith, c.in_default) in by-law (limit_is _ _ _) (rw (not-false _ c.if-not-s.false, ← c.ahead_of.ensures, le-ltb _ _ l, c.from-in_default.ensures, c.from-in_default-2.ensures, c.top.ensures))

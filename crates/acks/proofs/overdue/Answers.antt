@@ -3,4 +3,4 @@ use Rattle.acks.proofs.overdue.Goals as goal
 
 pub returns : goal.returns
 unfolding overdue_head overdue_words
-returns c = record { value = rw (c.expired-q.ensures, c.marked_all-flight.ensures.value); t_after = c.marked_all-flight.ensures.t_after }
+returns c = record { value = rw (c.expired-s.ensures, c.marked_all-s.ensures.value); t_after = c.marked_all-s.ensures.t_after }
