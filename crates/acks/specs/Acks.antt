@@ -1,8 +1,10 @@
 -- A SACK, a SHUTDOWN's point and T3 over head and words: exact for any words. `AcksLaws` says that they show what `Acknowledge` and `Expiry` of `sending` have.
-use Rattle.std.specs.Prelude.{ℕ, ◌^◌, ◌≡◌, Bool, true, false, List, [], map, eqb}
+use Rattle.std.specs.Prelude.{ℕ, ◌^◌, ◌≡◌, Bool, true, false, List, [], map, eqb, Option, Some, None, Result, Ok, Err}
 use Rattle.numbers.specs.declared.circle.Tsn.{Tsn}
 use Rattle.numbers.specs.Numbering.{ring, on}
 use Rattle.numbers.specs.Profile.{Profile}
+use Rattle.numbers.specs.declared.refusal.Refusal.{Refusal}
+use Rattle.numbers.specs.Refusal.{refusal_number}
 use Rattle.scans.specs.Scan.{pick, total}
 use Rattle.path.specs.Sizes.{Sizes}
 use Rattle.path.specs.declared.path.Path.{Path}
@@ -19,7 +21,6 @@ use Rattle.marks.specs.MarkingLaws.{never, missing}
 use Rattle.sender.specs.declared.Sender.{Sender}
 use Rattle.sender.specs.Seen.{sending_shown}
 use Rattle.acks.specs.declared.Acked.{Acked}
-use Rattle.acks.specs.declared.Expired.{Expired}
 
 -- below which offset a chunk gets a miss
 abbrev pub limit_in : Profile → Sender → List ℕ → Sack → ℕ
@@ -81,6 +82,18 @@ unfoldable pub shut_words : Profile → Sender → List ℕ → Tsn → List ℕ
 shut_words P h ws point = pick (eqb (judged_point (sending_shown P h [] []) (shut_of (sending_shown P h [] []) point)) 15) ws (acked_words P h ws (shut_of (sending_shown P h [] []) point))
 
 -- ---- T3
+
+-- the number, 0 if none; whether the tries were spent; the head
+pub record Expired : Type 0 where
+  pub number : ℕ
+  pub over : Bool
+  pub head : Sender
+
+-- spent tries and a refusal leave the head as it was
+abbrev pub expired_of : Sender → Result (Option Sender) Refusal → Expired
+expired_of h (Ok (Some after)) = record { number = 0; over = false; head = after }
+expired_of h (Ok None) = record { number = 0; over = true; head = h }
+expired_of h (Err r) = record { number = refusal_number r; over = false; head = h }
 
 unfoldable pub overdue_words : Profile → List ℕ → List ℕ
 overdue_words P ws = states_by P never marked_for_resend ws

@@ -7,9 +7,9 @@ ghost use Rattle.numbers.specs.Profile.{rail};
 ghost use Rattle.sending.specs.Acknowledge.{judged_point, limit_of, whole_sack, shut_of};
 ghost use Rattle.sending.specs.Sending.{has_outstanding};
 ghost use Rattle.sender.specs.Seen.{sending_shown};
-ghost use Rattle.acks.specs.Acks.{accepted_head, accepted_words, acked_head, acked_words, shut_head, shut_words, overdue_head, overdue_words, expired_head, expired_words};
+ghost use Rattle.acks.specs.Acks.{accepted_head, accepted_words, acked_head, acked_words, shut_head, shut_words, overdue_head, overdue_words, expired_of, expired_head, expired_words};
 
-use numbers::{Blocks, Tsn};
+use numbers::{Blocks, Refusal, Tsn};
 use places::Sack;
 use sender::Sender;
 use sending::acknowledging;
@@ -18,14 +18,6 @@ use sending::acknowledging;
 #[derive(Clone, Copy)]
 pub struct Acked {
     pub number: u8,
-    pub head: Sender,
-}
-
-// The number, 0 if none; whether the tries were spent; the head.
-#[derive(Clone, Copy)]
-pub struct Expired {
-    pub number: u8,
-    pub over: bool,
     pub head: Sender,
 }
 
@@ -131,30 +123,16 @@ fn has_outstanding(s: Sender, t: &[u32; 1024]) -> bool
     marks::tallied(t, s.acked).left
 }
 
-// T3 expires.
-pub fn t3(s: Sender, t: &mut [u32; 1024]) -> Expired
-    ensures value { result ≡ expired_head (sizes_of s.mode) rail s t.old }
+// T3 expires: the head after it, or none, where the tries were spent. What is refused leaves head and table.
+pub fn t3(s: Sender, t: &mut [u32; 1024]) -> Result<Option<Sender>, Refusal>
+    ensures value { expired_of s result ≡ expired_head (sizes_of s.mode) rail s t.old }
     ensures t_after { t.new ≡ expired_words (sizes_of s.mode) rail s t.old }
 {
-    if has_outstanding(s, t) {
-        let p = s.path;
-        if p.is_over() {
-            return Expired {
-                number: 0,
-                over: true,
-                head: s,
-            };
-        }
-        let head = overdue(s, t);
-        return Expired {
-            number: 0,
-            over: false,
-            head,
-        };
+    if !has_outstanding(s, t) {
+        return Err(Refusal::State);
     }
-    Expired {
-        number: 7,
-        over: false,
-        head: s,
+    if s.path.is_over() {
+        return Ok(None);
     }
+    Ok(Some(overdue(s, t)))
 }

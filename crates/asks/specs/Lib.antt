@@ -13,3 +13,4 @@ pub mod TableAcknowledgingLaws
 pub mod TableTransmit
 pub mod TableTransmitLaws
 pub mod BesideLaws
+pub mod ReplyLaws

@@ -15,19 +15,18 @@ use Rattle.calls.specs.AnswerLaws.{Refused, LengthTold, Over}
 use Rattle.calls.specs.Timers.{association_backed_off}
 use Rattle.flat.specs.declared.head.Head.{Head}
 use Rattle.flat.specs.Shown.{shown, bare, association_head}
-use Rattle.asks.specs.declared.answer.Answered.{Answered}
-use Rattle.asks.specs.TableAnswer.{answer_in, with_sender, refused_with, told_with, over_with}
+use Rattle.asks.specs.TableAnswer.{Reply, answer_in, with_sender, refused_with, told_with, over_with}
 
 module _ (h : Head) (held next places next_out kept : List ℕ) where
-  module _ {r : Answered} where
+  module _ {r : Reply} where
     pub refused-in : {n : ℕ} → r ≡ refused_with h n → Refused (shown h held next places next_out kept) n (answer_in r held next places next_out kept)
-    refused-in e = record { is = ap (λ (x : Answered). answer_in x held next places next_out kept) e }
+    refused-in e = record { is = ap (λ (x : Reply). answer_in x held next places next_out kept) e }
 
     pub over-in : r ≡ over_with h → Over (shown h held next places next_out kept) (answer_in r held next places next_out kept)
-    over-in e = record { is = ap (λ (x : Answered). answer_in x held next places next_out kept) e }
+    over-in e = record { is = ap (λ (x : Reply). answer_in x held next places next_out kept) e }
 
     pub told_in : {n : ℕ} → r ≡ told_with h n → LengthTold (shown h held next places next_out kept) n (answer_in r held next places next_out kept)
-    told_in e = record { is = ap (λ (x : Answered). answer_in x held next places next_out kept) e }
+    told_in e = record { is = ap (λ (x : Reply). answer_in x held next places next_out kept) e }
 
   module _ {g : Head} where
     -- another state

@@ -1,20 +1,22 @@
 -- Messages over head and words: exact for any words.
-use Rattle.std.specs.Prelude.{ℕ, Bool, List, eqb, length}
+use Rattle.std.specs.Prelude.{ℕ, Bool, List, eqb, length, Result, Ok, Err}
 use Rattle.scans.specs.Scan.{pick}
 use Rattle.numbers.specs.declared.circle.StreamId.{StreamId}
 use Rattle.numbers.specs.Numbering.{circles}
+use Rattle.numbers.specs.Refusal.{refusal_number}
 use Rattle.numbers.specs.Profile.{rail}
+use Rattle.holding.specs.declared.taking.Message.{Message}
 use Rattle.holding.specs.Taking.{took, written}
 use Rattle.tables.specs.HeldWords.{held_of}
 use Rattle.tables.specs.Ssns.{ssns_of}
 use Rattle.taking.specs.TakeWords.{words_taken, ssns_taken}
-use Rattle.messages.specs.declared.Handing.{Handing}
+use Rattle.messages.specs.MessageWords.{Handing}
 use Rattle.messages.specs.MessageWords as sender
 use Rattle.calls.specs.declared.messages.Delivered as whole
-use Rattle.calls.specs.Messages.{undelivered, delivered_as}
+use Rattle.calls.specs.Messages.{no_message, undelivered, delivered_as}
 use Rattle.flat.specs.declared.head.Head.{Head}
 use Rattle.flat.specs.Shown.{bare}
-use Rattle.asks.specs.declared.delivering.Delivered.{Delivered}
+use Rattle.asks.specs.declared.delivering.Undelivered.{Undelivered}
 
 -- ---- handing in
 
@@ -41,15 +43,24 @@ handed_over n h places area message stream unordered ppid = pick (eqb n 0) (send
 
 -- ---- taking
 
+-- the number, 0 if none; the message, of which a refusal with 18 gives the length needed
+pub record MessageReply : Type 0 where
+  pub number : ℕ
+  pub message : Message
+
+abbrev pub message_reply_of : Result Message Undelivered → MessageReply
+message_reply_of (Ok message) = record { number = 0; message = message }
+message_reply_of (Err u) = record { number = refusal_number u.refusal; message = no_message u.needed }
+
 -- the answer, the words of the held chunks, the next expected SSNs, and the output
 pub record Delivery : Type 0 where
-  pub answer : Delivered
+  pub answer : MessageReply
   pub held : List ℕ
   pub next : List ℕ
   pub out : List ℕ
 
 -- what is given beside the record
-abbrev pub delivered_beside : whole.Delivered → Delivered
+abbrev pub delivered_beside : whole.Delivered → MessageReply
 delivered_beside d = record { number = d.number; message = d.message }
 
 -- 17, and 18 for the output

@@ -20,7 +20,7 @@ use Rattle.tables.specs.Ssns.{ssns_of}
 use Rattle.taking.specs.TakeWords.{words_taken, ssns_taken}
 use Rattle.taking.specs.TakeWordsLaws.{words_long, ssns-taken-long}
 use Rattle.reception.specs.ReceptionLaws.{words-taken}
-use Rattle.messages.specs.declared.Handing.{Handing}
+use Rattle.messages.specs.MessageWords.{Handing}
 use Rattle.messages.specs.MessageWords as sender
 use Rattle.messages.specs.MessageWordsLaws.{handed-shows, area-shows, handed-long}
 use Rattle.states.specs.declared.call.Call.TheVariants.{HandIn}
@@ -33,8 +33,7 @@ use Rattle.calls.specs.Answer.{is_short_area, barred}
 use Rattle.calls.specs.Messages.{handed_as, hand_in_call, undelivered, delivered_as, take_bar, delivered, delivered_out, senders_handing, hand_in_call_area, taking}
 use Rattle.flat.specs.declared.head.Head.{Head}
 use Rattle.flat.specs.Shown.{shown, bare}
-use Rattle.asks.specs.declared.delivering.Delivered.{Delivered}
-use Rattle.asks.specs.TableMessages.{Handover, sender_handover, not_handed, handed_over, Delivery, delivered_beside, delivered_by, not_delivered, delivered_from}
+use Rattle.asks.specs.TableMessages.{Handover, sender_handover, not_handed, handed_over, MessageReply, Delivery, delivered_beside, delivered_by, not_delivered, delivered_from}
 
 -- ---- handing in
 
@@ -104,7 +103,7 @@ module _ (a : Association) (area : List ℕ) {y : Bool} (e : y ≡ is_sound a) w
   pub takes-unsound : y ≡ false → take_bar a area ≡ 1
   takes-unsound t = rw (← e, t)
 
-module _ (h : Head) (held next area out : List ℕ) {b : ℕ} {r : Delivered} where
+module _ (h : Head) (held next area out : List ℕ) {b : ℕ} {r : MessageReply} where
   pub delivery-by : {x : took.Answer} {hs ns os : List ℕ} → b ≡ 0
       → x ≡ (took_from circles rail (held_of rail held) (ssns_of rail next) h.keeping.point.0 (length out)).answer
       → hs ≡ words_taken circles rail held next h.keeping.point.0 (length out)

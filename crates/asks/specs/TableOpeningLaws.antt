@@ -18,8 +18,7 @@ use Rattle.calls.specs.Opening.{init_bytes, wanting, associate_refusal, associat
 use Rattle.flat.specs.declared.head.Head.{Head}
 use Rattle.flat.specs.Shown.{shown, bare, association_head}
 use Rattle.flat.specs.ShownLaws.{started-shows}
-use Rattle.asks.specs.declared.answer.Answered.{Answered}
-use Rattle.asks.specs.TableAnswer.{answer_in, refused_with, told_with}
+use Rattle.asks.specs.TableAnswer.{Reply, answer_in, refused_with, told_with}
 use Rattle.asks.specs.TableAnswerLaws.{refused-in, told_in}
 use Rattle.asks.specs.TableOpening.{Tables, zero_tables, tables_after}
 
@@ -60,7 +59,7 @@ module _ (h : Head) (held next places next_out kept : List ℕ) (tag : ℕ) (tsn
 
   module _ (out : List ℕ) {n : ℕ}
       (q : n ≡ earlier (barred (shown h held next places next_out kept) (is_short_out out) Associate) (associate_refusal h.ends.local_port tag port streams)) where
-    pub opening-done : {g : Head} {r : Answered} {hs is ps os ks exit : List ℕ} {m : ℕ} → n ≡ 0 → g ≡ association_head (wanting (bare h) tag tsn port streams)
+    pub opening-done : {g : Head} {r : Reply} {hs is ps os ks exit : List ℕ} {m : ℕ} → n ≡ 0 → g ≡ association_head (wanting (bare h) tag tsn port streams)
         → hs ≡ replicate 512 0 → is ≡ replicate 128 0 → ps ≡ replicate 1024 0 → os ≡ replicate 128 0 → ks ≡ replicate 256 0
         → Sent (head_to_peer g.ends 0) (init_bytes (bare g)) out m exit → r ≡ told_with g m
         → (CallDone (associating (shown h held next places next_out kept) tag tsn port streams out) out (answer_in r hs is ps os ks) exit)
@@ -71,14 +70,14 @@ module _ (h : Head) (held next places next_out kept : List ℕ) (tag : ℕ) (tsn
           done-so (shown h held next places next_out kept) _ q z
               (done-sent (wanting (shown h held next places next_out kept) tag tsn port streams) (sent-as (ap (λ (x : Association). head_to_peer x.ends 0) o) (ap (λ (x : Association). init_bytes x) o) s) (told-as o (told_in g hs is ps os ks t))),
           (λ i. record { held = a i; next = b i; places = c i; next_out = d i; kept = k i })
-              ∙ ap (λ (x : Answered). tables_after x.number (record { held = held; next = next; places = places; next_out = next_out; kept = kept })) (sym t),
+              ∙ ap (λ (x : Reply). tables_after x.number (record { held = held; next = next; places = places; next_out = next_out; kept = kept })) (sym t),
         )
 
-    pub opening-refused : {r : Answered} → (n ≡ 0 → ⊥) → r ≡ refused_with h n
+    pub opening-refused : {r : Reply} → (n ≡ 0 → ⊥) → r ≡ refused_with h n
         → (CallDone (associating (shown h held next places next_out kept) tag tsn port streams out) out (answer_in r held next places next_out kept) out)
         × (◌≡◌ {A = Tables} (record { held = held; next = next; places = places; next_out = next_out; kept = kept }) (tables_after r.number (record { held = held; next = next; places = places; next_out = next_out; kept = kept })))
     unfolding associating tables_after
     opening-refused {r} z t = (
       done_refused (shown h held next places next_out kept) _ q z (refused-in h held next places next_out kept t),
-      rw (ap (λ (x : Answered). x.number) t, ne_eqb n 0 z),
+      rw (ap (λ (x : Reply). x.number) t, ne_eqb n 0 z),
     )

@@ -17,21 +17,22 @@ use Rattle.sending.specs.Expiry.{overdue, sending_expired}
 use Rattle.sending.specs.SendingTableLaws.{expired-is}
 use Rattle.tables.specs.PlaceWords.{places_of}
 use Rattle.sender.specs.Seen.{sending_shown}
-use Rattle.acks.specs.declared.Expired.{Expired}
-use Rattle.acks.specs.Acks.{expired_head, expired_words}
+use Rattle.acks.specs.Acks.{Expired, expired_head, expired_words}
 use Rattle.acks.specs.AcksLaws.{expired-shows, expired-long}
+use Rattle.states.specs.declared.state.State.{State}
+use Rattle.states.specs.declared.state.State.TheVariants.{Closed, CookieWait, CookieEchoed, Established, ShutdownPending, ShutdownSent, ShutdownReceived, ShutdownAckSent}
 use Rattle.states.specs.declared.call.Call.TheVariants.{ThirdTimer}
+use Rattle.association.specs.declared.ends.Association.{Association}
 use Rattle.association.specs.Fresh.{with_sending}
-use Rattle.calls.specs.Answer.{barred, refusing, quietly, closing_plan, answer_of, QuietlyDone}
-use Rattle.calls.specs.Timers.{expiring_third, overdue_plan}
+use Rattle.calls.specs.Answer.{Plan, barred, refusing, quietly, closing_plan, answer_of, QuietlyDone}
+use Rattle.calls.specs.Timers.{repeating, expiring_third, overdue_plan}
 use Rattle.flat.specs.declared.head.Head.{Head}
 use Rattle.flat.specs.Shown.{shown}
-use Rattle.asks.specs.declared.answer.Answered.{Answered}
-use Rattle.asks.specs.TableAnswer.{answer_in, with_sender, refused_with, told_with, over_with}
+use Rattle.asks.specs.TableAnswer.{Reply, answer_in, with_sender, refused_with, told_with, over_with}
 use Rattle.asks.specs.TableTimers.{Lapse, lapsed_by, lapsed}
 
 -- the call, by what it found
-module _ (h : Head) (places : List ℕ) {n b : ℕ} {r : Answered} (q : n ≡ b) where
+module _ (h : Head) (places : List ℕ) {n b : ℕ} {r : Reply} (q : n ≡ b) where
   pub lapse-by : {exit : List ℕ} {e : Expired} → n ≡ 0 → e ≡ expired_head (sizes_of h.sender.mode) rail h.sender places → exit ≡ expired_words (sizes_of h.sender.mode) rail h.sender places
       → r ≡ lapsed_by h e → ◌≡◌ {A = Lapse} (record { answer = r; places = exit }) (lapsed b h places)
   unfolding lapsed
@@ -71,7 +72,7 @@ module _ (h : Head) (held ns places ms cs : List ℕ) (l : length places ≡ 102
   unfolding answer_of
   lapse-shows = go (eqb after.number 0) after.over refl refl ∙ ap (λ (x : Expiry). answer_of (overdue_plan (shown h held ns places ms cs) x) []) shows
     where
-      with-places : (r : Answered) → places_of rail words ≡ places_of rail places → answer_in r held ns words ms cs ≡ answer_in r held ns places ms cs
+      with-places : (r : Reply) → places_of rail words ≡ places_of rail places → answer_in r held ns words ms cs ≡ answer_in r held ns places ms cs
       with-places r e = rw e
 
       go : (x y : Bool) → eqb after.number 0 ≡ x → after.over ≡ y
@@ -101,3 +102,15 @@ lapsed-long n h places =
     (record { answer = lapsed_by h (expired_head (sizes_of h.sender.mode) rail h.sender places); places = expired_words (sizes_of h.sender.mode) rail h.sender places })
     (record { answer = refused_with h n; places = places })
     (expired-long (sizes_of h.sender.mode) rail h.sender places) refl
+
+-- a state that waits for nothing asks for nothing again
+pub asks-nothing : (s : State) (a : Association) → ((n : ℕ) → s ≡ CookieWait n → ⊥) → ((n : ℕ) → s ≡ CookieEchoed n → ⊥) → ((n : ℕ) → s ≡ ShutdownSent n → ⊥) → ((n : ℕ) → s ≡ ShutdownAckSent n → ⊥)
+    → ◌≡◌ {A = Plan} (repeating s a) (quietly a)
+asks-nothing Closed a w e t k = refl
+asks-nothing (CookieWait n) a w e t k = absurd (w n refl)
+asks-nothing (CookieEchoed n) a w e t k = absurd (e n refl)
+asks-nothing Established a w e t k = refl
+asks-nothing ShutdownPending a w e t k = refl
+asks-nothing (ShutdownSent n) a w e t k = absurd (t n refl)
+asks-nothing ShutdownReceived a w e t k = refl
+asks-nothing (ShutdownAckSent n) a w e t k = absurd (k n refl)

@@ -26,7 +26,6 @@ use Rattle.calls.specs.Packet.{to_peer}
 use Rattle.calls.specs.Transmit.{Bundle, added, added_chosen, bundled, bundle_length, bundle_out, transmit_bar, transmitted_as, transmitted, transmitted_out}
 use Rattle.flat.specs.declared.head.Head.{Head}
 use Rattle.flat.specs.Shown.{shown}
-use Rattle.asks.specs.declared.transmitting.Transmitted.{Transmitted}
 use Rattle.asks.specs.TableAnswer.{with_sender}
 use Rattle.asks.specs.TableTransmit.{Dispatch, dispatched_by, not_dispatched, dispatched}
 

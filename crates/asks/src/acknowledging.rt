@@ -6,35 +6,33 @@ ghost use Rattle.calls.specs.Packet.{to_peer, Sent};
 ghost use Rattle.calls.specs.Acknowledging.{sack_values, acknowledged_call, acknowledged_out};
 ghost use Rattle.flat.specs.Shown.{shown};
 ghost use Rattle.asks.specs.TableAnswer.{head_with_keeping};
-ghost use Rattle.asks.specs.TableAcknowledging.{acknowledged_in};
+ghost use Rattle.asks.specs.TableAcknowledging.{sack_reply_of, acknowledged_in};
 
 use crate::{answer, packet};
 use association::Ends;
 use calls::answer::OUTPUT;
 use chunks::sack::Sack;
 use flat::Head;
-use numbers::Keeping;
+use numbers::{Keeping, Refusal};
 use states::Call;
 
-// The number, 0 if none; the bytes of the packet; what it says; the head.
+// The bytes of the packet; what it says; the head.
 #[derive(Clone, Copy)]
 pub struct Acknowledged {
-    pub number: u8,
     pub length: usize,
     pub sack: Sack,
     pub head: Head,
 }
 
+// Not a `From`: neither type is of this crate.
 fn chunk_of(k: delivery::Sack) -> Sack
     ensures { result ≡ sack_values k }
 {
-    let point = k.point;
-    let blocks = k.blocks;
     let dups = k.dups;
     Sack {
-        point,
+        point: k.point,
         window: k.window,
-        blocks,
+        blocks: k.blocks,
         dups,
         listed: k.listed,
     }
@@ -56,28 +54,22 @@ fn send_sack(e: Ends, k: Sack, out: &mut [u8]) -> usize
     packets::seal(out, 12 + n, h)
 }
 
-// What has come is told to the peer: the values, and the packet. The duplicates listed are told with it.
-pub fn sack(head: Head, held: &[u32; 512], places: &[u32; 1024], out: &mut [u8]) -> Acknowledged
-    ensures { (ns ms cs : List ℕ) → (acknowledged_in result held.now ns places.now ms cs ≡ acknowledged_call (shown head held.now ns places.now ms cs) out.old) × (out.new ≡ acknowledged_out (shown head held.now ns places.now ms cs) out.old) }
+// What has come is told to the peer: the values, and the packet. The duplicates listed are told with it. What is refused leaves the head as it was.
+pub fn sack(
+    head: Head,
+    held: &[u32; 512],
+    places: &[u32; 1024],
+    out: &mut [u8],
+) -> Result<Acknowledged, Refusal>
+    ensures { (ns ms cs : List ℕ) → (acknowledged_in (sack_reply_of head result) held.now ns places.now ms cs ≡ acknowledged_call (shown head held.now ns places.now ms cs) out.old) × (out.new ≡ acknowledged_out (shown head held.now ns places.now ms cs) out.old) }
 {
-    let n = answer::bar(head, held, places, out.len() < OUTPUT, Call::Acknowledge);
-    if n == 0 {
-        let k = reception::acknowledging::sack(head.keeping, held);
-        let said = k.sack;
-        let after = k.keeping;
-        let values = chunk_of(said);
-        let length = send_sack(head.ends, values, out);
-        return Acknowledged {
-            number: 0,
-            length,
-            sack: values,
-            head: with_keeping(head, after),
-        };
-    }
-    Acknowledged {
-        number: n,
-        length: 0,
-        sack: calls::acknowledging::no_sack(),
-        head,
-    }
+    answer::permitted(head, held, places, out.len() < OUTPUT, Call::Acknowledge)?;
+    let said = reception::acknowledging::sack(head.keeping, held);
+    let sack = chunk_of(said.sack);
+    let length = send_sack(head.ends, sack, out);
+    Ok(Acknowledged {
+        length,
+        sack,
+        head: with_keeping(head, said.keeping),
+    })
 }

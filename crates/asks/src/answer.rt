@@ -1,37 +1,66 @@
 // What a call answers, and what bars it.
 ghost use Rattle.std.specs.Prelude.{◌≡◌, List, ℕ};
+ghost use Rattle.numbers.specs.Refusal.{answered_number};
 ghost use Rattle.calls.specs.Answer.{barred};
 ghost use Rattle.flat.specs.Shown.{shown};
-ghost use Rattle.asks.specs.TableAnswer.{with_sender, refused_with, told_with, over_with};
+ghost use Rattle.asks.specs.TableAnswer.{reply_done, with_sender, told_with, over_with};
 
 use flat::Head;
+use numbers::Refusal;
 use sender::Sender;
 use states::{Call, State};
 
-// A number of document 01's table, 0 if none; the bytes of the packet that was written; whether an expiry closed the association; the head.
+// The bytes of the packet that was written; whether an expiry closed the association; the head.
 #[derive(Clone, Copy)]
 pub struct Answered {
-    pub number: u8,
     pub length: usize,
     pub over: bool,
     pub head: Head,
 }
 
-// 1, 18, 7, or 0, whatever the tables that have no part in the bounds; `short` is whether something lent is too short.
-pub fn bar(head: Head, held: &[u32; 512], places: &[u32; 1024], short: bool, call: Call) -> u8
-    ensures { (ns ms cs : List ℕ) → result ≡ barred (shown head held.now ns places.now ms cs) short call }
-{
-    let state = head.state;
-    if flat::bounds::is_sound(head, held, places) {
-        if short {
-            return 18;
+impl Answered {
+    // An expiry that closes changes nothing but the state.
+    pub(crate) fn over(head: Head) -> Answered
+        ensures { reply_done result ≡ over_with head }
+    {
+        Answered {
+            length: 0,
+            over: true,
+            head: head.moved(State::Closed),
         }
-        if states::permits(call, state) {
-            return 0;
-        }
-        return 7;
     }
-    1
+
+    pub(crate) fn told(head: Head, length: usize) -> Answered
+        ensures { reply_done result ≡ told_with head length }
+    {
+        Answered {
+            length,
+            over: false,
+            head,
+        }
+    }
+}
+
+// Whatever the tables that have no part in the bounds; `short` is whether something lent is too short.
+pub fn permitted(
+    head: Head,
+    held: &[u32; 512],
+    places: &[u32; 1024],
+    short: bool,
+    call: Call,
+) -> Result<(), Refusal>
+    ensures { (ns ms cs : List ℕ) → answered_number result ≡ barred (shown head held.now ns places.now ms cs) short call }
+{
+    if !flat::bounds::is_sound(head, held, places) {
+        return Err(Refusal::Record);
+    }
+    if short {
+        return Err(Refusal::Short);
+    }
+    if !states::permits(call, head.state) {
+        return Err(Refusal::State);
+    }
+    Ok(())
 }
 
 pub(crate) fn with_sender(mut head: Head, s: Sender) -> Head
@@ -39,38 +68,4 @@ pub(crate) fn with_sender(mut head: Head, s: Sender) -> Head
 {
     head.sender = s;
     head
-}
-
-pub(crate) fn refused(head: Head, number: u8) -> Answered
-    ensures { result ≡ refused_with head number }
-{
-    Answered {
-        number,
-        length: 0,
-        over: false,
-        head,
-    }
-}
-
-pub(crate) fn told(head: Head, length: usize) -> Answered
-    ensures { result ≡ told_with head length }
-{
-    Answered {
-        number: 0,
-        length,
-        over: false,
-        head,
-    }
-}
-
-// An expiry that closes changes nothing but the state.
-pub(crate) fn over(head: Head) -> Answered
-    ensures { result ≡ over_with head }
-{
-    Answered {
-        number: 0,
-        length: 0,
-        over: true,
-        head: head.moved(State::Closed),
-    }
 }

@@ -1,6 +1,7 @@
 // A message is handed in.
 ghost use Rattle.std.specs.Prelude.{◌≡◌, List, ℕ};
 ghost use Rattle.states.specs.declared.call.Call.TheVariants.{HandIn};
+ghost use Rattle.messages.specs.MessageWords.{handing_of};
 ghost use Rattle.calls.specs.Answer.{is_short_area, barred};
 ghost use Rattle.flat.specs.Shown.{shown};
 ghost use Rattle.asks.specs.TableMessages.{Handover, handed_over};
@@ -8,11 +9,10 @@ ghost use Rattle.asks.specs.TableMessages.{Handover, handed_over};
 use crate::answer;
 use calls::answer::AREA;
 use flat::Head;
-use messages::Handing;
-use numbers::StreamId;
+use numbers::{Refusal, StreamId};
 use states::Call;
 
-// A message for a stream: its chunks wait, their payloads in the lent area. The head stays.
+// A message for a stream: into how many chunks it was cut. They wait, their payloads in the lent area. The head stays; what is refused leaves places and area too.
 pub fn hand_in(
     head: Head,
     held: &[u32; 512],
@@ -22,25 +22,18 @@ pub fn hand_in(
     stream: StreamId,
     unordered: bool,
     ppid: u32,
-) -> Handing
-    ensures { (ns ms cs : List ℕ) → ◌≡◌ {A = Handover} (record { answer = result; places = places.new; area = area.new }) (handed_over (barred (shown head held.now ns places.old ms cs) (is_short_area area.old) HandIn) head places.old area.old message.now stream unordered ppid) }
+) -> Result<usize, Refusal>
+    ensures { (ns ms cs : List ℕ) → ◌≡◌ {A = Handover} (record { answer = handing_of result; places = places.new; area = area.new }) (handed_over (barred (shown head held.now ns places.old ms cs) (is_short_area area.old) HandIn) head places.old area.old message.now stream unordered ppid) }
 {
-    let n = answer::bar(head, held, places, area.len() < AREA, Call::HandIn);
-    if n == 0 {
-        let ends = head.ends;
-        return messages::hand_in(
-            head.sender,
-            places,
-            area,
-            message,
-            stream,
-            unordered,
-            ppid,
-            ends.streams_out,
-        );
-    }
-    Handing {
-        number: n,
-        chunks: 0,
-    }
+    answer::permitted(head, held, places, area.len() < AREA, Call::HandIn)?;
+    messages::hand_in(
+        head.sender,
+        places,
+        area,
+        message,
+        stream,
+        unordered,
+        ppid,
+        head.ends.streams_out,
+    )
 }

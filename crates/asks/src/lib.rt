@@ -1,4 +1,4 @@
-// The calls of the host, but the arrival of a packet, over a head by value and tables that are lent. Each gives the head back beside its answer where it may change; what is refused leaves all.
+// The calls of the host, but the arrival of a packet, over a head by value and tables that are lent. What is answered holds the head, where it may change; what is refused leaves all.
 #![tactic(auto)]
 
 pub mod acknowledging;
@@ -15,7 +15,7 @@ pub mod transmitting;
 pub use crate::acknowledging::{Acknowledged, sack};
 pub use crate::answer::Answered;
 pub use crate::closing::{abort, shutdown};
-pub use crate::delivering::{Delivered, take};
+pub use crate::delivering::{Undelivered, take};
 pub use crate::handing::hand_in;
 pub use crate::opening::associate;
 pub use crate::telling::{error_stale, error_stream, heartbeat};

@@ -40,15 +40,12 @@ pub(crate) fn to_peer(e: Ends) -> Header
 fn init(head: Head) -> Init
     ensures { result ≡ association_init (bare head) }
 {
-    let ends = head.ends;
-    let sender = head.sender;
-    let tsn = sender.next_tsn;
     Init {
-        tag: ends.my_tag,
+        tag: head.ends.my_tag,
         window: WINDOW,
-        outs: ends.streams_out,
+        outs: head.ends.streams_out,
         ins: Rail::STREAMS as u16,
-        tsn,
+        tsn: head.sender.next_tsn,
     }
 }
 

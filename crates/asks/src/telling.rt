@@ -1,16 +1,17 @@
 // ERROR and HEARTBEAT.
 ghost use Rattle.std.specs.Prelude.{◌≡◌, List, ℕ};
+ghost use Rattle.numbers.specs.Refusal.{answered_number};
 ghost use Rattle.calls.specs.Answer.{CallDone};
 ghost use Rattle.calls.specs.Telling.{telling_stream, stale_refusal, telling_stale, beating};
 ghost use Rattle.flat.specs.Shown.{shown};
-ghost use Rattle.asks.specs.TableAnswer.{answer_in};
+ghost use Rattle.asks.specs.TableAnswer.{reply_of, answer_in};
 
-use crate::answer::Answered;
-use crate::{answer, packet};
+use crate::answer::{Answered, permitted};
+use crate::packet;
 use calls::answer::OUTPUT;
 use chunks::cause::Cause;
 use flat::Head;
-use numbers::StreamId;
+use numbers::{Refusal, StreamId};
 use packets::Header;
 use states::Call;
 
@@ -21,29 +22,22 @@ pub fn error_stream(
     places: &[u32; 1024],
     stream: StreamId,
     out: &mut [u8],
-) -> Answered
-    ensures { (ns ms cs : List ℕ) → CallDone (telling_stream (shown head held.now ns places.now ms cs) stream out.old) out.old (answer_in result held.now ns places.now ms cs) out.new }
+) -> Result<Answered, Refusal>
+    ensures { (ns ms cs : List ℕ) → CallDone (telling_stream (shown head held.now ns places.now ms cs) stream out.old) out.old (answer_in (reply_of head result) held.now ns places.now ms cs) out.new }
 {
-    let n = answer::bar(head, held, places, out.len() < OUTPUT, Call::Acknowledge);
-    if n == 0 {
-        let h = packet::to_peer(head.ends);
-        let length = packet::send_error(h, Cause::InvalidStream(stream), out);
-        return answer::told(head, length);
-    }
-    answer::refused(head, n)
+    permitted(head, held, places, out.len() < OUTPUT, Call::Acknowledge)?;
+    let h = packet::to_peer(head.ends);
+    let length = packet::send_error(h, Cause::InvalidStream(stream), out);
+    Ok(Answered::told(head, length))
 }
 
-// 4 for no port or no tag, or 0.
-fn check(local: u16, port: u16, tag: u32) -> u8
-    ensures { result ≡ stale_refusal local port tag }
+fn check(local: u16, port: u16, tag: u32) -> Result<(), Refusal>
+    ensures { answered_number result ≡ stale_refusal local port tag }
 {
-    if association::bounds::lacks_port(local, port) {
-        return 4;
+    if association::bounds::lacks_port(local, port) || tag == 0 {
+        return Err(Refusal::Head);
     }
-    if tag == 0 {
-        return 4;
-    }
-    0
+    Ok(())
 }
 
 // A cookie was stale (27), so many microseconds: ERROR with cause 3 to the peer that the cookie names.
@@ -55,22 +49,18 @@ pub fn error_stale(
     tag: u32,
     late: u32,
     out: &mut [u8],
-) -> Answered
-    ensures { (ns ms cs : List ℕ) → CallDone (telling_stale (shown head held.now ns places.now ms cs) port tag late out.old) out.old (answer_in result held.now ns places.now ms cs) out.new }
+) -> Result<Answered, Refusal>
+    ensures { (ns ms cs : List ℕ) → CallDone (telling_stale (shown head held.now ns places.now ms cs) port tag late out.old) out.old (answer_in (reply_of head result) held.now ns places.now ms cs) out.new }
 {
-    let b = answer::bar(head, held, places, out.len() < OUTPUT, Call::TellStale);
-    let ends = head.ends;
-    let n = calls::answer::earlier(b, check(ends.local_port, port, tag));
-    if n == 0 {
-        let h = Header {
-            source: ends.local_port,
-            destination: port,
-            tag,
-        };
-        let length = packet::send_error(h, Cause::StaleCookie(late), out);
-        return answer::told(head, length);
-    }
-    answer::refused(head, n)
+    permitted(head, held, places, out.len() < OUTPUT, Call::TellStale)?;
+    check(head.ends.local_port, port, tag)?;
+    let h = Header {
+        source: head.ends.local_port,
+        destination: port,
+        tag,
+    };
+    let length = packet::send_error(h, Cause::StaleCookie(late), out);
+    Ok(Answered::told(head, length))
 }
 
 // A HEARTBEAT with a value of the host, which the peer's HEARTBEAT ACK brings back.
@@ -80,13 +70,10 @@ pub fn heartbeat(
     places: &[u32; 1024],
     value: [u8; 8],
     out: &mut [u8],
-) -> Answered
-    ensures { (ns ms cs : List ℕ) → CallDone (beating (shown head held.now ns places.now ms cs) value out.old) out.old (answer_in result held.now ns places.now ms cs) out.new }
+) -> Result<Answered, Refusal>
+    ensures { (ns ms cs : List ℕ) → CallDone (beating (shown head held.now ns places.now ms cs) value out.old) out.old (answer_in (reply_of head result) held.now ns places.now ms cs) out.new }
 {
-    let n = answer::bar(head, held, places, out.len() < OUTPUT, Call::Heartbeat);
-    if n == 0 {
-        let length = packet::send_heartbeat(head.ends, value, out);
-        return answer::told(head, length);
-    }
-    answer::refused(head, n)
+    permitted(head, held, places, out.len() < OUTPUT, Call::Heartbeat)?;
+    let length = packet::send_heartbeat(head.ends, value, out);
+    Ok(Answered::told(head, length))
 }

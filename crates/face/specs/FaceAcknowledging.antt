@@ -5,7 +5,7 @@ use Rattle.chunks.specs.declared.sack.Sack.{Sack}
 use Rattle.calls.specs.declared.acknowledging.Acknowledged as whole
 use Rattle.calls.specs.Acknowledging.{no_sack}
 use Rattle.flat.specs.Shown.{association_head}
-use Rattle.asks.specs.declared.acknowledging.Acknowledged.{Acknowledged}
+use Rattle.asks.specs.TableAcknowledging.{SackReply}
 use Rattle.kept.specs.declared.head.Kept.{Kept}
 use Rattle.kept.specs.Kept.{packed}
 use Rattle.face.specs.FaceLeft.{CallTold, call_told_of, CallLeft, left_with, served}
@@ -13,7 +13,7 @@ use Rattle.face.specs.FaceLeft.{CallTold, call_told_of, CallLeft, left_with, ser
 abbrev pub tsn_number : Tsn → ℕ
 tsn_number t = t.0
 
-abbrev pub said_told : Acknowledged → CallTold
+abbrev pub said_told : SackReply → CallTold
 said_told r = call_told_of r.number (packed r.head) (r.length ∷ r.sack.point.0 ∷ r.sack.window ∷ r.sack.blocks.count ∷ r.sack.listed ∷ [])
 
 pub record SackSaid : Type 0 where

@@ -4,13 +4,13 @@ use mir.Val.{bool_byte}
 use Rattle.calls.specs.declared.answer.Answer as whole
 use Rattle.calls.specs.Answer.{Plan, answer_of, plan_out}
 use Rattle.flat.specs.Shown.{association_head}
-use Rattle.asks.specs.declared.answer.Answered.{Answered}
+use Rattle.asks.specs.TableAnswer.{Reply}
 use Rattle.asks.specs.TableTimers.{Lapse}
 use Rattle.kept.specs.declared.head.Kept.{Kept}
 use Rattle.kept.specs.Kept.{named, packed}
 use Rattle.face.specs.FaceLeft.{CallTold, call_told_of, CallLeft, left_with, served}
 
-abbrev pub answer_told : Answered → CallTold
+abbrev pub answer_told : Reply → CallTold
 answer_told r = call_told_of r.number (packed r.head) (r.length ∷ bool_byte r.over ∷ [])
 
 -- the same of an answer with the whole record

@@ -1,9 +1,8 @@
 -- What the calls for messages tell and leave. The head stays.
 use Rattle.std.specs.Prelude.{ℕ, List, [], ◌∷◌}
 use mir.Val.{bool_byte}
-use Rattle.messages.specs.declared.Handing.{Handing}
-use Rattle.asks.specs.declared.delivering.Delivered.{Delivered}
-use Rattle.asks.specs.TableMessages.{Handover, Delivery}
+use Rattle.messages.specs.MessageWords.{Handing}
+use Rattle.asks.specs.TableMessages.{Handover, MessageReply, Delivery}
 use Rattle.kept.specs.declared.head.Kept.{Kept}
 use Rattle.face.specs.FaceLeft.{CallTold, call_told_of, CallLeft, left_with, served}
 
@@ -25,7 +24,7 @@ abbrev pub handed_left : Kept → Handover → HandedLent → CallLeft HandedLen
 handed_left k d b = served k (handover_left k d) (0 ∷ []) b
 
 -- ---- taking: length, stream, whether it was out of order, SSN, payload protocol identifier
-abbrev pub delivered_told : Kept → Delivered → CallTold
+abbrev pub delivered_told : Kept → MessageReply → CallTold
 delivered_told k r = call_told_of r.number k (r.message.length ∷ r.message.stream.0 ∷ bool_byte r.message.unordered ∷ r.message.ssn.0 ∷ r.message.ppid ∷ [])
 
 pub record DeliveredLent : Type 0 where

@@ -1,13 +1,12 @@
 -- What the call that fills a packet tells: its length, whether a chunk goes again, its first and last TSN.
 use Rattle.std.specs.Prelude.{ℕ, List, [], ◌∷◌}
 use mir.Val.{bool_byte}
-use Rattle.asks.specs.declared.transmitting.Transmitted.{Transmitted}
-use Rattle.asks.specs.TableTransmit.{Dispatch}
+use Rattle.asks.specs.TableTransmit.{PacketReply, Dispatch}
 use Rattle.kept.specs.declared.head.Kept.{Kept}
 use Rattle.kept.specs.Kept.{packed}
 use Rattle.face.specs.FaceLeft.{CallTold, call_told_of, CallLeft, left_with, served}
 
-abbrev pub dispatched_told : Transmitted → CallTold
+abbrev pub dispatched_told : PacketReply → CallTold
 dispatched_told r = call_told_of r.number (packed r.head) (r.length ∷ bool_byte r.resent ∷ r.first.0 ∷ r.last.0 ∷ [])
 
 pub record DispatchedLent : Type 0 where

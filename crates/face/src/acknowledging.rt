@@ -1,60 +1,84 @@
 // A SACK goes out.
-ghost use Rattle.std.specs.Prelude.{ℕ, ◌≡◌, List, map};
+ghost use Rattle.std.specs.Prelude.{ℕ, ◌≡◌, List, [], ◌∷◌, map};
+ghost use Rattle.calls.specs.Acknowledging.{no_sack};
+ghost use Rattle.asks.specs.TableAcknowledging.{sack_reply_of};
 ghost use Rattle.face.specs.FaceLeft.{call_told_of};
 ghost use Rattle.face.specs.FaceAcknowledging.{tsn_number, said_in, said_told, said_lists};
 ghost use Rattle.face.specs.Promises.{Acknowledges};
 
+use crate::answer;
 use crate::answer::Served;
+use asks::Acknowledged;
 use chunks::sack::Sack;
+use flat::Head;
 use kept::Kept;
-use numbers::{Rail, Tsn};
-
-fn number_of(t: Tsn) -> u32
-    ensures { result ≡ tsn_number t }
-{
-    t.0
-}
+use numbers::{Rail, Refusal, Tsn};
 
 fn numbers_of(tsns: [Tsn; Rail::LISTED]) -> [u32; Rail::LISTED]
     ensures { result ≡ map tsn_number tsns }
 {
     let mut numbers = [0u32; Rail::LISTED];
-    let mut i: usize = 0;
-    while i < Rail::LISTED {
-        numbers[i] = number_of(tsns[i]);
-        i += 1;
+    for i in 0..Rail::LISTED {
+        numbers[i] = tsns[i].0;
     }
     numbers
 }
 
-// The blocks, and the duplicates.
-fn list(k: Sack, starts: &mut [u16; 64], ends: &mut [u16; 64], dups: &mut [u32; 16])
-    ensures { (out : List ℕ) → said_in starts.new ends.new dups.new out ≡ said_lists k out }
+// The blocks, and the duplicates. An array that is a field goes by a variable: the borrow checker covers no other form.
+fn list(sack: Sack, starts: &mut [u16; 64], ends: &mut [u16; 64], dups: &mut [u32; 16])
+    ensures { (out : List ℕ) → said_in starts.new ends.new dups.new out ≡ said_lists sack out }
 {
-    let blocks = k.blocks;
-    let repeats = k.dups;
-    let first = blocks.starts;
-    let last = blocks.ends;
+    let first = sack.blocks.starts;
+    let last = sack.blocks.ends;
+    let repeats = sack.dups;
     let numbers = numbers_of(repeats);
     *starts = first;
     *ends = last;
     *dups = numbers;
 }
 
-// Told: length, point, window, how many blocks, how many duplicates.
-fn said(r: asks::Acknowledged, told: &mut [usize; 5]) -> Served
-    ensures { call_told_of result.number result.kept told.new ≡ said_told r }
+// No block and no duplicate, and zeros.
+fn unsaid(starts: &mut [u16; 64], ends: &mut [u16; 64], dups: &mut [u32; 16], told: &mut [usize; 5])
+    ensures lists { (out : List ℕ) → said_in starts.new ends.new dups.new out ≡ said_lists no_sack out }
+    ensures zeros { told.new ≡ 0 ∷ 0 ∷ 0 ∷ 0 ∷ 0 ∷ [] }
 {
-    let head = r.head;
-    let k = r.sack;
-    let point = k.point;
-    let blocks = k.blocks;
-    let a = point.0 as usize;
-    let b = k.window as usize;
-    *told = [r.length, a, b, blocks.count, k.listed];
-    Served {
-        number: r.number as u32,
-        kept: kept::pack(head),
+    *starts = [0; 64];
+    *ends = [0; 64];
+    *dups = [0; 16];
+    *told = [0; 5];
+}
+
+// Told: length, point, window, how many blocks, how many duplicates.
+fn said(
+    head: Head,
+    answer: Result<Acknowledged, Refusal>,
+    starts: &mut [u16; 64],
+    ends: &mut [u16; 64],
+    dups: &mut [u32; 16],
+    told: &mut [usize; 5],
+) -> Served
+    ensures call { call_told_of result.number result.kept told.new ≡ said_told (sack_reply_of head answer) }
+    ensures lists { (out : List ℕ) → said_in starts.new ends.new dups.new out ≡ said_lists (sack_reply_of head answer).sack out }
+{
+    match answer {
+        Ok(a) => {
+            list(a.sack, starts, ends, dups);
+            *told = [
+                a.length,
+                a.sack.point.0 as usize,
+                a.sack.window as usize,
+                a.sack.blocks.count,
+                a.sack.listed,
+            ];
+            Served {
+                number: 0,
+                kept: kept::pack(a.head),
+            }
+        }
+        Err(refusal) => {
+            unsaid(starts, ends, dups, told);
+            answer::refused(head, refusal)
+        }
     }
 }
 
@@ -73,15 +97,10 @@ pub fn sack(
 {
     if kept::is_named(k) {
         let head = kept::unpack(k);
-        let r = asks::sack(head, held, places, out);
-        let values = r.sack;
-        list(values, starts, ends, dups);
-        return said(r, told);
+        let answer = asks::sack(head, held, places, out);
+        return said(head, answer, starts, ends, dups, told);
     }
-    *starts = [0; 64];
-    *ends = [0; 64];
-    *dups = [0; 16];
-    *told = [0; 5];
+    unsaid(starts, ends, dups, told);
     Served { number: 1, kept: k }
 }
 

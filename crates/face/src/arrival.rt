@@ -15,11 +15,10 @@ use steps::{Lent, Made};
 fn judged(r: Landed, told: &mut [usize; 2]) -> Served
     ensures { call_told_of result.number result.kept told.new ≡ landed_told r }
 {
-    let head = r.head;
     *told = [r.count, r.length];
     Served {
-        number: r.number as u32,
-        kept: kept::pack(head),
+        number: u32::from(r.number),
+        kept: kept::pack(r.head),
     }
 }
 
@@ -76,7 +75,7 @@ pub fn arrive(
             options: agreed,
         };
         let echoed = kept::word::echoed_of(word, made);
-        let r = landing::arrive(
+        let landed = landing::arrive(
             head,
             held,
             next_in,
@@ -91,7 +90,7 @@ pub fn arrive(
             echoed,
             out,
         );
-        return judged(r, told);
+        return judged(landed, told);
     }
     *told = [0; 2];
     Served { number: 1, kept: k }

@@ -4,8 +4,7 @@ ghost use Rattle.kept.specs.Cause.{reason_of};
 ghost use Rattle.face.specs.FaceLeft.{call_told_of};
 ghost use Rattle.face.specs.Promises.{Sends};
 
-use crate::answer;
-use crate::answer::Served;
+use crate::answer::{Served, tell};
 use kept::{Kept, cause};
 
 // No more messages.
@@ -20,8 +19,8 @@ pub fn shutdown(
 {
     if kept::is_named(k) {
         let head = kept::unpack(k);
-        let r = asks::shutdown(head, held, places, out);
-        return answer::tell(r, told);
+        let answer = asks::shutdown(head, held, places, out);
+        return tell(head, answer, told);
     }
     *told = [0; 2];
     Served { number: 1, kept: k }
@@ -57,8 +56,8 @@ pub fn abort(
     if kept::is_named(k) {
         let head = kept::unpack(k);
         let why = cause::reason_of(cause, tsn);
-        let r = asks::abort(head, held, places, why, out);
-        return answer::tell(r, told);
+        let answer = asks::abort(head, held, places, why, out);
+        return tell(head, answer, told);
     }
     *told = [0; 2];
     Served { number: 1, kept: k }

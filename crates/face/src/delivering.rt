@@ -1,28 +1,37 @@
 // Messages are taken.
 ghost use Rattle.std.specs.Prelude.{◌≡◌};
+ghost use Rattle.asks.specs.TableMessages.{message_reply_of};
 ghost use Rattle.face.specs.FaceLeft.{call_told_of};
 ghost use Rattle.face.specs.FaceMessages.{delivered_told, delivered_lent};
 ghost use Rattle.face.specs.Promises.{Takes};
 
 use crate::answer::Served;
+use asks::Undelivered;
+use holding::taking::Message;
 use kept::{Kept, flags};
 
 // Told: length, stream, whether it was out of order, SSN, payload protocol identifier.
-fn given(k: Kept, r: asks::Delivered, told: &mut [usize; 5]) -> Served
-    ensures { call_told_of result.number result.kept told.new ≡ delivered_told k r }
+fn given(k: Kept, answer: Result<Message, Undelivered>, told: &mut [usize; 5]) -> Served
+    ensures { call_told_of result.number result.kept told.new ≡ delivered_told k (message_reply_of answer) }
 {
-    let m = r.message;
-    let stream = m.stream;
-    let ssn = m.ssn;
-    let unordered = flags::byte_of(m.unordered);
-    let a = stream.0 as usize;
-    let b = unordered as usize;
-    let c = ssn.0 as usize;
-    let d = m.ppid as usize;
-    *told = [m.length, a, b, c, d];
-    Served {
-        number: r.number as u32,
-        kept: k,
+    match answer {
+        Ok(message) => {
+            *told = [
+                message.length,
+                usize::from(message.stream.0),
+                usize::from(flags::byte_of(message.unordered)),
+                usize::from(message.ssn.0),
+                message.ppid as usize,
+            ];
+            Served { number: 0, kept: k }
+        }
+        Err(undelivered) => {
+            *told = [undelivered.needed, 0, 0, 0, 0];
+            Served {
+                number: u32::from(undelivered.refusal.number()),
+                kept: k,
+            }
+        }
     }
 }
 
@@ -40,8 +49,8 @@ pub fn take(
 {
     if kept::is_named(k) {
         let head = kept::unpack(k);
-        let r = asks::take(head, held, next_in, places, area, out);
-        return given(k, r, told);
+        let answer = asks::take(head, held, next_in, places, area, out);
+        return given(k, answer, told);
     }
     *told = [0; 5];
     Served { number: 1, kept: k }

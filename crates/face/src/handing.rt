@@ -1,20 +1,24 @@
 // Messages are handed in.
 ghost use Rattle.std.specs.Prelude.{◌≡◌};
+ghost use Rattle.messages.specs.MessageWords.{handing_of};
 ghost use Rattle.face.specs.FaceLeft.{call_told_of};
 ghost use Rattle.face.specs.FaceMessages.{handed_told, handed_lent};
 ghost use Rattle.face.specs.Promises.{HandsIn};
 
 use crate::answer::Served;
 use kept::{Kept, flags};
-use messages::Handing;
-use numbers::StreamId;
+use numbers::{Refusal, StreamId};
 
-fn handed(k: Kept, r: Handing, told: &mut [usize; 1]) -> Served
-    ensures { call_told_of result.number result.kept told.new ≡ handed_told k r }
+fn handed(k: Kept, answer: Result<usize, Refusal>, told: &mut [usize; 1]) -> Served
+    ensures { call_told_of result.number result.kept told.new ≡ handed_told k (handing_of answer) }
 {
-    *told = [r.chunks];
+    let (number, chunks) = match answer {
+        Ok(chunks) => (0, chunks),
+        Err(refusal) => (refusal.number(), 0),
+    };
+    *told = [chunks];
     Served {
-        number: r.number as u32,
+        number: u32::from(number),
         kept: k,
     }
 }
@@ -35,18 +39,17 @@ pub fn hand_in(
 {
     if kept::is_named(k) {
         let head = kept::unpack(k);
-        let out_of_order = flags::is_yes(unordered);
-        let r = asks::hand_in(
+        let answer = asks::hand_in(
             head,
             held,
             places,
             area,
             message,
             StreamId(stream),
-            out_of_order,
+            flags::is_yes(unordered),
             ppid,
         );
-        return handed(k, r, told);
+        return handed(k, answer, told);
     }
     *told = [0; 1];
     Served { number: 1, kept: k }

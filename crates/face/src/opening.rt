@@ -4,8 +4,7 @@ ghost use Rattle.face.specs.FaceLeft.{call_told_of};
 ghost use Rattle.face.specs.FaceOpening.{tables_lent, associated_lent};
 ghost use Rattle.face.specs.Promises.{Closes, Associates};
 
-use crate::answer;
-use crate::answer::Served;
+use crate::answer::{Served, tell};
 use flat::Head;
 use kept::Kept;
 use numbers::Tsn;
@@ -72,7 +71,7 @@ pub fn associate(
 {
     if kept::is_named(k) {
         let head = kept::unpack(k);
-        let r = asks::associate(
+        let answer = asks::associate(
             head,
             held,
             next_in,
@@ -85,7 +84,7 @@ pub fn associate(
             streams,
             out,
         );
-        return answer::tell(r, told);
+        return tell(head, answer, told);
     }
     *told = [0; 2];
     Served { number: 1, kept: k }

@@ -3,8 +3,7 @@ ghost use Rattle.calls.specs.Telling.{telling_stream, telling_stale, beating};
 ghost use Rattle.face.specs.FaceLeft.{call_told_of};
 ghost use Rattle.face.specs.Promises.{Sends};
 
-use crate::answer;
-use crate::answer::Served;
+use crate::answer::{Served, tell};
 use kept::Kept;
 use numbers::StreamId;
 
@@ -21,8 +20,8 @@ pub fn error_stream(
 {
     if kept::is_named(k) {
         let head = kept::unpack(k);
-        let r = asks::error_stream(head, held, places, StreamId(stream), out);
-        return answer::tell(r, told);
+        let answer = asks::error_stream(head, held, places, StreamId(stream), out);
+        return tell(head, answer, told);
     }
     *told = [0; 2];
     Served { number: 1, kept: k }
@@ -59,8 +58,8 @@ pub fn error_stale(
 {
     if kept::is_named(k) {
         let head = kept::unpack(k);
-        let r = asks::error_stale(head, held, places, port, tag, late, out);
-        return answer::tell(r, told);
+        let answer = asks::error_stale(head, held, places, port, tag, late, out);
+        return tell(head, answer, told);
     }
     *told = [0; 2];
     Served { number: 1, kept: k }
@@ -98,8 +97,8 @@ pub fn heartbeat(
     if kept::is_named(k) {
         let head = kept::unpack(k);
         let bytes = *value;
-        let r = asks::heartbeat(head, held, places, bytes, out);
-        return answer::tell(r, told);
+        let answer = asks::heartbeat(head, held, places, bytes, out);
+        return tell(head, answer, told);
     }
     *told = [0; 2];
     Served { number: 1, kept: k }

@@ -3,8 +3,7 @@ ghost use Rattle.states.specs.declared.call.Call.TheVariants.{FirstTimer, Second
 ghost use Rattle.face.specs.FaceLeft.{call_told_of};
 ghost use Rattle.face.specs.Promises.{Expires, Lapses, Samples};
 
-use crate::answer;
-use crate::answer::Served;
+use crate::answer::{Served, tell};
 use kept::Kept;
 
 // T1 expires: INIT or COOKIE ECHO again, or closed.
@@ -20,8 +19,8 @@ pub fn t1(
 {
     if kept::is_named(k) {
         let head = kept::unpack(k);
-        let r = asks::t1(head, held, places, kept_cookie, out);
-        return answer::tell(r, told);
+        let answer = asks::t1(head, held, places, kept_cookie, out);
+        return tell(head, answer, told);
     }
     *told = [0; 2];
     Served { number: 1, kept: k }
@@ -56,8 +55,8 @@ pub fn t2(
 {
     if kept::is_named(k) {
         let head = kept::unpack(k);
-        let r = asks::t2(head, held, places, kept_cookie, out);
-        return answer::tell(r, told);
+        let answer = asks::t2(head, held, places, kept_cookie, out);
+        return tell(head, answer, told);
     }
     *told = [0; 2];
     Served { number: 1, kept: k }
@@ -85,8 +84,8 @@ pub fn t3(k: Kept, held: &[u32; 512], places: &mut [u32; 1024], told: &mut [usiz
 {
     if kept::is_named(k) {
         let head = kept::unpack(k);
-        let r = asks::t3(head, held, places);
-        return answer::tell(r, told);
+        let answer = asks::t3(head, held, places);
+        return tell(head, answer, told);
     }
     *told = [0; 2];
     Served { number: 1, kept: k }
@@ -118,8 +117,8 @@ pub fn rtt(
 {
     if kept::is_named(k) {
         let head = kept::unpack(k);
-        let r = asks::rtt(head, held, places, sample);
-        return answer::tell(r, told);
+        let answer = asks::rtt(head, held, places, sample);
+        return tell(head, answer, told);
     }
     *told = [0; 2];
     Served { number: 1, kept: k }

@@ -1,27 +1,34 @@
 // A packet of DATA chunks goes out.
 ghost use Rattle.std.specs.Prelude.{◌≡◌};
+ghost use Rattle.asks.specs.TableTransmit.{packet_reply_of};
 ghost use Rattle.face.specs.FaceLeft.{call_told_of};
 ghost use Rattle.face.specs.FaceTransmit.{dispatched_told, dispatched_lent};
 ghost use Rattle.face.specs.Promises.{Transmits};
 
+use crate::answer;
 use crate::answer::Served;
+use asks::Transmitted;
+use flat::Head;
 use kept::{Kept, flags};
+use numbers::Refusal;
 
 // Told: length, whether a chunk goes again, first and last TSN.
-fn sent(r: asks::Transmitted, told: &mut [usize; 4]) -> Served
-    ensures { call_told_of result.number result.kept told.new ≡ dispatched_told r }
+fn sent(head: Head, answer: Result<Transmitted, Refusal>, told: &mut [usize; 4]) -> Served
+    ensures { call_told_of result.number result.kept told.new ≡ dispatched_told (packet_reply_of head answer) }
 {
-    let head = r.head;
-    let first = r.first;
-    let last = r.last;
-    let resent = flags::byte_of(r.resent);
-    let a = resent as usize;
-    let b = first.0 as usize;
-    let c = last.0 as usize;
-    *told = [r.length, a, b, c];
-    Served {
-        number: r.number as u32,
-        kept: kept::pack(head),
+    match answer {
+        Ok(t) => {
+            let resent = usize::from(flags::byte_of(t.resent));
+            *told = [t.length, resent, t.first.0 as usize, t.last.0 as usize];
+            Served {
+                number: 0,
+                kept: kept::pack(t.head),
+            }
+        }
+        Err(refusal) => {
+            *told = [0; 4];
+            answer::refused(head, refusal)
+        }
     }
 }
 
@@ -39,8 +46,8 @@ pub fn transmit(
 {
     if kept::is_named(k) {
         let head = kept::unpack(k);
-        let r = asks::transmit(head, held, places, next_out, area, out);
-        return sent(r, told);
+        let answer = asks::transmit(head, held, places, next_out, area, out);
+        return sent(head, answer, told);
     }
     *told = [0; 4];
     Served { number: 1, kept: k }

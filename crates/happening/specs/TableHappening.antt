@@ -13,6 +13,7 @@ use Rattle.calls.specs.Telling.{telling_stale, beating}
 use Rattle.flat.specs.declared.head.Head.{Head}
 use Rattle.flat.specs.declared.head.Association.{Association}
 use Rattle.flat.specs.Shown.{association_head, shows}
+use Rattle.asks.specs.TableAnswer.{Reply}
 use Rattle.asks.specs.TableOpening.{Tables, tables_after}
 use Rattle.asks.specs.TableTimers.{Lapse, lapsed}
 use Rattle.asks.specs.TableMessages.{Handover, handed_over, Delivery, delivered_from}
@@ -70,6 +71,10 @@ with_tables h t = record { head = h; held = t.held; next_in = t.next; places = t
 
 abbrev pub tables_of : Association → Tables
 tables_of a = record { held = a.held; next = a.next_in; places = a.places; next_out = a.next_out; kept = a.cookie }
+
+-- what a call that changes no table tells and leaves
+abbrev pub ran_with : Association → Reply → Ran
+ran_with a r = ran_of (of_answered r) (with_head a r.head)
 
 -- a call that goes as planned; the same with no output
 abbrev pub table_planned : Association → Plan → TableBuffers → TablesLeft

@@ -6,11 +6,12 @@ use Rattle.chunks.specs.declared.sack.Sack.{Sack}
 use Rattle.calls.specs.declared.answer.Answer as whole
 use Rattle.calls.specs.Messages.{no_message}
 use Rattle.calls.specs.Acknowledging.{no_sack}
-use Rattle.messages.specs.declared.Handing.{Handing}
+use Rattle.messages.specs.MessageWords.{Handing}
 use Rattle.landing.specs.declared.arrival.Landed.{Landed}
-use Rattle.asks.specs.declared.answer.Answered.{Answered}
-use Rattle.asks.specs.declared.delivering.Delivered.{Delivered}
-use Rattle.asks.specs.declared.transmitting.Transmitted.{Transmitted}
+use Rattle.asks.specs.TableAnswer.{Reply}
+use Rattle.asks.specs.TableAcknowledging.{SackReply}
+use Rattle.asks.specs.TableMessages.{MessageReply}
+use Rattle.asks.specs.TableTransmit.{PacketReply}
 use Rattle.events.specs.declared.told.Went.{Went}
 use Rattle.happening.specs.declared.told.Told.{Told}
 
@@ -25,7 +26,7 @@ telling_count number length over went sack message count = record { number = num
 abbrev pub told_plainly : ℕ → ℕ → Bool → Told
 told_plainly number length over = telling_count number length over no_data_went no_sack (no_message 0) 0
 
-abbrev pub of_answered : Answered → Told
+abbrev pub of_answered : Reply → Told
 of_answered r = told_plainly r.number r.length r.over
 
 abbrev pub told_of_answer : whole.Answer → Told
@@ -35,13 +36,16 @@ told_of_answer r = told_plainly r.number r.length r.over
 abbrev pub of_handed : Handing → Told
 of_handed r = told_plainly r.number r.chunks false
 
-abbrev pub told_of_transmitted : Transmitted → Told
+abbrev pub told_of_transmitted : PacketReply → Told
 told_of_transmitted r = telling_count r.number r.length false (record { resent = r.resent; first = r.first; last = r.last }) no_sack (no_message 0) 0
 
 abbrev pub of_sack : ℕ → ℕ → Sack → Told
 of_sack number length sack = telling_count number length false no_data_went sack (no_message 0) 0
 
-abbrev pub told_of_delivered : Delivered → Told
+abbrev pub told_of_sack : SackReply → Told
+told_of_sack r = of_sack r.number r.length r.sack
+
+abbrev pub told_of_delivered : MessageReply → Told
 told_of_delivered r = telling_count r.number r.message.length false no_data_went no_sack r.message 0
 
 abbrev pub of_landed : Landed → Told

@@ -1,7 +1,7 @@
 // The by-value step: any event, by the call that serves it. The record lends its own tables.
 ghost use Rattle.std.specs.Prelude.{ℕ, ◌≡◌, false, List};
 ghost use Rattle.states.specs.declared.call.Call.TheVariants.{HandIn, FirstTimer, SecondTimer, ThirdTimer};
-ghost use Rattle.calls.specs.Answer.{is_short_area, barred};
+ghost use Rattle.calls.specs.Answer.{CallDone, is_short_area, barred};
 ghost use Rattle.calls.specs.Opening.{associating};
 ghost use Rattle.calls.specs.Messages.{take_bar};
 ghost use Rattle.calls.specs.Transmit.{transmit_bar};
@@ -10,6 +10,8 @@ ghost use Rattle.calls.specs.Timers.{expiring, sampling};
 ghost use Rattle.calls.specs.Closing.{shutting, aborting};
 ghost use Rattle.calls.specs.Telling.{telling_stale, beating};
 ghost use Rattle.flat.specs.Shown.{shows};
+ghost use Rattle.asks.specs.TableAnswer.{reply_of, answer_in};
+ghost use Rattle.asks.specs.TableAcknowledging.{sack_reply_of};
 ghost use Rattle.asks.specs.TableTimers.{lapsed};
 ghost use Rattle.asks.specs.TableMessages.{handed_over, delivered_from};
 ghost use Rattle.asks.specs.TableTransmit.{dispatched};
@@ -17,17 +19,17 @@ ghost use Rattle.landing.specs.Landing.{landed};
 ghost use Rattle.events.specs.Event.{event_of};
 ghost use Rattle.events.specs.Happening.{unknown_number, telling_any, halves, happened as defined};
 ghost use Rattle.happening.specs.TableTold.{told_plainly};
-ghost use Rattle.happening.specs.TableHappening.{lent_table_buffers, left_of, ran_of, table_leaving, with_head, table_planned, keeping, table_associates, lapses, hands, dispatches, delivers, table_acknowledges, lands, table_happened};
+ghost use Rattle.happening.specs.TableHappening.{lent_table_buffers, left_of, ran_of, table_leaving, with_head, ran_with, table_planned, keeping, table_associates, lapses, hands, dispatches, delivers, table_acknowledges, lands, table_happened};
 ghost use Rattle.happening.specs.EventShown.{buffers_shown, EventShows};
 
 use crate::told;
 use crate::told::Ran;
-use asks::answer;
+use asks::{Answered, answer};
 use calls::Reason;
-use calls::answer::{OUTPUT, earlier};
+use calls::answer::OUTPUT;
 use events::Event;
 use flat::{Association, Head};
-use numbers::{StreamId, Tsn};
+use numbers::{Refusal, StreamId, Tsn};
 use states::Call;
 use steps::{Echoed, Lent};
 
@@ -38,81 +40,55 @@ fn with_head(mut a: Association, head: Head) -> Association
     a
 }
 
+// What a call that changes no table tells, and the record with the head that it leaves; what is refused leaves the record as it was.
+fn ran(a: Association, answer: Result<Answered, Refusal>) -> Ran
+    ensures { result ≡ ran_with a (reply_of a.head answer) }
+{
+    match answer {
+        Ok(answered) => Ran {
+            told: told::plain(0, answered.length, answered.over),
+            association: with_head(a, answered.head),
+        },
+        Err(refusal) => Ran {
+            told: told::refused(refusal),
+            association: a,
+        },
+    }
+}
+
 fn first_timer(a: Association, out: &mut [u8]) -> Ran
     ensures { (received sent verdicts input cookie : List ℕ) → left_of result received sent verdicts out.new ≡ table_planned a (expiring (shows a) FirstTimer out.old) (lent_table_buffers received sent verdicts input cookie out.old) }
 {
-    let head = a.head;
-    let held = a.held;
-    let places = a.places;
-    let kept = a.cookie;
-    let r = asks::t1(head, &held, &places, &kept, out);
-    let after = r.head;
-    let told = told::of_answered(r);
-    Ran {
-        told,
-        association: with_head(a, after),
-    }
+    let answer = asks::t1(a.head, &a.held, &a.places, &a.cookie, out);
+    ran(a, answer)
 }
 
 fn second_timer(a: Association, out: &mut [u8]) -> Ran
     ensures { (received sent verdicts input cookie : List ℕ) → left_of result received sent verdicts out.new ≡ table_planned a (expiring (shows a) SecondTimer out.old) (lent_table_buffers received sent verdicts input cookie out.old) }
 {
-    let head = a.head;
-    let held = a.held;
-    let places = a.places;
-    let kept = a.cookie;
-    let r = asks::t2(head, &held, &places, &kept, out);
-    let after = r.head;
-    let told = told::of_answered(r);
-    Ran {
-        told,
-        association: with_head(a, after),
-    }
+    let answer = asks::t2(a.head, &a.held, &a.places, &a.cookie, out);
+    ran(a, answer)
 }
 
 fn shutdown(a: Association, out: &mut [u8]) -> Ran
     ensures { (received sent verdicts input cookie : List ℕ) → left_of result received sent verdicts out.new ≡ table_planned a (shutting (shows a) out.old) (lent_table_buffers received sent verdicts input cookie out.old) }
 {
-    let head = a.head;
-    let held = a.held;
-    let places = a.places;
-    let r = asks::shutdown(head, &held, &places, out);
-    let after = r.head;
-    let told = told::of_answered(r);
-    Ran {
-        told,
-        association: with_head(a, after),
-    }
+    let answer = asks::shutdown(a.head, &a.held, &a.places, out);
+    ran(a, answer)
 }
 
 fn abort(a: Association, why: Reason, out: &mut [u8]) -> Ran
     ensures { (received sent verdicts input cookie : List ℕ) → left_of result received sent verdicts out.new ≡ table_planned a (aborting (shows a) why out.old) (lent_table_buffers received sent verdicts input cookie out.old) }
 {
-    let head = a.head;
-    let held = a.held;
-    let places = a.places;
-    let r = asks::abort(head, &held, &places, why, out);
-    let after = r.head;
-    let told = told::of_answered(r);
-    Ran {
-        told,
-        association: with_head(a, after),
-    }
+    let answer = asks::abort(a.head, &a.held, &a.places, why, out);
+    ran(a, answer)
 }
 
 fn error_stale(a: Association, port: u16, tag: u32, late: u32, out: &mut [u8]) -> Ran
     ensures { (received sent verdicts input cookie : List ℕ) → left_of result received sent verdicts out.new ≡ table_planned a (telling_stale (shows a) port tag late out.old) (lent_table_buffers received sent verdicts input cookie out.old) }
 {
-    let head = a.head;
-    let held = a.held;
-    let places = a.places;
-    let r = asks::error_stale(head, &held, &places, port, tag, late, out);
-    let after = r.head;
-    let told = told::of_answered(r);
-    Ran {
-        told,
-        association: with_head(a, after),
-    }
+    let answer = asks::error_stale(a.head, &a.held, &a.places, port, tag, late, out);
+    ran(a, answer)
 }
 
 // Eight bytes, the high half first.
@@ -128,74 +104,46 @@ fn value_of(high: u32, low: u32) -> [u8; 8]
 fn heartbeat(a: Association, high: u32, low: u32, out: &mut [u8]) -> Ran
     ensures { (received sent verdicts input cookie : List ℕ) → left_of result received sent verdicts out.new ≡ table_planned a (beating (shows a) (halves high low) out.old) (lent_table_buffers received sent verdicts input cookie out.old) }
 {
-    let head = a.head;
-    let held = a.held;
-    let places = a.places;
-    let value = value_of(high, low);
-    let r = asks::heartbeat(head, &held, &places, value, out);
-    let after = r.head;
-    let told = told::of_answered(r);
-    Ran {
-        told,
-        association: with_head(a, after),
-    }
+    let answer = asks::heartbeat(a.head, &a.held, &a.places, value_of(high, low), out);
+    ran(a, answer)
 }
 
-// 19 for a stream that no chunk can name.
+// A stream that no chunk can name is refused, behind what bars the call.
+fn tell_stream(a: Association, stream: u32, out: &mut [u8]) -> Result<Answered, Refusal>
+    ensures { CallDone (telling_any (shows a) stream out.old) out.old (answer_in (reply_of a.head result) a.held a.next_in a.places a.next_out a.cookie) out.new }
+{
+    if stream < 65536 {
+        return asks::error_stream(a.head, &a.held, &a.places, StreamId(stream as u16), out);
+    }
+    answer::permitted(
+        a.head,
+        &a.held,
+        &a.places,
+        out.len() < OUTPUT,
+        Call::Acknowledge,
+    )?;
+    Err(Refusal::Message)
+}
+
 fn error_stream(a: Association, stream: u32, out: &mut [u8]) -> Ran
     ensures { (received sent verdicts input cookie : List ℕ) → left_of result received sent verdicts out.new ≡ table_planned a (telling_any (shows a) stream out.old) (lent_table_buffers received sent verdicts input cookie out.old) }
 {
-    let head = a.head;
-    let held = a.held;
-    let places = a.places;
-    if stream < 65536 {
-        let r = asks::error_stream(head, &held, &places, StreamId(stream as u16), out);
-        let after = r.head;
-        let told = told::of_answered(r);
-        return Ran {
-            told,
-            association: with_head(a, after),
-        };
-    }
-    let b = answer::bar(head, &held, &places, out.len() < OUTPUT, Call::Acknowledge);
-    let n = earlier(b, 19);
-    let told = told::plain(n, 0, false);
-    Ran {
-        told,
-        association: a,
-    }
+    let answer = tell_stream(a, stream, out);
+    ran(a, answer)
 }
 
 fn sample(a: Association, ms: u32) -> Ran
     ensures { (received sent verdicts input cookie out : List ℕ) → left_of result received sent verdicts out ≡ keeping a (sampling (shows a) ms) (lent_table_buffers received sent verdicts input cookie out) }
 {
-    let head = a.head;
-    let held = a.held;
-    let places = a.places;
-    let r = asks::rtt(head, &held, &places, ms);
-    let after = r.head;
-    let told = told::of_answered(r);
-    Ran {
-        told,
-        association: with_head(a, after),
-    }
+    let answer = asks::rtt(a.head, &a.held, &a.places, ms);
+    ran(a, answer)
 }
 
 fn third_timer(mut a: Association) -> Ran
     ensures { (received sent verdicts input cookie out : List ℕ) → left_of result received sent verdicts out ≡ lapses a (lapsed (barred (shows a) false ThirdTimer) a.head a.places) (lent_table_buffers received sent verdicts input cookie out) }
 {
-    let head = a.head;
-    let held = a.held;
-    let mut places = a.places;
-    let r = asks::t3(head, &held, &mut places);
-    let after = r.head;
-    let told = told::of_answered(r);
-    a.head = after;
-    a.places = places;
-    Ran {
-        told,
-        association: a,
-    }
+    let answer = asks::t3(a.head, &a.held, &mut a.places);
+    ran(a, answer)
 }
 
 fn hand_in(
@@ -208,23 +156,18 @@ fn hand_in(
 ) -> Ran
     ensures { (received verdicts cookie out : List ℕ) → left_of result received sent.new verdicts out ≡ hands a (handed_over (barred (shows a) (is_short_area sent.old) HandIn) a.head a.places sent.old input.now stream unordered ppid) (lent_table_buffers received sent.old verdicts input.now cookie out) }
 {
-    let head = a.head;
-    let held = a.held;
-    let mut places = a.places;
-    let r = asks::hand_in(
-        head,
-        &held,
-        &mut places,
+    let answer = asks::hand_in(
+        a.head,
+        &a.held,
+        &mut a.places,
         sent,
         input,
         stream,
         unordered,
         ppid,
     );
-    let told = told::of_handed(r);
-    a.places = places;
     Ran {
-        told,
+        told: told::of_handed(answer),
         association: a,
     }
 }
@@ -232,35 +175,34 @@ fn hand_in(
 fn transmit(mut a: Association, sent: &[u8], out: &mut [u8]) -> Ran
     ensures { (received verdicts input cookie : List ℕ) → left_of result received sent.now verdicts out.new ≡ dispatches a (dispatched (transmit_bar (shows a) sent.now out.old) a.head a.places a.next_out sent.now out.old) (lent_table_buffers received sent.now verdicts input cookie out.old) }
 {
-    let head = a.head;
-    let held = a.held;
-    let mut places = a.places;
-    let mut next = a.next_out;
-    let r = asks::transmit(head, &held, &mut places, &mut next, sent, out);
-    let after = r.head;
-    let told = told::of_transmitted(r);
-    a.head = after;
-    a.places = places;
-    a.next_out = next;
-    Ran {
-        told,
-        association: a,
+    match asks::transmit(a.head, &a.held, &mut a.places, &mut a.next_out, sent, out) {
+        Ok(transmitted) => {
+            a.head = transmitted.head;
+            Ran {
+                told: told::of_transmitted(transmitted),
+                association: a,
+            }
+        }
+        Err(refusal) => Ran {
+            told: told::refused(refusal),
+            association: a,
+        },
     }
 }
 
 fn take(mut a: Association, received: &[u8], out: &mut [u8]) -> Ran
     ensures { (sent verdicts input cookie : List ℕ) → left_of result received.now sent verdicts out.new ≡ delivers a (delivered_from (take_bar (shows a) received.now) a.head a.held a.next_in received.now out.old) (lent_table_buffers received.now sent verdicts input cookie out.old) }
 {
-    let head = a.head;
-    let mut held = a.held;
-    let mut next = a.next_in;
-    let places = a.places;
-    let r = asks::take(head, &mut held, &mut next, &places, received, out);
-    let told = told::of_delivered(r);
-    a.held = held;
-    a.next_in = next;
+    let answer = asks::take(
+        a.head,
+        &mut a.held,
+        &mut a.next_in,
+        &a.places,
+        received,
+        out,
+    );
     Ran {
-        told,
+        told: told::of_delivered(answer),
         association: a,
     }
 }
@@ -268,56 +210,39 @@ fn take(mut a: Association, received: &[u8], out: &mut [u8]) -> Ran
 fn acknowledge(a: Association, out: &mut [u8]) -> Ran
     ensures { (received sent verdicts input cookie : List ℕ) → left_of result received sent verdicts out.new ≡ table_acknowledges a (acknowledged_call (shows a) out.old) (acknowledged_out (shows a) out.old) (lent_table_buffers received sent verdicts input cookie out.old) }
 {
-    let head = a.head;
-    let held = a.held;
-    let places = a.places;
-    let r = asks::sack(head, &held, &places, out);
-    let after = r.head;
-    let sack = r.sack;
-    let told = told::of_sack(r.number, r.length, sack);
-    Ran {
-        told,
-        association: with_head(a, after),
+    match asks::sack(a.head, &a.held, &a.places, out) {
+        Ok(acknowledged) => Ran {
+            told: told::of_sack(acknowledged),
+            association: with_head(a, acknowledged.head),
+        },
+        Err(refusal) => Ran {
+            told: told::refused(refusal),
+            association: a,
+        },
     }
 }
 
-fn associate(a: Association, tag: u32, tsn: Tsn, port: u16, streams: u16, out: &mut [u8]) -> Ran
+fn associate(mut a: Association, tag: u32, tsn: Tsn, port: u16, streams: u16, out: &mut [u8]) -> Ran
     ensures { (received sent verdicts input cookie : List ℕ) → left_of result received sent verdicts out.new ≡ table_associates a (associating (shows a) tag tsn port streams out.old) (lent_table_buffers received sent verdicts input cookie out.old) }
 {
-    let head = a.head;
-    let mut held = a.held;
-    let mut next_in = a.next_in;
-    let mut places = a.places;
-    let mut next_out = a.next_out;
-    let mut cookie_kept = a.cookie;
-    let r = asks::associate(
-        head,
-        &mut held,
-        &mut next_in,
-        &mut places,
-        &mut next_out,
-        &mut cookie_kept,
+    let answer = asks::associate(
+        a.head,
+        &mut a.held,
+        &mut a.next_in,
+        &mut a.places,
+        &mut a.next_out,
+        &mut a.cookie,
         tag,
         tsn,
         port,
         streams,
         out,
     );
-    let after = r.head;
-    let told = told::of_answered(r);
-    let association = Association {
-        head: after,
-        held,
-        next_in,
-        places,
-        next_out,
-        cookie: cookie_kept,
-    };
-    Ran { told, association }
+    ran(a, answer)
 }
 
 fn packet(
-    a: Association,
+    mut a: Association,
     from: Lent,
     echoed: Echoed,
     received: &mut [u8],
@@ -328,19 +253,13 @@ fn packet(
 ) -> Ran
     ensures { (sent : List ℕ) → left_of result received.new sent verdicts.new out.new ≡ lands (landed input.now from cookie.now echoed a.head a.held a.next_in a.places a.next_out a.cookie received.old verdicts.old out.old) (lent_table_buffers received.old sent verdicts.old input.now cookie.now out.old) }
 {
-    let head = a.head;
-    let mut held = a.held;
-    let mut next_in = a.next_in;
-    let mut places = a.places;
-    let mut next_out = a.next_out;
-    let mut cookie_kept = a.cookie;
-    let r = landing::arrive(
-        head,
-        &mut held,
-        &mut next_in,
-        &mut places,
-        &mut next_out,
-        &mut cookie_kept,
+    let landed = landing::arrive(
+        a.head,
+        &mut a.held,
+        &mut a.next_in,
+        &mut a.places,
+        &mut a.next_out,
+        &mut a.cookie,
         received,
         verdicts,
         input,
@@ -349,35 +268,22 @@ fn packet(
         echoed,
         out,
     );
-    let after = r.head;
-    let told = told::of_landed(r);
-    let association = Association {
-        head: after,
-        held,
-        next_in,
-        places,
-        next_out,
-        cookie: cookie_kept,
-    };
-    Ran { told, association }
+    Ran {
+        told: told::of_landed(landed),
+        association: with_head(a, landed.head),
+    }
 }
 
 fn unknown(a: Association) -> Ran
     ensures { (received sent verdicts input cookie out : List ℕ) → left_of result received sent verdicts out ≡ table_leaving (ran_of (told_plainly (unknown_number (shows a)) 0 false) a) out (lent_table_buffers received sent verdicts input cookie out) }
 {
-    let head = a.head;
-    let held = a.held;
-    let places = a.places;
-    if flat::bounds::is_sound(head, &held, &places) {
-        let told = told::plain(7, 0, false);
-        return Ran {
-            told,
-            association: a,
-        };
-    }
-    let told = told::plain(1, 0, false);
+    let refusal = if flat::bounds::is_sound(a.head, &a.held, &a.places) {
+        Refusal::State
+    } else {
+        Refusal::Record
+    };
     Ran {
-        told,
+        told: told::refused(refusal),
         association: a,
     }
 }
@@ -433,6 +339,14 @@ pub fn run_coded(
 ) -> Ran
     ensures { left_of result received.new sent.new verdicts.new out.new ≡ table_happened a (event_of code values.now) (lent_table_buffers received.old sent.old verdicts.old input.now cookie.now out.old) }
 {
-    let event = Event::of(code, values);
-    run(a, event, received, sent, verdicts, input, cookie, out)
+    run(
+        a,
+        Event::of(code, values),
+        received,
+        sent,
+        verdicts,
+        input,
+        cookie,
+        out,
+    )
 }

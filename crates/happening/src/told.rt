@@ -1,17 +1,22 @@
 // What the host is told of an event, whichever it was.
-ghost use Rattle.std.specs.Prelude.{◌≡◌};
+ghost use Rattle.std.specs.Prelude.{◌≡◌, false, Ok};
 ghost use Rattle.calls.specs.Messages.{no_message};
-ghost use Rattle.happening.specs.TableTold.{no_data_went, told_plainly, of_answered, of_handed, told_of_transmitted, of_sack, told_of_delivered, of_landed};
+ghost use Rattle.flat.specs.declared.head.Head.{Head};
+ghost use Rattle.messages.specs.MessageWords.{handing_of};
+ghost use Rattle.asks.specs.TableMessages.{message_reply_of};
+ghost use Rattle.asks.specs.TableTransmit.{packet_reply_of};
+ghost use Rattle.asks.specs.TableAcknowledging.{sack_reply_of};
+ghost use Rattle.numbers.specs.Refusal.{refusal_number};
+ghost use Rattle.happening.specs.TableTold.{told_plainly, of_handed, told_of_transmitted, told_of_sack, told_of_delivered, of_landed};
 
-use asks::{Answered, Delivered, Transmitted};
+use asks::{Acknowledged, Transmitted, Undelivered};
 use calls::acknowledging::no_sack;
 use chunks::sack::Sack;
 use events::told::Went;
 use flat::Association;
 use holding::taking::Message;
 use landing::Landed;
-use messages::Handing;
-use numbers::{Ssn, StreamId, Tsn};
+use numbers::{Refusal, Ssn, StreamId, Tsn};
 
 // The number, 0 if none; the bytes of the packet that was written, of a message handed in its chunks, of a take the bytes of its message, or those
 // needed; whether an expiry closed the association; then what one event alone tells, of a packet that arrived how many verdicts there are.
@@ -32,16 +37,6 @@ pub struct Ran {
     pub association: Association,
 }
 
-fn none_went() -> Went
-    ensures { result ≡ no_data_went }
-{
-    Went {
-        resent: false,
-        first: Tsn(0),
-        last: Tsn(0),
-    }
-}
-
 fn no_message() -> Message
     ensures { result ≡ no_message 0 }
 {
@@ -57,62 +52,71 @@ fn no_message() -> Message
 pub(crate) fn plain(number: u8, length: usize, over: bool) -> Told
     ensures { result ≡ told_plainly number length over }
 {
-    let went = none_went();
-    let sack = no_sack();
-    let message = no_message();
     Told {
         number,
         length,
         over,
-        went,
-        sack,
-        message,
+        went: Went {
+            resent: false,
+            first: Tsn(0),
+            last: Tsn(0),
+        },
+        sack: no_sack(),
+        message: no_message(),
         count: 0,
     }
 }
 
-pub(crate) fn of_answered(r: Answered) -> Told
-    ensures { result ≡ of_answered r }
+pub(crate) fn refused(refusal: Refusal) -> Told
+    ensures { result ≡ told_plainly (refusal_number refusal) 0 false }
 {
-    plain(r.number, r.length, r.over)
+    plain(refusal.number(), 0, false)
 }
 
-pub(crate) fn of_handed(r: Handing) -> Told
-    ensures { result ≡ of_handed r }
+pub(crate) fn of_handed(answer: Result<usize, Refusal>) -> Told
+    ensures { result ≡ of_handed (handing_of answer) }
 {
-    plain(r.number, r.chunks, false)
+    match answer {
+        Ok(chunks) => plain(0, chunks, false),
+        Err(refusal) => refused(refusal),
+    }
 }
 
-pub(crate) fn of_transmitted(r: Transmitted) -> Told
-    ensures { result ≡ told_of_transmitted r }
+pub(crate) fn of_transmitted(t: Transmitted) -> Told
+    ensures { (head : Head) → result ≡ told_of_transmitted (packet_reply_of head (Ok t)) }
 {
-    let first = r.first;
-    let last = r.last;
-    let went = Went {
-        resent: r.resent,
-        first,
-        last,
+    let mut told = plain(0, t.length, false);
+    told.went = Went {
+        resent: t.resent,
+        first: t.first,
+        last: t.last,
     };
-    let mut told = plain(r.number, r.length, false);
-    told.went = went;
     told
 }
 
-pub(crate) fn of_sack(number: u8, length: usize, sack: Sack) -> Told
-    ensures { result ≡ of_sack number length sack }
+pub(crate) fn of_sack(a: Acknowledged) -> Told
+    ensures { (head : Head) → result ≡ told_of_sack (sack_reply_of head (Ok a)) }
 {
-    let mut told = plain(number, length, false);
-    told.sack = sack;
+    let mut told = plain(0, a.length, false);
+    told.sack = a.sack;
     told
 }
 
-pub(crate) fn of_delivered(r: Delivered) -> Told
-    ensures { result ≡ told_of_delivered r }
+pub(crate) fn of_delivered(answer: Result<Message, Undelivered>) -> Told
+    ensures { result ≡ told_of_delivered (message_reply_of answer) }
 {
-    let message = r.message;
-    let mut told = plain(r.number, message.length, false);
-    told.message = message;
-    told
+    match answer {
+        Ok(message) => {
+            let mut told = plain(0, message.length, false);
+            told.message = message;
+            told
+        }
+        Err(u) => {
+            let mut told = plain(u.refusal.number(), u.needed, false);
+            told.message.length = u.needed;
+            told
+        }
+    }
 }
 
 pub(crate) fn of_landed(r: Landed) -> Told

@@ -1,8 +1,10 @@
 -- A message handed in over head and words: exact for any words; and the loop that lays its chunks out. Assumes nothing.
-use Rattle.std.specs.Prelude.{◌≡◌, ℕ, zero, suc, ◌+◌, ◌-◌, ◌%◌, ◌^◌, ◌<◌, ◌≤◌, Bool, true, false, List, [], length, ◌==◌, refl}
+use Rattle.std.specs.Prelude.{◌≡◌, ℕ, zero, suc, ◌+◌, ◌-◌, ◌%◌, ◌^◌, ◌<◌, ◌≤◌, Bool, true, false, List, [], length, ◌==◌, Result, Ok, Err, refl}
 use Rattle.std.proofs.Common.{sym, ap, ◌∙◌, subst, arith, lt-ltb, le-ltb}
 use Rattle.numbers.specs.declared.circle.StreamId.{StreamId}
+use Rattle.numbers.specs.declared.refusal.Refusal.{Refusal}
 use Rattle.numbers.specs.Profile.{Profile}
+use Rattle.numbers.specs.Refusal.{refusal_number}
 use Rattle.scans.specs.Scan.{pick, count}
 use Rattle.places.specs.declared.place.Place.{Place}
 use Rattle.places.specs.Places.{has_status}
@@ -13,7 +15,6 @@ use Rattle.tables.specs.PlaceWords.{place_in, places_of, place_at, place_put}
 use Rattle.tables.specs.PlaceWordsLaws.{place-in, put_other}
 use Rattle.sender.specs.declared.Sender.{Sender}
 use Rattle.sender.specs.Seen.{sending_shown}
-use Rattle.messages.specs.declared.Handing.{Handing}
 
 -- r places from the place i on, where chunk k of n is next
 abbrev pub laid_from : Profile → Message → ℕ → ℕ → ℕ → ℕ → List ℕ → List ℕ
@@ -31,6 +32,15 @@ abbrev pub message_behind : Profile → Sender → List ℕ → ℕ → StreamId
 message_behind P h ws len stream unordered ppid = record { len = len; first = (h.oldest + count (has_status 1) (places_of P ws)) % 2 ^ 32; stream = stream; ppid = ppid; unordered = unordered }
 
 -- the number, 0 if none, and how many chunks were cut
+pub record Handing : Type 0 where
+  pub number : ℕ
+  pub chunks : ℕ
+
+-- what is refused is cut into none
+abbrev pub handing_of : Result ℕ Refusal → Handing
+handing_of (Ok n) = record { number = 0; chunks = n }
+handing_of (Err r) = record { number = refusal_number r; chunks = 0 }
+
 unfoldable pub handing : Profile → Sender → List ℕ → ℕ → StreamId → ℕ → Handing
 handing P h ws len stream streams = record {
   number = refusal P (sending_shown P h ws []) len stream streams;

@@ -8,20 +8,13 @@ ghost use Rattle.octets.specs.Bytes.{laid};
 ghost use Rattle.places.specs.Places.{has_status};
 ghost use Rattle.sending.specs.HandIn.{chunks_of, part_len, part_of, chunk_at, waiting_at, stored_in};
 ghost use Rattle.tables.specs.PlaceWords.{places_of};
-ghost use Rattle.messages.specs.MessageWords.{laid_words, handing, handed_words, handed_area};
+ghost use Rattle.messages.specs.MessageWords.{laid_words, handing_of, handing, handed_words, handed_area};
 
-use numbers::{Rail, Ssn, StreamId, Tsn};
+use numbers::{Rail, Refusal, Ssn, StreamId, Tsn};
 use places::{Chunk, Place};
 use sender::Sender;
 use sending::cutting;
 use sending::cutting::{Message, Room};
-
-// The number, 0 if none; how many chunks were cut.
-#[derive(Clone, Copy)]
-pub struct Handing {
-    pub number: u8,
-    pub chunks: usize,
-}
 
 // The bytes of chunk k of a message of so many.
 fn part_len(len: usize, k: usize) -> u16
@@ -100,7 +93,7 @@ fn lay_out(t: &mut [u32; 1024], area: &mut [u8], message: &[u8], m: Message, n: 
     }
 }
 
-// A message for a stream, of which so many are agreed. The head stays.
+// A message for a stream, of which so many are agreed: into how many chunks it was cut. The head stays; what is refused leaves the tables too.
 pub fn hand_in(
     s: Sender,
     t: &mut [u32; 1024],
@@ -110,25 +103,19 @@ pub fn hand_in(
     unordered: bool,
     ppid: u32,
     streams: u16,
-) -> Handing
-    ensures value { result ≡ handing rail s t.old (length message.now) stream streams }
+) -> Result<usize, Refusal>
+    ensures value { handing_of result ≡ handing rail s t.old (length message.now) stream streams }
     ensures t_after { t.new ≡ handed_words rail s t.old (length message.now) stream unordered ppid streams }
     ensures area_after { area.new ≡ handed_area rail s t.old area.old message.now stream streams }
 {
     let len = message.len();
     if cutting::is_refused(len, stream, streams) {
-        return Handing {
-            number: 19,
-            chunks: 0,
-        };
+        return Err(Refusal::Message);
     }
     let n = cutting::chunks(len);
     let r = room_of(t);
     if r.free < n {
-        return Handing {
-            number: 20,
-            chunks: 0,
-        };
+        return Err(Refusal::Full);
     }
     let m = Message {
         len,
@@ -138,8 +125,5 @@ pub fn hand_in(
         unordered,
     };
     lay_out(t, area, message, m, n);
-    Handing {
-        number: 0,
-        chunks: n,
-    }
+    Ok(n)
 }

@@ -62,9 +62,8 @@ impl Outgoing {
     pub fn fresh(start: Tsn, advertised: u32, mode: u8) -> Outgoing
         ensures { (result ≡ outgoing_begun start advertised mode) × (outgoing_shown result ≡ fresh_sending (sizes_of mode) rail start advertised mode) }
     {
-        let head = Sender::fresh(start, advertised, mode);
         Outgoing {
-            head,
+            head: Sender::fresh(start, advertised, mode),
             places: [0; 1024],
             next: [0; 128],
         }
@@ -85,9 +84,8 @@ pub fn hand_in(
         × (◌≡◌ {A = Handed} (record { number = result.number; chunks = result.chunks; sending = outgoing_shown result.outgoing }) (handed_in rail (outgoing_shown r) (length message.now) stream unordered ppid streams))
         × (area.new ≡ handed_in_area rail (outgoing_shown r) area.old message.now stream streams) }
 {
-    let h = r.head;
-    let a = messages::hand_in(
-        h,
+    let answer = messages::hand_in(
+        r.head,
         &mut r.places,
         area,
         message,
@@ -96,9 +94,13 @@ pub fn hand_in(
         ppid,
         streams,
     );
+    let (number, chunks) = match answer {
+        Ok(chunks) => (0, chunks),
+        Err(refusal) => (refusal.number(), 0),
+    };
     HandedIn {
-        number: a.number,
-        chunks: a.chunks,
+        number,
+        chunks,
         outgoing: r,
     }
 }
@@ -107,12 +109,10 @@ pub fn hand_in(
 pub fn acknowledge(mut r: Outgoing, point: Tsn, window: u32, blocks: Blocks) -> Answered
     ensures { (result ≡ outgoing_answered r (whole_sack point window blocks)) × (◌≡◌ {A = Answer} (record { number = result.number; sending = outgoing_shown result.outgoing }) (acknowledged_sending (sizes_of r.head.mode) (outgoing_shown r) (whole_sack point window blocks))) }
 {
-    let h = r.head;
-    let a = acks::acknowledge(h, &mut r.places, point, window, blocks);
-    let after = a.head;
-    r.head = after;
+    let answer = acks::acknowledge(r.head, &mut r.places, point, window, blocks);
+    r.head = answer.head;
     Answered {
-        number: a.number,
+        number: answer.number,
         outgoing: r,
     }
 }
@@ -121,12 +121,10 @@ pub fn acknowledge(mut r: Outgoing, point: Tsn, window: u32, blocks: Blocks) -> 
 pub fn shutdown_point(mut r: Outgoing, point: Tsn) -> Answered
     ensures { (result ≡ shut_by r point) × (◌≡◌ {A = Answer} (record { number = result.number; sending = outgoing_shown result.outgoing }) (shutdown_point (sizes_of r.head.mode) (outgoing_shown r) point)) }
 {
-    let h = r.head;
-    let a = acks::shutdown_point(h, &mut r.places, point);
-    let after = a.head;
-    r.head = after;
+    let answer = acks::shutdown_point(r.head, &mut r.places, point);
+    r.head = answer.head;
     Answered {
-        number: a.number,
+        number: answer.number,
         outgoing: r,
     }
 }
@@ -135,27 +133,29 @@ pub fn shutdown_point(mut r: Outgoing, point: Tsn) -> Answered
 pub fn t3(mut r: Outgoing) -> Expired
     ensures { (result ≡ expired_in r) × (◌≡◌ {A = Expiry} (record { number = result.number; over = result.over; sending = outgoing_shown result.outgoing }) (sending_expired (sizes_of r.head.mode) (outgoing_shown r))) }
 {
-    let h = r.head;
-    let e = acks::t3(h, &mut r.places);
-    let after = e.head;
-    r.head = after;
+    let (number, over) = match acks::t3(r.head, &mut r.places) {
+        Ok(Some(after)) => {
+            r.head = after;
+            (0, false)
+        }
+        Ok(None) => (0, true),
+        Err(refusal) => (refusal.number(), false),
+    };
     Expired {
-        number: e.number,
-        over: e.over,
+        number,
+        over,
         outgoing: r,
     }
 }
 
-// What goes into the next packet. Two tables of one record cannot be lent at once: the smaller goes by a local.
+// What goes into the next packet.
 pub fn choose(mut r: Outgoing) -> Packet
     ensures { (result ≡ packet_of r) × (loaded_by (outgoing_shown result.outgoing) result.load ≡ packet_filled rail_sizes rail (outgoing_shown r)) }
 {
-    let h = r.head;
-    let mut next = r.next;
-    let p = choice::choose(h, &mut r.places, &mut next);
-    let after = p.head;
-    r.head = after;
-    r.next = next;
-    let load = p.load;
-    Packet { load, outgoing: r }
+    let filled = choice::choose(r.head, &mut r.places, &mut r.next);
+    r.head = filled.head;
+    Packet {
+        load: filled.load,
+        outgoing: r,
+    }
 }

@@ -21,8 +21,7 @@ use Rattle.tables.specs.HeldWords.{held_of}
 use Rattle.tables.specs.Ssns.{ssns_of}
 use Rattle.taking.specs.LeftLaws.{words_left}
 use Rattle.sender.specs.Seen.{sending_shown}
-use Rattle.acks.specs.declared.Expired.{Expired}
-use Rattle.acks.specs.Acks.{overdue_head, overdue_words, expired_head, expired_words}
+use Rattle.acks.specs.Acks.{Expired, overdue_head, overdue_words, expired_head, expired_words}
 use Rattle.messages.specs.MessageWords.{handing, words-kept, area-kept}
 use Rattle.association.specs.declared.ends.Association.{Association}
 use Rattle.calls.specs.Messages.{delivered_as}

@@ -27,8 +27,9 @@ loop-i-preserved c =
     let h = c.loop-i-test.true in
     let e = c.place_at-p.ensures in
     elim c.if-takes.branch [
-      then-takes v ↦ let t = sym c.takes.ensures ∙ v.if-takes.true in let a = rw e at t in let b = rw (lay-next w.0 h) at a in rw (v.t-is, v.area-is, v.k-is) (lay-more w.0 h a v.waiting_at.ensures v.put_place.ensures, fold_more w.1 vacant _ h (rw (b, v.store.ensures)), ap length v.store.ensures ∙ length-laid _ _ _ ∙ w.2, omega (arith, takes-so _ _ _ t))
-    | else-takes v ↦ let t = sym c.takes.ensures ∙ v.if-takes.false in let a = rw e at t in let b = rw (lay-next w.0 h) at a in rw (v.t-is, v.area-is, v.k-is) (lay-keep w.0 h a, fold_more w.1 vacant _ h (rw b), w.2, w.3) ]
+      | then-takes v ↦ let t = sym c.takes.ensures ∙ v.if-takes.true in let a = rw e at t in let b = rw (lay-next w.0 h) at a in rw (v.t-is, v.area-is, v.k-is) (lay-more w.0 h a v.waiting_at.ensures v.put_place.ensures, fold_more w.1 vacant _ h (rw (b, v.store.ensures)), ap length v.store.ensures ∙ length-laid _ _ _ ∙ w.2, omega (arith, takes-so _ _ _ t))
+      | else-takes v ↦ let t = sym c.takes.ensures ∙ v.if-takes.false in let a = rw e at t in let b = rw (lay-next w.0 h) at a in rw (v.t-is, v.area-is, v.k-is) (lay-keep w.0 h a, fold_more w.1 vacant _ h (rw b), w.2, w.3)
+    ]
 
 pub shape_of-area : goal.shape_of-area
 shape_of-area c = c.loop-i.invariant.2

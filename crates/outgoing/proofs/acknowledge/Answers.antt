@@ -10,4 +10,4 @@ use borrow.Author.Rules.{rules}
 use Rattle.outgoing.proofs.acknowledge.Goals as goal
 
 pub returns : goal.returns
-returns c = let r = c.args.r in let e = c.acknowledge-a.ensures in let l : length r.places ≡ 1024 = search rules in let m : 8 * 128 ≤ length r.places = omega (arith, l) in (rw (e.value, e.t_after), rw (e.value, e.t_after) (acked-shows (sizes_of r.head.mode) rail r.head r.places r.next m (whole_sack c.args.point c.args.window c.args.blocks)))
+returns c = let r = c.args.r in let e = c.acknowledge-answer.ensures in let l : length r.places ≡ 1024 = search rules in let m : 8 * 128 ≤ length r.places = omega (arith, l) in (rw (e.value, e.t_after), rw (e.value, e.t_after) (acked-shows (sizes_of r.head.mode) rail r.head r.places r.next m (whole_sack c.args.point c.args.window c.args.blocks)))

@@ -9,4 +9,4 @@ use borrow.Author.Rules.{rules}
 use Rattle.outgoing.proofs.shutdown_point.Goals as goal
 
 pub returns : goal.returns
-returns c = let r = c.args.r in let e = c.shutdown_point-a.ensures in let l : length r.places ≡ 1024 = search rules in let m : 8 * 128 ≤ length r.places = omega (arith, l) in (rw (e.value, e.t_after), rw (e.value, e.t_after) (shut-shows (sizes_of r.head.mode) rail r.head r.places r.next m c.args.point))
+returns c = let r = c.args.r in let e = c.shutdown_point-answer.ensures in let l : length r.places ≡ 1024 = search rules in let m : 8 * 128 ≤ length r.places = omega (arith, l) in (rw (e.value, e.t_after), rw (e.value, e.t_after) (shut-shows (sizes_of r.head.mode) rail r.head r.places r.next m c.args.point))

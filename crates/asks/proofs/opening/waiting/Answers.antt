@@ -3,4 +3,4 @@ use Rattle.asks.proofs.opening.waiting.Goals as goal
 
 pub returns : goal.returns
 unfolding wanting
-returns c = rw (← c.wanted-streams_out.ensures) c.started.ensures
+returns c = rw (← c.wanted.ensures) c.started.ensures

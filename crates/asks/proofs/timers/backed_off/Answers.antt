@@ -3,4 +3,4 @@ use Rattle.asks.proofs.timers.backed_off.Goals as goal
 
 pub returns : goal.returns
 unfolding association_backed_off
-returns c = rw c.doubled-sender.ensures
+returns c = rw c.doubled.ensures

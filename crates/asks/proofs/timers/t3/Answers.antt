@@ -1,18 +1,20 @@
-use mathlib.Core.Path.{ap, ◌∙◌}
-use borrow.Author.Tests.{eq-eqb, ne_eqb}
+use mathlib.Core.Path.{refl, ap, ◌∙◌}
+use borrow.Author.Tests.{ne_eqb}
+use Rattle.std.proofs.lemmas.Result.{err_from_is_err_and}
+use Rattle.numbers.specs.RefusalLaws.{refusal-never-none}
 use Rattle.flat.specs.declared.head.Head.{Head}
 use Rattle.asks.specs.TableAnswer.{told_with}
 use Rattle.asks.specs.TableTimersLaws.{lapse-by, lapse-refused}
 use Rattle.asks.proofs.timers.t3.Goals as goal
 
-pub returns-then-e : goal.returns-then-e
-returns-then-e c = λ ns ms cs. lapse-by c.args.head c.args.places.now (c.bar-n.ensures ns ms cs) c.if-n-eq0.true c.t3-e.ensures.value c.t3-e.ensures.t_after (rw (eq-eqb _ _ c.if-number-eq0.true, c.if-e.true) c.over.ensures)
+pub returns-in_err-permitted : goal.returns-in_err-permitted
+returns-in_err-permitted c = λ ns ms cs. let p = err_from_is_err_and c.from_residual.result c.from_residual.ensures.1 in rw (p.1, p.2) (lapse-refused c.args.head c.args.places.now (c.in_err-permitted.ensures ns ms cs) (refusal-never-none _) refl)
 
-pub returns-then-number-eq0 : goal.returns-then-number-eq0
-returns-then-number-eq0 c = λ ns ms cs. lapse-by c.args.head c.args.places.now (c.bar-n.ensures ns ms cs) c.if-n-eq0.true c.t3-e.ensures.value c.t3-e.ensures.t_after (rw (eq-eqb _ _ c.if-number-eq0.true, c.if-e.false) (c.told.ensures ∙ ap (λ (x : Head). told_with x 0) c.with_sender.ensures))
+pub returns-in_err-after : goal.returns-in_err-after
+returns-in_err-after c = λ ns ms cs. let p = err_from_is_err_and c.from_residual-in_err-after.result c.from_residual-in_err-after.ensures.1 in rw (p.1, p.2) (lapse-by c.args.head c.args.places.now (c.in_ok-permitted.ensures ns ms cs) refl c.in_err-after.ensures.value c.in_err-after.ensures.t_after (rw (ne_eqb _ 0 (refusal-never-none c.in_err-after.field-0.0))))
 
-pub returns-then-n-eq0 : goal.returns-then-n-eq0
-returns-then-n-eq0 c = λ ns ms cs. lapse-by c.args.head c.args.places.now (c.bar-n.ensures ns ms cs) c.if-n-eq0.true c.t3-e.ensures.value c.t3-e.ensures.t_after (rw (ne_eqb _ _ c.if-number-eq0.false) c.refused.ensures)
+pub returns-in-Some : goal.returns-in-Some
+returns-in-Some c = λ ns ms cs. lapse-by c.args.head c.args.places.now (c.in_ok-permitted.ensures ns ms cs) refl (rw c.in-Some.is at c.in_ok-after.ensures.value) c.in_ok-after.ensures.t_after (c.told.ensures ∙ ap (λ (x : Head). told_with x 0) c.with_sender.ensures)
 
-pub returns : goal.returns
-returns c = λ ns ms cs. lapse-refused c.args.head c.args.places.now (c.bar-n.ensures ns ms cs) c.if-n-eq0.false c.refused-2.ensures
+pub returns-in-None : goal.returns-in-None
+returns-in-None c = λ ns ms cs. lapse-by c.args.head c.args.places.now (c.in_ok-permitted.ensures ns ms cs) refl (rw c.in-None.is at c.in_ok-after.ensures.value) c.in_ok-after.ensures.t_after c.over.ensures

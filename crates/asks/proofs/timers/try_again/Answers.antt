@@ -10,4 +10,4 @@ returns-then-is_closed c = λ held ns places ms. rw (← c.is_closed.ensures, c.
 
 pub returns : goal.returns
 unfolding tried_to
-returns c = λ held ns places ms. rw (← c.is_closed.ensures, c.if-is_closed.false, ← backed-in c.args.head held ns places ms c.args.kept.now c.args.next c.backed_off-b.ensures) (c.ask_again.ensures held ns places ms)
+returns c = λ held ns places ms. rw (← c.is_closed.ensures, c.if-is_closed.false, ← backed-in c.args.head held ns places ms c.args.kept.now c.args.next c.backed_off.ensures) (c.ask_again.ensures held ns places ms)

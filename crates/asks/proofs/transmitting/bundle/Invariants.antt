@@ -1,4 +1,4 @@
-use Prim.Native.Nat.{◌+◌, ◌-◌, ◌*◌, ◌≤◌}
+use Prim.Native.Nat.{◌+◌, ◌*◌, ◌≤◌}
 use mathlib.Core.Path.{◌≡◌}
 use lib.ListN.{length}
 use Rattle.scans.specs.Scan.{Folding}
@@ -8,7 +8,4 @@ use Rattle.calls.specs.Transmit.{added_chosen}
 use Rattle.asks.proofs.transmitting.bundle.Given as goal
 
 abbrev pub invariant-loop-k : goal.invariant-loop-k
-invariant-loop-k l = Folding (added_chosen l.area l.count (places_of rail l.places)) (record { at = 12; out = l.initial.out }) l.chosen 26 l.k (record { at = l.at; out = l.out }) × (l.at ≤ length l.out) × (length l.out ≡ length l.initial.out) × (l.at ≤ 12 + 65532 * l.k)
-
-abbrev pub decreases-loop-k : goal.decreases-loop-k
-decreases-loop-k l = 26 - l.k
+invariant-loop-k l = Folding (added_chosen l.area l.fn.load.count (places_of rail l.places)) (record { at = 12; out = l.initial.out }) l.fn.load.places 26 l.k (record { at = l.at; out = l.out }) × (l.at ≤ length l.out) × (length l.out ≡ length l.initial.out) × (l.at ≤ 12 + 65532 * l.k)

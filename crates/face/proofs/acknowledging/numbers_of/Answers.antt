@@ -14,7 +14,7 @@ pub bounds-numbers-i : goal.bounds-numbers-i
 bounds-numbers-i c = search (rules, c.loop-i.invariant.wide)
 
 pub loop-i-preserved : goal.loop-i-preserved
-loop-i-preserved c = put-more c.loop-i.invariant _ _ c.loop-i-test.true c.number_of.ensures
+loop-i-preserved c = put-more c.loop-i.invariant _ _ c.loop-i-test.true refl
 
 pub returns : goal.returns
 returns c = put-end c.loop-i.invariant refl c.loop-i-test.false

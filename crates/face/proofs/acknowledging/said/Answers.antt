@@ -1,4 +1,7 @@
 use Rattle.face.proofs.acknowledging.said.Goals as goal
 
-pub returns : goal.returns
-returns c = rw c.pack.ensures
+pub returns-in-Ok-clause-lists : goal.returns-in-Ok-clause-lists
+returns-in-Ok-clause-lists c = λ out. rw c.in-Ok.is (c.list.ensures out)
+
+pub returns-in-Err-clause-lists : goal.returns-in-Err-clause-lists
+returns-in-Err-clause-lists c = λ out. rw c.in-Err.is (c.unsaid.ensures.lists out)

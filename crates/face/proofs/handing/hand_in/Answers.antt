@@ -4,7 +4,7 @@ use Rattle.face.specs.FaceMessages.{handover_left}
 use Rattle.face.proofs.handing.hand_in.Goals as goal
 
 pub returns-then-is_named : goal.returns-then-is_named
-returns-then-is_named c = λ ns ms cs. rw (← c.unpack-head.ensures, ← c.is_yes-out_of_order.ensures) (serves _ c.is_named.ensures (handover_left _) _ c.if-is_named.true (c.hand_in-r.ensures ns ms cs) (tells c.handed.ensures))
+returns-then-is_named c = λ ns ms cs. rw (← c.unpack-head.ensures, ← c.is_yes.ensures) (serves _ c.is_named.ensures (handover_left _) _ c.if-is_named.true (c.hand_in-answer.ensures ns ms cs) (tells c.handed.ensures))
 
 pub returns : goal.returns
 returns c = λ ns ms cs. is-not _ c.is_named.ensures _ c.if-is_named.false refl

@@ -4,7 +4,7 @@ use Rattle.face.specs.FaceLeftLaws.{is-not}
 use Rattle.face.proofs.timers.t2.Goals as goal
 
 pub returns-then-is_named : goal.returns-then-is_named
-returns-then-is_named c = λ ns ms. rw (← c.unpack-head.ensures) (face-answers _ c.is_named.ensures c.if-is_named.true c.tell.ensures _ ns _ ms _ (c.t2-r.ensures ns ms))
+returns-then-is_named c = λ ns ms. rw (← c.unpack-head.ensures) (face-answers _ c.is_named.ensures c.if-is_named.true c.tell.ensures _ ns _ ms _ (c.t2-answer.ensures ns ms))
 
 pub returns : goal.returns
 returns c = λ ns ms. is-not _ c.is_named.ensures _ c.if-is_named.false refl

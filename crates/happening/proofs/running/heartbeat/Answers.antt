@@ -3,4 +3,4 @@ use Rattle.happening.specs.TableHappening.{lent_table_buffers}
 use Rattle.happening.proofs.running.heartbeat.Goals as goal
 
 pub returns : goal.returns
-returns c = λ received sent verdicts input cookie. rw (← c.value_of-value.ensures) (goes-as-planned c.args.a (lent_table_buffers received sent verdicts input cookie _) c.of_answered-told.ensures c.with_head.ensures (c.heartbeat-r.ensures c.args.a.next_in c.args.a.next_out c.args.a.cookie))
+returns c = λ received sent verdicts input cookie. rw (← c.value_of.ensures) (goes-as-planned c.args.a (lent_table_buffers received sent verdicts input cookie _) c.ran.ensures (c.heartbeat-answer.ensures c.args.a.next_in c.args.a.next_out c.args.a.cookie))

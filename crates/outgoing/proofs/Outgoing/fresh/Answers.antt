@@ -4,4 +4,4 @@ use Rattle.sender.specs.SeenLaws.{fresh-sending-shown}
 use Rattle.outgoing.proofs.Outgoing.fresh.Goals as goal
 
 pub returns : goal.returns
-returns c = (rw c.fresh-head.ensures, rw c.fresh-head.ensures (fresh-sending-shown (sizes_of c.args.mode) rail _ _ c.args.mode 1024 128))
+returns c = (rw c.fresh.ensures, rw c.fresh.ensures (fresh-sending-shown (sizes_of c.args.mode) rail _ _ c.args.mode 1024 128))

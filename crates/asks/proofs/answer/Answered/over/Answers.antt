@@ -1,4 +1,4 @@
-use Rattle.asks.proofs.answer.over.Goals as goal
+use Rattle.asks.proofs.answer.Answered.over.Goals as goal
 
 pub returns : goal.returns
 returns c = rw c.moved.ensures
