@@ -1,7 +1,7 @@
 -- Caps of sums that stop at a word's top, and how far two numbers are apart. Assumes nothing.
 use Rattle.std.specs.Prelude.{ℕ, ◌+◌, ◌-◌, ◌*◌, ◌^◌, ◌<◌, ◌≡◌, min, max}
 use Rattle.std.proofs.Common.{arith}
-use Rattle.scans.specs.Upto.{smaller, larger, min-smaller, max-larger}
+use Rattle.scans.specs.Upto.{smaller, larger, pick_less, min-smaller, max-larger}
 use Rattle.path.specs.Clock.{apart}
 
 -- a sum that stops at a word's top, capped below it
