@@ -165,4 +165,3 @@ module _ (from : Tsn) (limit : ℕ) (p : Place) (e : gets from limit p ≡ false
   pub unreached : reaches_three from limit p ≡ false
   unfolding reaches_three
   unreached = rw e
-
