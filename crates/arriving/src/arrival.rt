@@ -7,6 +7,7 @@ use association::Association;
 use numbers::Rail;
 
 // The number of the packet, 0 if it was let in; then the verdicts of its chunks, the length of the reply, and the record.
+// Kept as it is, with a number: the definitions of specs/ answer it, and no code makes one.
 #[derive(Clone, Copy)]
 pub struct Arrived {
     pub number: u8,

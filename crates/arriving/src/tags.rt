@@ -30,6 +30,7 @@ pub fn are_ports(state: State, ends: Ends, h: Header) -> bool
 }
 
 // ABORT and SHUTDOWN COMPLETE with the T bit.
+// A type is a number as it stands in the packet (`rule_of`), since one that we do not know has no name.
 fn is_reflecting(kind: u8, t: bool) -> bool
     ensures { result ≡ is_reflecting kind t }
 {

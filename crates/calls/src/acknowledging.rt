@@ -7,6 +7,7 @@ use chunks::sack::Sack;
 use numbers::{Blocks, Rail, Tsn};
 
 // The number, 0 if none; the bytes of the packet; what it says; the record.
+// Kept as it is, with a number: the definitions of specs/ answer it, and no code makes one.
 #[derive(Clone, Copy)]
 pub struct Acknowledged {
     pub number: u8,

@@ -6,6 +6,7 @@ use association::Association;
 use numbers::Rail;
 
 // A number of document 01's table, 0 if none; the bytes of the packet that was written; whether an expiry closed the association; the record.
+// Kept as it is, with a number: the definitions of specs/ answer it, and no code makes one.
 #[derive(Clone, Copy)]
 pub struct Answer {
     pub number: u8,

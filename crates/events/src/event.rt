@@ -126,6 +126,7 @@ fn stale_of(values: &[u32]) -> Event
 
 impl Event {
     // An event by its number and its values.
+    // Kept as it is: an event's number is the host's, read here and nowhere else.
     #[tactic(auto, unfolding(crate::specs::Event::event_of))]
     pub fn of(code: u8, values: &[u32]) -> Event
         ensures { result ≡ event_of code values.now }

@@ -23,6 +23,7 @@ pub struct Seen {
 
 // The number, 0 if none; the bytes of the packet that was written, of a message handed in its chunks, of a take the bytes of its message, or those
 // needed; whether an expiry closed the association; then what one event alone tells.
+// Kept as it is, with a number: the definitions of specs/ answer it, and no code makes one.
 #[derive(Clone, Copy)]
 pub struct Told {
     pub number: u8,

@@ -11,6 +11,7 @@ use states::State;
 
 impl Head {
     // Nothing has come from a peer whose first number is `theirs`, and nothing was sent from `ours` on.
+    // The mode is a byte of the record, in which any may stand (refusal 1).
     pub fn started(
         state: State,
         ends: Ends,

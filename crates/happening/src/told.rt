@@ -20,6 +20,7 @@ use numbers::{Refusal, Ssn, StreamId, Tsn};
 
 // The number, 0 if none; the bytes of the packet that was written, of a message handed in its chunks, of a take the bytes of its message, or those
 // needed; whether an expiry closed the association; then what one event alone tells, of a packet that arrived how many verdicts there are.
+// Kept as it is: one record for every event; its number, length and flag are those of the definition `told_plainly`.
 #[derive(Clone, Copy)]
 pub struct Told {
     pub number: u8,

@@ -21,6 +21,7 @@ pub struct Took {
 }
 
 // After misses: whether a chunk came to three, the flight, whether anything is outstanding, and the highest offset of that.
+// Kept as it is: `last` is 0 where nothing is left, by the definition `missing`, and is read only beside the flag.
 #[derive(Clone, Copy)]
 pub struct Missing {
     pub struck: bool,
@@ -127,6 +128,7 @@ pub fn tallied(t: &[u32; 1024], from: Tsn) -> Tally
 }
 
 // How many places have a status.
+// The status is a number as in `Place`.
 pub fn having(t: &[u32; 1024], status: u8) -> usize
     ensures { (result ≡ count (has_status status) (places_of rail t.now)) × (result ≤ 128) }
 {

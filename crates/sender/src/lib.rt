@@ -19,6 +19,7 @@ use sending::bounds::Survey;
 
 // Our point, the TSN that is next, the window last advertised, the order of the chunk that waits longest, the path, and the book: 0 RFC 9260,
 // 1 RFC 4960.
+// Kept as it is: the mode is a byte of the record, in which any may stand (refusal 1, `is_sending_within`).
 #[derive(Clone, Copy)]
 pub struct Sender {
     pub acked: Tsn,
