@@ -9,6 +9,7 @@ use Rattle.steps.specs.Lent.{heeded}
 use Rattle.arriving.specs.Arrival.{answered_length, answered_out, arrival_number}
 use Rattle.flat.specs.declared.head.Head.{Head}
 use Rattle.flat.specs.Shown.{shown}
+use Rattle.rows.specs.Lending.{Standing}
 use Rattle.landing.specs.declared.arrival.Landed.{Landed}
 use Rattle.landing.specs.TableWalk.{TableTurn, table_turn_of, bare_walked, head_walk_begun, table_walked_over}
 
@@ -37,6 +38,10 @@ after_of r held next places next_out kept area verdicts out = record {
   out = out;
 }
 
+-- the same, with what stands in the lent tables
+abbrev pub after_over : Landed → Standing → List ℕ → List ℕ → After
+after_over r t verdicts out = after_of r t.held t.next t.places t.next_out t.kept t.area verdicts out
+
 -- "the whole packet" is refused
 abbrev pub landing_refused_as : Head → ℕ → Landed
 landing_refused_as h n = record { number = n; count = 0; length = 0; head = h }
@@ -54,6 +59,9 @@ unfoldable pub packet_walked_over : List ℕ → Lent → List ℕ → Echoed �
 packet_walked_over packet lent cookie e h held next places next_out kept area verdicts =
     table_walked_over (record { first = true; source = (header_of packet).source; lent = lent; echoed = e }) cookie packet
     (table_turn_of (head_walk_begun h) held next places next_out kept area verdicts (replicate (chunk_room rail) 0))
+
+abbrev pub packet_walked_from : List ℕ → Lent → List ℕ → Echoed → Head → Standing → List ℕ → TableTurn
+packet_walked_from packet lent cookie e h t verdicts = packet_walked_over packet lent cookie e h t.held t.next t.places t.next_out t.kept t.area verdicts
 
 -- then what is sent
 unfoldable pub let_in : TableTurn → List ℕ → List ℕ → After

@@ -11,19 +11,20 @@ use Rattle.arriving.specs.Arrival.{lent_number, packet_number, answered_length, 
 use Rattle.association.specs.declared.ends.Association.{Association}
 use Rattle.flat.specs.declared.head.Head.{Head}
 use Rattle.flat.specs.Shown.{bare, shown}
+use Rattle.rows.specs.Lending.{Standing}
 use Rattle.landing.specs.declared.arrival.Landed.{Landed}
 use Rattle.landing.specs.declared.walk.Walk.{Walk}
-use Rattle.landing.specs.TableWalk.{TableTurn, table_turn_of, bare_walked}
-use Rattle.landing.specs.Landing.{After, after_of, landing_refused_as, packet_walked_over, let_in, landed}
+use Rattle.landing.specs.TableWalk.{TableTurn, turn_over, bare_walked}
+use Rattle.landing.specs.Landing.{After, after_of, after_over, landing_refused_as, packet_walked_over, let_in, landed}
 
 -- the walk, then the answer
-pub landed-in-done : (w : Walk) (held next places next_out kept area verdicts scratch packet out : List ℕ) {t : TableTurn} → table_turn_of w held next places next_out kept area verdicts scratch ≡ t
+pub landed-in-done : (w : Walk) (t : Standing) (verdicts scratch packet out : List ℕ) {u : TableTurn} → turn_over w t verdicts scratch ≡ u
     → {n : ℕ} {out' : List ℕ} → (n ≡ answered_length (bare_walked w) packet (take w.used scratch) out) × (out' ≡ answered_out (bare_walked w) packet (take w.used scratch) out)
-    → after_of (record { number = 0; count = w.count; length = n; head = w.head }) held next places next_out kept area verdicts out' ≡ let_in t packet out
+    → after_over (record { number = 0; count = w.count; length = n; head = w.head }) t verdicts out' ≡ let_in u packet out
 unfolding let_in
-landed-in-done w held next places next_out kept area verdicts scratch packet out {t} e {n} {out'} p =
-    (λ i. after_of (record { number = 0; count = w.count; length = p.0 i; head = w.head }) held next places next_out kept area verdicts (p.1 i))
-    ∙ ap (λ (u : TableTurn). let_in u packet out) e
+landed-in-done w t verdicts scratch packet out {u} e {n} {out'} p =
+    (λ i. after_over (record { number = 0; count = w.count; length = p.0 i; head = w.head }) t verdicts (p.1 i))
+    ∙ ap (λ (v : TableTurn). let_in v packet out) e
 
 module _ (packet : List ℕ) (lent : Lent) (cookie : List ℕ) (e : Echoed) (h : Head) (held next places next_out kept area verdicts out : List ℕ) where
   abbrev all : Association

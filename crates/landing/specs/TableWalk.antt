@@ -12,6 +12,7 @@ use Rattle.flat.specs.declared.head.Head.{Head}
 use Rattle.flat.specs.Shown.{bare}
 use Rattle.rows.specs.declared.stepped.Stepped.{Stepped}
 use Rattle.rows.specs.TableRows.{Rowed, rowed}
+use Rattle.rows.specs.Lending.{Standing}
 use Rattle.landing.specs.declared.walk.Walk.{Walk}
 use Rattle.landing.specs.Verdicts.{verdict_at, count_after, words_noted}
 
@@ -70,6 +71,10 @@ table_turn_of w held next places next_out kept area verdicts space = record {
   verdicts = verdicts;
   space = space;
 }
+
+-- the same, with what stands in the lent tables
+abbrev pub turn_over : Walk → Standing → List ℕ → List ℕ → TableTurn
+turn_over w t verdicts space = table_turn_of w t.held t.next t.places t.next_out t.kept t.area verdicts space
 
 -- a chunk that is left unread, and one that is read
 abbrev pub unread_turn : ℕ → TableTurn → TableTurn

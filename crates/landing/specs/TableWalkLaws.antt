@@ -11,11 +11,12 @@ use Rattle.arriving.specs.declared.verdict.Verdict.{Verdict}
 use Rattle.arriving.specs.ChunkVerdict.{unread_at}
 use Rattle.arriving.specs.Walked.{beside_at}
 use Rattle.rows.specs.declared.stepped.Stepped.{Stepped}
-use Rattle.rows.specs.TableRows.{Rowed, rowed_of, rowed}
+use Rattle.rows.specs.TableRows.{Rowed}
+use Rattle.rows.specs.Lending.{Standing, rowed_with, rowed_over}
 use Rattle.rows.specs.TableRowsLaws.{rowed-within}
 use Rattle.landing.specs.declared.walk.Walk.{Walk}
 use Rattle.landing.specs.Verdicts.{verdict_at, count_after, words_noted}
-use Rattle.landing.specs.TableWalk.{TableTurn, table_turn_of, walk_taken, with_count, read_turn, table_turned, in_part, in_whole, turned_in}
+use Rattle.landing.specs.TableWalk.{TableTurn, turn_over, walk_taken, with_count, read_turn, table_turned, in_part, in_whole, turned_in}
 
 -- which way a test goes
 pub so : {A : Type 0} {t : Bool} (a b : A) → t ≡ true → a ≡ pick t a b
@@ -31,28 +32,27 @@ part_room xs n l h =
     omega arith
 
 -- one chunk
-module _ (at : ℕ) (b : Beside) (cookie s : List ℕ) (w : Walk) (held next places next_out kept area verdicts space : List ℕ) where
+module _ (at : ℕ) (b : Beside) (cookie s : List ℕ) (w : Walk) (t : Standing) (verdicts space : List ℕ) where
   abbrev before : TableTurn
-  before = table_turn_of w held next places next_out kept area verdicts space
+  before = turn_over w t verdicts space
 
   pub table-turn-unread : w.unread ≡ true → {v : Verdict} → v ≡ unread_at at → {n : ℕ} → n ≡ count_after w.count → {vs : List ℕ} → vs ≡ words_noted verdicts w.count v
-      → table_turn_of (with_count w n) held next places next_out kept area vs space ≡ table_turned at b cookie s before
+      → turn_over (with_count w n) t vs space ≡ table_turned at b cookie s before
   unfolding table_turned
   table-turn-unread h {v} e {n} k {vs} m =
-      (λ i. table_turn_of (with_count w (k i)) held next places next_out kept area ((m ∙ ap (λ (x : Verdict). words_noted verdicts w.count x) e) i) space) ∙ so _ _ h
+      (λ i. turn_over (with_count w (k i)) t ((m ∙ ap (λ (x : Verdict). words_noted verdicts w.count x) e) i) space) ∙ so _ _ h
 
-  module _ {d : Stepped} {held' next' places' nextOut' kept' area' space' : List ℕ}
-      (l : rowed_of d held' next' places' nextOut' kept' area' space' ≡ rowed (beside_at at b) cookie s w.head held next places next_out kept area space) where
+  module _ {d : Stepped} {u : Standing} {exit : List ℕ} (l : rowed_with d u exit ≡ rowed_over (beside_at at b) cookie s w.head t space) where
     pub table-written-within : w.used + length space ≡ 1460 → w.used + d.written ≤ 1460
     table-written-within h =
-        let e : d.written ≡ (rowed (beside_at at b) cookie s w.head held next places next_out kept area space).stepped.written = ap (λ (o : Rowed). o.stepped.written) l in
-        omega (arith, e, rowed-within w.head held next places next_out kept area space s (beside_at at b) cookie)
+        let e : d.written ≡ (rowed_over (beside_at at b) cookie s w.head t space).stepped.written = ap (λ (o : Rowed). o.stepped.written) l in
+        omega (arith, e, rowed-within w.head t.held t.next t.places t.next_out t.kept t.area space s (beside_at at b) cookie)
 
     pub table-turn-read : w.unread ≡ false → {v : Verdict} → v ≡ verdict_at at d → {n : ℕ} → n ≡ count_after w.count → {vs : List ℕ} → vs ≡ words_noted verdicts w.count v
-        → {r : Walk} → r ≡ walk_taken w d n → table_turn_of r held' next' places' nextOut' kept' area' vs space' ≡ table_turned at b cookie s before
+        → {r : Walk} → r ≡ walk_taken w d n → turn_over r u vs exit ≡ table_turned at b cookie s before
     unfolding table_turned
-    table-turn-read h {v} e {n} k {vs} m {r} t =
-        (λ i. table_turn_of ((t ∙ (λ j. walk_taken w d (k j))) i) held' next' places' nextOut' kept' area' ((m ∙ ap (λ (x : Verdict). words_noted verdicts w.count x) e) i) space')
+    table-turn-read h {v} e {n} k {vs} m {r} f =
+        (λ i. turn_over ((f ∙ (λ j. walk_taken w d (k j))) i) u ((m ∙ ap (λ (x : Verdict). words_noted verdicts w.count x) e) i) exit)
         ∙ ap (λ (o : Rowed). read_turn at before o) l ∙ not_so _ _ h
 
 -- where a chunk begins, seen from what is left

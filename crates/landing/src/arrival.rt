@@ -3,8 +3,9 @@ ghost use Rattle.std.specs.Prelude.{◌≡◌, List, ℕ, ◌≤◌, length, tak
 ghost use Rattle.numbers.specs.Refusal.{refusal_number, answered_number};
 ghost use Rattle.flat.specs.Shown.{bare, shown};
 ghost use Rattle.arriving.specs.Arrival.{lent_number, packet_number, answered_length, answered_out};
+ghost use Rattle.rows.specs.Lending.{standing, AreSame};
 ghost use Rattle.landing.specs.TableWalk.{bare_walked};
-ghost use Rattle.landing.specs.Landing.{after_of, landing_refused_as, packet_walked_over, let_in, landed};
+ghost use Rattle.landing.specs.Landing.{after_of, after_over, landing_refused_as, packet_walked_from, let_in, landed};
 
 use crate::verdict::WORDS;
 use crate::walk::Walk;
@@ -13,6 +14,7 @@ use arriving::walk::ROOM;
 use flat::Head;
 use flat::bounds::is_sound;
 use numbers::{Rail, Refusal};
+use rows::Tables;
 use steps::{Beside, Echoed, Lent};
 
 // The number of the packet, 0 if it was let in; then how many of its chunks have a verdict, the length of the reply, and the head.
@@ -87,12 +89,7 @@ fn answer(w: Walk, packet: &[u8], scratch: &mut [u8], out: &mut [u8]) -> usize
 
 fn let_in(
     head: Head,
-    held: &mut [u32; 512],
-    next_in: &mut [u16; 128],
-    places: &mut [u32; 1024],
-    next_out: &mut [u16; 128],
-    kept: &mut [u8; 256],
-    area: &mut [u8],
+    tables: &mut Tables,
     verdicts: &mut [u32; WORDS],
     packet: &[u8],
     lent: Lent,
@@ -100,8 +97,9 @@ fn let_in(
     echoed: Echoed,
     out: &mut [u8],
 ) -> Landed
-    ensures { after_of result held.new next_in.new places.new next_out.new kept.new area.new verdicts.new out.new
-        ≡ let_in (packet_walked_over packet.now lent cookie.now echoed head held.old next_in.old places.old next_out.old kept.old area.old verdicts.old) packet.now out.old }
+    ensures same { AreSame tables.old tables.new }
+    ensures left { after_over result (standing tables.new) verdicts.new out.new
+        ≡ let_in (packet_walked_from packet.now lent cookie.now echoed head (standing tables.old) verdicts.old) packet.now out.old }
 {
     let b = Beside {
         first: true,
@@ -110,20 +108,7 @@ fn let_in(
         echoed,
     };
     let mut scratch = [0u8; ROOM];
-    let w = walk::walk_over(
-        head,
-        held,
-        next_in,
-        places,
-        next_out,
-        kept,
-        area,
-        verdicts,
-        b,
-        cookie,
-        packet,
-        &mut scratch,
-    );
+    let w = walk::walk_over(head, tables, verdicts, b, cookie, packet, &mut scratch);
     Landed {
         number: 0,
         count: w.count,
@@ -160,8 +145,13 @@ pub fn arrive(
     if let Err(refusal) = check(head, packet, word) {
         return refused(head, refusal);
     }
-    let_in(
-        head, held, next_in, places, next_out, kept, area, verdicts, packet, lent, cookie, word,
-        out,
-    )
+    let mut tables = Tables {
+        held,
+        next_in,
+        places,
+        next_out,
+        kept,
+        area,
+    };
+    let_in(head, &mut tables, verdicts, packet, lent, cookie, word, out)
 }

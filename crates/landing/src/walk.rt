@@ -1,7 +1,8 @@
 // The chunks of a packet, one by one: each on the head and the tables that the one before left, its reply behind those before.
 ghost use Rattle.std.specs.Prelude.{◌≡◌, ◌≤◌, ◌+◌, length};
+ghost use Rattle.rows.specs.Lending.{standing, AreSame};
 ghost use Rattle.landing.specs.Verdicts.{verdict_at};
-ghost use Rattle.landing.specs.TableWalk.{head_walk_begun, walk_taken, table_turn_of, table_turned, table_walked_over};
+ghost use Rattle.landing.specs.TableWalk.{head_walk_begun, walk_taken, turn_over, table_turned, table_walked_over};
 
 use crate::verdict;
 use crate::verdict::WORDS;
@@ -9,7 +10,7 @@ use arriving::Verdict;
 use arriving::walk::{is_due_after, owe};
 use flat::Head;
 use octets::size;
-use rows::Stepped;
+use rows::{Stepped, Tables};
 use steps::{Beside, Owed};
 
 // The head so far, how many verdicts there are, how many bytes of replies are gathered, whether the rest is unread, whether a SHUTDOWN is due, and
@@ -48,12 +49,7 @@ fn take_in(w: Walk, d: Stepped, count: usize) -> Walk
 // The chunk at the head of `s`, which begins at `at`; `space` is what is left behind the replies so far.
 fn turn(
     w: Walk,
-    held: &mut [u32; 512],
-    next_in: &mut [u16; 128],
-    places: &mut [u32; 1024],
-    next_out: &mut [u16; 128],
-    kept: &mut [u8; 256],
-    area: &mut [u8],
+    tables: &mut Tables,
     verdicts: &mut [u32; WORDS],
     b: Beside,
     cookie: &[u8],
@@ -62,8 +58,9 @@ fn turn(
     space: &mut [u8],
 ) -> Walk
     requires { w.used + length space.old ≡ 1460 }
-    ensures { (table_turn_of result held.new next_in.new places.new next_out.new kept.new area.new verdicts.new space.new
-        ≡ table_turned at b cookie.now s.now (table_turn_of w held.old next_in.old places.old next_out.old kept.old area.old verdicts.old space.old)) × (result.used ≤ 1460) }
+    ensures same { AreSame tables.old tables.new }
+    ensures left { (turn_over result (standing tables.new) verdicts.new space.new
+        ≡ table_turned at b cookie.now s.now (turn_over w (standing tables.old) verdicts.old space.old)) × (result.used ≤ 1460) }
 {
     if w.unread {
         let count = verdict::note(verdicts, w.count, Verdict::unread(at));
@@ -73,9 +70,7 @@ fn turn(
         first: at == 12,
         ..b
     };
-    let d = rows::step(
-        w.head, held, next_in, places, next_out, kept, area, beside, cookie, s, space,
-    );
+    let d = rows::step(w.head, tables, beside, cookie, s, space);
     let count = verdict::note(verdicts, w.count, verdict_of(at, d));
     take_in(w, d, count)
 }
@@ -83,12 +78,7 @@ fn turn(
 // All chunks of a packet. The replies stand at the head of `scratch`.
 pub(crate) fn walk_over(
     head: Head,
-    held: &mut [u32; 512],
-    next_in: &mut [u16; 128],
-    places: &mut [u32; 1024],
-    next_out: &mut [u16; 128],
-    kept: &mut [u8; 256],
-    area: &mut [u8],
+    tables: &mut Tables,
     verdicts: &mut [u32; WORDS],
     b: Beside,
     cookie: &[u8],
@@ -96,8 +86,9 @@ pub(crate) fn walk_over(
     scratch: &mut [u8],
 ) -> Walk
     requires { length scratch.old ≡ 1460 }
-    ensures { (table_turn_of result held.new next_in.new places.new next_out.new kept.new area.new verdicts.new scratch.new
-        ≡ table_walked_over b cookie.now packet.now (table_turn_of (head_walk_begun head) held.old next_in.old places.old next_out.old kept.old area.old verdicts.old scratch.old)) × (result.used ≤ 1460) }
+    ensures same { AreSame tables.old tables.new }
+    ensures left { (turn_over result (standing tables.new) verdicts.new scratch.new
+        ≡ table_walked_over b cookie.now packet.now (turn_over (head_walk_begun head) (standing tables.old) verdicts.old scratch.old)) × (result.used ≤ 1460) }
 {
     let mut w = Walk {
         head,
@@ -113,12 +104,7 @@ pub(crate) fn walk_over(
         let s = &packet[at..];
         w = turn(
             w,
-            held,
-            next_in,
-            places,
-            next_out,
-            kept,
-            area,
+            tables,
             verdicts,
             b,
             cookie,

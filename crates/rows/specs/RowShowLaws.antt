@@ -16,7 +16,7 @@ use Rattle.chunks.specs.declared.kind.Handling.{Handling}
 use Rattle.chunks.specs.declared.kind.Handling.TheVariants.{Stop, StopAndReport, Skip, SkipAndReport}
 use Rattle.chunks.specs.AgainLaws.{Octet}
 use Rattle.chunks.specs.ReadLaws.{data-tsn, data-stream, data-ssn, data-ppid}
-use Rattle.chunks.specs.Frame.{framed, part_from, bytes_in}
+use Rattle.chunks.specs.Frame.{part_from, bytes_in}
 use Rattle.chunks.specs.InitChunk.{init_of}
 use Rattle.chunks.specs.ShutdownChunk.{point_of, shutdown_ack_bytes}
 use Rattle.parameters.specs.Parameter.{value_of, is_there, COOKIE, NAME}
@@ -54,7 +54,7 @@ use Rattle.steps.specs.declared.meeting.Action.{Action}
 use Rattle.steps.specs.declared.meeting.Action.TheVariants.{Restart, Retag, Late, Again, Outside}
 use Rattle.steps.specs.declared.lent.Echoed.{Echoed}
 use Rattle.steps.specs.declared.lent.Echoed.TheVariants.{Bad, Stale, Good}
-use Rattle.steps.specs.declared.verdict.Event.TheVariants.{NoEvent, Up, Down}
+use Rattle.steps.specs.declared.verdict.Event.TheVariants.{NoEvent, Down}
 use Rattle.steps.specs.declared.verdict.Reason.TheVariants.{HostName, StaleCookie}
 use Rattle.steps.specs.declared.verdict.Named.TheVariants.{NoCall}
 use Rattle.steps.specs.declared.verdict.Done.{Done}

@@ -4,9 +4,11 @@
 pub mod carrying;
 pub mod chunk;
 pub mod closing;
+pub mod lent;
 pub mod opening;
 pub mod stepped;
 pub mod unknown;
 
 pub use crate::chunk::step;
+pub use crate::lent::Tables;
 pub use crate::stepped::Stepped;
