@@ -20,7 +20,6 @@ use Rattle.marks.specs.declared.Missing.{Missing}
 use Rattle.marks.specs.MarkingLaws.{never, missing}
 use Rattle.sender.specs.declared.Sender.{Sender}
 use Rattle.sender.specs.Seen.{sending_shown}
-use Rattle.acks.specs.declared.Acked.{Acked}
 
 -- below which offset a chunk gets a miss
 abbrev pub limit_in : Profile → Sender → List ℕ → Sack → ℕ
@@ -66,6 +65,16 @@ module _ (z : Sizes) (P : Profile) (h : Sender) (ws : List ℕ) (k : Sack) {xs :
       → ◌≡◌ {A = Sender} (record { acked = k.point; next_tsn = h.next_tsn; advertised = k.window; oldest = h.oldest; path = with_flight q m.flight; mode = h.mode }) (accepted_head z P h ws k)
   unfolding accepted_head
   accepted-head e f g i o j = rw (← a, ← c, ← b, ← e, ← f, ← g, ← i, ← o, ← j)
+
+-- the number, 0 if none, and the head
+pub record Acked : Type 0 where
+  pub number : ℕ
+  pub head : Sender
+
+-- a refusal leaves the head as it was
+abbrev pub acked_of : Sender → Result Sender Refusal → Acked
+acked_of h (Ok after) = record { number = 0; head = after }
+acked_of h (Err r) = record { number = refusal_number r; head = h }
 
 -- what is stale or false leaves all
 unfoldable pub acked_head : Sizes → Profile → Sender → List ℕ → Sack → Acked

@@ -29,8 +29,7 @@ use Rattle.marks.specs.MarkingLaws.{missing-is, taken-shows, missed-shows, marke
 use Rattle.sender.specs.declared.Sender.{Sender}
 use Rattle.tables.specs.OpenLaws.{by-law}
 use Rattle.sender.specs.Seen.{sending_shown}
-use Rattle.acks.specs.declared.Acked.{Acked}
-use Rattle.acks.specs.Acks.{Expired, limit_in, settled_words, accepted_words, accepted_head, acked_head, acked_words, shut_head, shut_words, overdue_words, overdue_head, expired_head, expired_words}
+use Rattle.acks.specs.Acks.{Acked, Expired, limit_in, settled_words, accepted_words, accepted_head, acked_head, acked_words, shut_head, shut_words, overdue_words, overdue_head, expired_head, expired_words}
 
 -- the tables tell nothing of the judgement and of the limit
 module _ (P : Profile) (h : Sender) (ws ns : List ℕ) where

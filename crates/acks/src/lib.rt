@@ -4,25 +4,19 @@
 ghost use Rattle.std.specs.Prelude.{◌≡◌, []};
 ghost use Rattle.path.specs.Sizes.{sizes_of};
 ghost use Rattle.numbers.specs.Profile.{rail};
+ghost use Rattle.numbers.specs.Refusal.{answered_number};
 ghost use Rattle.sending.specs.Acknowledge.{judged_point, limit_of, whole_sack, shut_of};
 ghost use Rattle.sending.specs.Sending.{has_outstanding};
 ghost use Rattle.sender.specs.Seen.{sending_shown};
-ghost use Rattle.acks.specs.Acks.{accepted_head, accepted_words, acked_head, acked_words, shut_head, shut_words, overdue_head, overdue_words, expired_of, expired_head, expired_words};
+ghost use Rattle.acks.specs.Acks.{accepted_head, accepted_words, acked_of, acked_head, acked_words, shut_head, shut_words, overdue_head, overdue_words, expired_of, expired_head, expired_words};
 
 use numbers::{Blocks, Refusal, Tsn};
 use places::Sack;
 use sender::Sender;
 use sending::acknowledging;
 
-// A number of 01's table, 0 if none, beside the head.
-#[derive(Clone, Copy)]
-pub struct Acked {
-    pub number: u8,
-    pub head: Sender,
-}
-
-fn judge(s: Sender, k: Sack) -> u8
-    ensures { result ≡ judged_point (sending_shown rail s [] []) k }
+fn judge(s: Sender, k: Sack) -> Result<(), Refusal>
+    ensures { answered_number result ≡ judged_point (sending_shown rail s [] []) k }
 {
     let room = s.room();
     if s.acked.0 == k.point.0 {
@@ -68,18 +62,24 @@ fn accepted(mut s: Sender, t: &mut [u32; 1024], k: Sack) -> Sender
     s
 }
 
-fn answered(s: Sender, t: &mut [u32; 1024], k: Sack) -> Acked
-    ensures value { result ≡ acked_head (sizes_of s.mode) rail s t.old k }
+// What is refused leaves head and table.
+fn answered(s: Sender, t: &mut [u32; 1024], k: Sack) -> Result<Sender, Refusal>
+    ensures value { acked_of s result ≡ acked_head (sizes_of s.mode) rail s t.old k }
     ensures t_after { t.new ≡ acked_words rail s t.old k }
 {
-    let number = judge(s, k);
-    let head = if number == 0 { accepted(s, t, k) } else { s };
-    Acked { number, head }
+    judge(s, k)?;
+    Ok(accepted(s, t, k))
 }
 
-// A SACK.
-pub fn acknowledge(s: Sender, t: &mut [u32; 1024], point: Tsn, window: u32, blocks: Blocks) -> Acked
-    ensures value { result ≡ acked_head (sizes_of s.mode) rail s t.old (whole_sack point window blocks) }
+// A SACK: the head after it.
+pub fn acknowledge(
+    s: Sender,
+    t: &mut [u32; 1024],
+    point: Tsn,
+    window: u32,
+    blocks: Blocks,
+) -> Result<Sender, Refusal>
+    ensures value { acked_of s result ≡ acked_head (sizes_of s.mode) rail s t.old (whole_sack point window blocks) }
     ensures t_after { t.new ≡ acked_words rail s t.old (whole_sack point window blocks) }
 {
     let k = Sack {
@@ -92,8 +92,8 @@ pub fn acknowledge(s: Sender, t: &mut [u32; 1024], point: Tsn, window: u32, bloc
 }
 
 // A SHUTDOWN's point: window and block marks are kept, and a stale one changes nothing.
-pub fn shutdown_point(s: Sender, t: &mut [u32; 1024], point: Tsn) -> Acked
-    ensures value { result ≡ shut_head (sizes_of s.mode) rail s t.old point }
+pub fn shutdown_point(s: Sender, t: &mut [u32; 1024], point: Tsn) -> Result<Sender, Refusal>
+    ensures value { acked_of s result ≡ shut_head (sizes_of s.mode) rail s t.old point }
     ensures t_after { t.new ≡ shut_words rail s t.old point }
 {
     let k = Sack {
@@ -102,10 +102,11 @@ pub fn shutdown_point(s: Sender, t: &mut [u32; 1024], point: Tsn) -> Acked
         whole: false,
         blocks: Blocks::none(),
     };
-    if judge(s, k) == 15 {
-        return Acked { number: 0, head: s };
+    match judge(s, k) {
+        Ok(()) => Ok(accepted(s, t, k)),
+        Err(Refusal::Stale) => Ok(s),
+        Err(refusal) => Err(refusal),
     }
-    answered(s, t, k)
 }
 
 fn overdue(mut s: Sender, t: &mut [u32; 1024]) -> Sender

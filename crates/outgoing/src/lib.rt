@@ -27,7 +27,7 @@ pub struct Outgoing {
     pub next: [u16; 128],
 }
 
-// The number, 0 if none; how many chunks were cut; the sending side.
+// The number, 0 if none; how many chunks were cut; the sending side. A number, and no `Result`, here and in the two below, since `vectors_sending` prints it.
 #[derive(Clone, Copy)]
 pub struct HandedIn {
     pub number: u8,
@@ -109,10 +109,15 @@ pub fn hand_in(
 pub fn acknowledge(mut r: Outgoing, point: Tsn, window: u32, blocks: Blocks) -> Answered
     ensures { (result ≡ outgoing_answered r (whole_sack point window blocks)) × (◌≡◌ {A = Answer} (record { number = result.number; sending = outgoing_shown result.outgoing }) (acknowledged_sending (sizes_of r.head.mode) (outgoing_shown r) (whole_sack point window blocks))) }
 {
-    let answer = acks::acknowledge(r.head, &mut r.places, point, window, blocks);
-    r.head = answer.head;
+    let number = match acks::acknowledge(r.head, &mut r.places, point, window, blocks) {
+        Ok(after) => {
+            r.head = after;
+            0
+        }
+        Err(refusal) => refusal.number(),
+    };
     Answered {
-        number: answer.number,
+        number,
         outgoing: r,
     }
 }
@@ -121,10 +126,15 @@ pub fn acknowledge(mut r: Outgoing, point: Tsn, window: u32, blocks: Blocks) -> 
 pub fn shutdown_point(mut r: Outgoing, point: Tsn) -> Answered
     ensures { (result ≡ shut_by r point) × (◌≡◌ {A = Answer} (record { number = result.number; sending = outgoing_shown result.outgoing }) (shutdown_point (sizes_of r.head.mode) (outgoing_shown r) point)) }
 {
-    let answer = acks::shutdown_point(r.head, &mut r.places, point);
-    r.head = answer.head;
+    let number = match acks::shutdown_point(r.head, &mut r.places, point) {
+        Ok(after) => {
+            r.head = after;
+            0
+        }
+        Err(refusal) => refusal.number(),
+    };
     Answered {
-        number: answer.number,
+        number,
         outgoing: r,
     }
 }

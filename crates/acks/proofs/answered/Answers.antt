@@ -1,11 +1,14 @@
-use borrow.Author.Tests.{eq-eqb, ne_eqb}
+use borrow.Author.Tests.{ne_eqb}
+use Rattle.std.proofs.lemmas.Result.{err_from_is_err_and}
+use Rattle.numbers.specs.Refusal.{refusal_number}
+use Rattle.numbers.specs.RefusalLaws.{refusal-never-none}
 use Rattle.acks.specs.Acks.{acked_head, acked_words}
 use Rattle.acks.proofs.answered.Goals as goal
 
-pub returns-then-number-eq0 : goal.returns-then-number-eq0
+pub returns-in_err-judge : goal.returns-in_err-judge
 unfolding acked_head acked_words
-returns-then-number-eq0 c = record { value = rw (← c.judge-number.ensures, eq-eqb _ _ c.if-number-eq0.true, c.accepted-head.ensures.value); t_after = rw (← c.judge-number.ensures, eq-eqb _ _ c.if-number-eq0.true) c.accepted-head.ensures.t_after }
+returns-in_err-judge c = let p = err_from_is_err_and c.from_residual.result c.from_residual.ensures.1 in let n = ne_eqb (refusal_number c.in_err-judge.field-0.0) 0 (refusal-never-none _) in record { value = rw (p.1, p.2, ← c.in_err-judge.ensures, n); t_after = rw (← c.in_err-judge.ensures, n) }
 
-pub returns-else-number-eq0 : goal.returns-else-number-eq0
+pub returns : goal.returns
 unfolding acked_head acked_words
-returns-else-number-eq0 c = record { value = rw (← c.judge-number.ensures, ne_eqb _ _ c.if-number-eq0.false); t_after = rw (← c.judge-number.ensures, ne_eqb _ _ c.if-number-eq0.false) }
+returns c = record { value = rw (← c.in_ok-judge.ensures, c.accepted.ensures.value); t_after = rw (← c.in_ok-judge.ensures) c.accepted.ensures.t_after }
