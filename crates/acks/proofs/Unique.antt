@@ -1,6 +1,6 @@
 -- Each promise leaves one outcome: two results, and two contents of every lent table, that a contract allows are equal, whatever words the tables had.
 -- Assumes nothing.
-use mathlib.Core.Path.{◌≡◌, sym, ap, ◌∙◌}
+use mathlib.Core.Path.{◌≡◌, sym, ◌∙◌}
 use Rattle.acks.specs.AnsweredLaws.{acked-apart, expiries-apart}
 use Rattle.acks.proofs.acknowledge.Reads as acknowledge-reads
 use Rattle.acks.proofs.shutdown_point.Reads as shutdown-point-reads

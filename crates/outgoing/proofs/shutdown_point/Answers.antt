@@ -12,4 +12,4 @@ pub returns-in-Ok : goal.returns-in-Ok
 returns-in-Ok c = let r = c.args.r in let e = c.shutdown_point.ensures in let l : length r.places ≡ 1024 = search rules in let m : 8 * 128 ≤ length r.places = omega (arith, l) in let w = shut-shows (sizes_of r.head.mode) rail r.head r.places r.next m c.args.point in let v = rw c.in-Ok.is at e.value in (rw (← v, e.t_after), rw e.t_after (rw (← v) at w))
 
 pub returns-in-Err : goal.returns-in-Err
-returns-in-Err c = let r = c.args.r in let e = c.shutdown_point.ensures in let l : length r.places ≡ 1024 = search rules in let m : 8 * 128 ≤ length r.places = omega (arith, l) in let w = shut-shows (sizes_of r.head.mode) rail r.head r.places r.next m c.args.point in let v = rw c.in-Err.is at e.value in (rw (c.number.ensures, ← v, e.t_after), rw (c.number.ensures, e.t_after) (rw (← v) at w))
+returns-in-Err c = let r = c.args.r in let e = c.shutdown_point.ensures in let l : length r.places ≡ 1024 = search rules in let m : 8 * 128 ≤ length r.places = omega (arith, l) in let w = shut-shows (sizes_of r.head.mode) rail r.head r.places r.next m c.args.point in let v = rw c.in-Err.is at e.value in (rw (c.number-number.ensures, ← v, e.t_after), rw (c.number-number.ensures, e.t_after) (rw (← v) at w))
