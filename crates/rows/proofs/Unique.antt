@@ -2,6 +2,7 @@
 use mathlib.Core.Path.{◌≡◌, sym, ap, ◌∙◌}
 use Rattle.rows.specs.TableRows.{Rowed}
 use Rattle.rows.specs.Lending.{standing, standing_of}
+use Rattle.acks.specs.AnsweredLaws.{acked-apart}
 use Rattle.rows.proofs.stepped.Stepped.accepted.Reads as accepted-reads
 use Rattle.rows.proofs.stepped.Stepped.answering.Reads as answering-reads
 use Rattle.rows.proofs.stepped.Stepped.owing.Reads as owing-reads
@@ -61,7 +62,7 @@ pub read-late-data-unique : (κs : _) (a : _) (r q : _) (s t : _) → read-late-
 read-late-data-unique κs a r q s t x y = (x.1.0 ∙ sym y.1.0, x.1.1 ∙ sym y.1.1)
 
 pub hear-sack-unique : (κs : _) (a : _) (r q : _) (s t : _) → hear-sack-reads.Post κs a r s → hear-sack-reads.Post κs a q t → (r ≡ q) × (s.1.0.now ≡ t.1.0.now)
-hear-sack-unique κs a r q s t x y = (x.0 ∙ sym y.0, x.1 ∙ sym y.1)
+hear-sack-unique κs a r q s t x y = (acked-apart a.0 r q (x.0 ∙ sym y.0), x.1 ∙ sym y.1)
 
 pub read-sack-unique : (κs : _) (a : _) (r q : _) (s t : _) → read-sack-reads.Post κs a r s → read-sack-reads.Post κs a q t → (r ≡ q) × (s.1.0.now ≡ t.1.0.now)
 read-sack-unique κs a r q s t x y = (x.0 ∙ sym y.0, x.1 ∙ sym y.1)

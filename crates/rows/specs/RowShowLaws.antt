@@ -38,7 +38,7 @@ use Rattle.tables.specs.Ssns.{ssns_of}
 use Rattle.reception.specs.Reception.{receiving_shown}
 use Rattle.reception.specs.ReceptionLaws.{Fitting, words-arrived, fresh-receiving-shown}
 use Rattle.sender.specs.Seen.{sending_shown, sender_head}
-use Rattle.acks.specs.declared.Acked.{Acked}
+use Rattle.acks.specs.Acks.{Acked}
 use Rattle.acks.specs.AcksLaws.{acked-shows, shut-shows}
 use Rattle.states.specs.declared.state.State.{State}
 use Rattle.states.specs.declared.state.State.TheVariants.{Closed, ShutdownReceived, ShutdownAckSent}

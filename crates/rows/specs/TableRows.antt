@@ -20,8 +20,7 @@ use Rattle.sending.specs.declared.acknowledging.Answer.{Answer}
 use Rattle.sending.specs.Acknowledge as sending
 use Rattle.sender.specs.declared.Sender.{Sender}
 use Rattle.sender.specs.Seen.{sending_shown}
-use Rattle.acks.specs.declared.Acked.{Acked}
-use Rattle.acks.specs.Acks.{acked_head, acked_words, shut_head, shut_words}
+use Rattle.acks.specs.Acks.{Acked, acked_head, acked_words, shut_head, shut_words}
 use Rattle.states.specs.declared.state.State.{State}
 use Rattle.states.specs.declared.state.State.TheVariants.{Established, ShutdownAckSent}
 use Rattle.states.specs.declared.rows.Row.{Row}

@@ -1,16 +1,19 @@
 // The chunks of an open association: DATA, SACK, HEARTBEAT and HEARTBEAT ACK.
 ghost use Rattle.std.specs.Prelude.{◌≡◌, []};
+ghost use Rattle.numbers.specs.Refusal.{answered_number};
 ghost use Rattle.octets.specs.Writing.{wrote_bytes};
-ghost use Rattle.steps.specs.Carrying.{data_read, shutdown_owed, shutdown_acked, sack_read, is_last, echo_heartbeat, clear_tries};
+ghost use Rattle.acks.specs.Acks.{acked_of};
+ghost use Rattle.steps.specs.Verdict.{quiet};
+ghost use Rattle.steps.specs.Carrying.{data_read, shutdown_owed, shutdown_acked, told_sack, echo_heartbeat, clear_tries};
 ghost use Rattle.flat.specs.Shown.{bare};
 ghost use Rattle.rows.specs.Stepped.{stepped_with, stepped_in};
-ghost use Rattle.rows.specs.TableRows.{side, heard_data, arrival_with, read_data_by, read_late_data_by, sack_heard, places_sacked, answer_with, read_sack_by, read_sack_pending_by, read_sack_received_by};
+ghost use Rattle.rows.specs.TableRows.{side, heard_data, arrival_with, read_data_by, read_late_data_by, sack_heard, places_sacked, read_sack_by, read_sack_pending_by, read_sack_received_by};
 ghost use Rattle.rows.specs.Lending.{standing, AreSame, heard_into};
 
 use crate::lent::Tables;
 use crate::stepped::Stepped;
-use acks::Acked;
 use flat::Head;
+use numbers::Refusal;
 use reception::arrival::Arrived;
 use sender::Sender;
 use states::State;
@@ -91,34 +94,31 @@ pub fn read_late_data(mut head: Head, tables: &mut Tables, s: &[u8]) -> Stepped
 
 // The sender's answer to a SACK.
 #[tactic(auto, unfolding(crate::specs::TableRows::sack_heard, crate::specs::TableRows::places_sacked))]
-pub fn hear_sack(sender: Sender, places: &mut [u32; 1024], s: &[u8]) -> Acked
-    ensures { (result ≡ sack_heard sender places.old s.now) × (places.new ≡ places_sacked sender places.old s.now) }
+pub fn hear_sack(sender: Sender, places: &mut [u32; 1024], s: &[u8]) -> Result<Sender, Refusal>
+    ensures { (acked_of sender result ≡ sack_heard sender places.old s.now) × (places.new ≡ places_sacked sender places.old s.now) }
 {
     let h = chunks::sack::read_sack(s);
     acks::acknowledge(sender, places, h.point, h.window, carrying::blocks_of(s))
 }
 
-fn sack_read(mut head: Head, o: Acked) -> Stepped
-    ensures { result ≡ stepped_with 0 (sack_read (bare head) (answer_with o [] [])) }
+fn sack_read(head: Head, judged: Result<(), Refusal>) -> Stepped
+    ensures { result ≡ stepped_with 0 (quiet (bare head) (told_sack (answered_number judged))) }
 {
-    head.sender = o.head;
-    Stepped::quiet(head, carrying::tell_sack(o.number))
+    Stepped::quiet(head, carrying::tell_sack(judged))
 }
 
 // A SACK in ESTABLISHED.
 #[tactic(auto, unfolding(crate::specs::TableRows::read_sack_by))]
-pub fn read_sack(head: Head, places: &mut [u32; 1024], s: &[u8]) -> Stepped
+pub fn read_sack(mut head: Head, places: &mut [u32; 1024], s: &[u8]) -> Stepped
     ensures { (result ≡ stepped_with 0 (read_sack_by head places.old s.now)) × (places.new ≡ places_sacked head.sender places.old s.now) }
 {
-    let o = hear_sack(head.sender, places, s);
-    sack_read(head, o)
-}
-
-// Taken in, and nothing is left to send.
-pub(crate) fn is_last(o: Acked, places: &[u32; 1024]) -> bool
-    ensures { result ≡ is_last (answer_with o places.now []) }
-{
-    o.number == 0 && marks::is_empty(places)
+    match hear_sack(head.sender, places, s) {
+        Ok(sender) => {
+            head.sender = sender;
+            sack_read(head, Ok(()))
+        }
+        Err(refusal) => sack_read(head, Err(refusal)),
+    }
 }
 
 // A SACK in SHUTDOWN-PENDING: once nothing is left to send, SHUTDOWN goes out.
@@ -126,15 +126,21 @@ pub(crate) fn is_last(o: Acked, places: &[u32; 1024]) -> bool
 pub fn read_sack_pending(mut head: Head, places: &mut [u32; 1024], s: &[u8]) -> Stepped
     ensures { (result ≡ stepped_with 0 (read_sack_pending_by head places.old s.now)) × (places.new ≡ places_sacked head.sender places.old s.now) }
 {
-    let o = hear_sack(head.sender, places, s);
-    if is_last(o, places) {
-        head.sender = o.head;
-        return owe_shutdown(head);
+    match hear_sack(head.sender, places, s) {
+        Ok(sender) => {
+            head.sender = sender;
+            if marks::is_empty(places) {
+                owe_shutdown(head)
+            } else {
+                sack_read(head, Ok(()))
+            }
+        }
+        Err(refusal) => sack_read(head, Err(refusal)),
     }
-    sack_read(head, o)
 }
 
 // A SACK in SHUTDOWN-RECEIVED: once nothing is left to send, SHUTDOWN ACK goes out.
+#[tactic(auto, unfolding(crate::specs::TableRows::read_sack_received_by))]
 pub fn read_sack_received(
     mut head: Head,
     places: &mut [u32; 1024],
@@ -145,12 +151,17 @@ pub fn read_sack_received(
         × (places.new ≡ places_sacked head.sender places.old s.now)
         × (space.new ≡ wrote_bytes space.old (read_sack_received_by head places.old s.now).reply) }
 {
-    let o = hear_sack(head.sender, places, s);
-    if is_last(o, places) {
-        head.sender = o.head;
-        return acknowledge_shutdown(head, State::ShutdownAckSent(0), space);
+    match hear_sack(head.sender, places, s) {
+        Ok(sender) => {
+            head.sender = sender;
+            if marks::is_empty(places) {
+                acknowledge_shutdown(head, State::ShutdownAckSent(0), space)
+            } else {
+                sack_read(head, Ok(()))
+            }
+        }
+        Err(refusal) => sack_read(head, Err(refusal)),
     }
-    sack_read(head, o)
 }
 
 // A HEARTBEAT is echoed.

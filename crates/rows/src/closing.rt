@@ -1,16 +1,17 @@
 // The chunks that close an association: ABORT, ERROR, SHUTDOWN, SHUTDOWN ACK, SHUTDOWN COMPLETE.
 ghost use Rattle.std.specs.Prelude.{◌≡◌};
 ghost use Rattle.octets.specs.Writing.{wrote_bytes};
+ghost use Rattle.acks.specs.Acks.{acked_of};
 ghost use Rattle.states.specs.declared.state.State.TheVariants.{ShutdownAckSent};
 ghost use Rattle.steps.specs.Closing.{become_closed, read_error, reflect_complete, send_complete, become_complete};
 ghost use Rattle.flat.specs.Shown.{bare};
 ghost use Rattle.rows.specs.Stepped.{stepped_with, stepped_in};
 ghost use Rattle.rows.specs.TableRows.{heard_point, places_shut, read_shutdown_by, answer_shutdown_by};
 
-use crate::carrying::{acknowledge_shutdown, is_last};
+use crate::carrying::acknowledge_shutdown;
 use crate::stepped::Stepped;
-use acks::Acked;
 use flat::Head;
+use numbers::Refusal;
 use sender::Sender;
 use states::State;
 use steps::carrying::sack_call;
@@ -39,8 +40,8 @@ pub fn read_error(head: Head, s: &[u8]) -> Stepped
 }
 
 #[tactic(auto, unfolding(crate::specs::TableRows::heard_point, crate::specs::TableRows::places_shut))]
-fn hear_shutdown(sender: Sender, places: &mut [u32; 1024], s: &[u8]) -> Acked
-    ensures { (result ≡ heard_point sender places.old s.now) × (places.new ≡ places_shut sender places.old s.now) }
+fn hear_shutdown(sender: Sender, places: &mut [u32; 1024], s: &[u8]) -> Result<Sender, Refusal>
+    ensures { (acked_of sender result ≡ heard_point sender places.old s.now) × (places.new ≡ places_shut sender places.old s.now) }
 {
     acks::shutdown_point(sender, places, chunks::shutdown::point(s))
 }
@@ -56,16 +57,17 @@ pub fn read_shutdown(
         × (places.new ≡ places_shut head.sender places.old s.now)
         × (space.new ≡ wrote_bytes space.old (read_shutdown_by head places.old s.now).reply) }
 {
-    let o = hear_shutdown(head.sender, places, s);
-    if is_last(o, places) {
-        head.sender = o.head;
-        return acknowledge_shutdown(head, State::ShutdownAckSent(0), space);
+    match hear_shutdown(head.sender, places, s) {
+        Ok(sender) => {
+            head.sender = sender;
+            if marks::is_empty(places) {
+                acknowledge_shutdown(head, State::ShutdownAckSent(0), space)
+            } else {
+                Stepped::accepted(head.moved(State::ShutdownReceived), Event::NoEvent, 0)
+            }
+        }
+        Err(refusal) => Stepped::refused(head, refusal.number(), sack_call(refusal)),
     }
-    if o.number == 0 {
-        head.sender = o.head;
-        return Stepped::accepted(head.moved(State::ShutdownReceived), Event::NoEvent, 0);
-    }
-    Stepped::refused(head, o.number, sack_call(o.number))
 }
 
 // Answered at once, in the state that it leads to.
@@ -80,12 +82,13 @@ fn answer_shutdown(
         × (places.new ≡ places_shut head.sender places.old s.now)
         × (space.new ≡ wrote_bytes space.old (answer_shutdown_by head places.old state s.now).reply) }
 {
-    let o = hear_shutdown(head.sender, places, s);
-    if o.number == 0 {
-        head.sender = o.head;
-        return acknowledge_shutdown(head, state, space);
+    match hear_shutdown(head.sender, places, s) {
+        Ok(sender) => {
+            head.sender = sender;
+            acknowledge_shutdown(head, state, space)
+        }
+        Err(refusal) => Stepped::refused(head, refusal.number(), sack_call(refusal)),
     }
-    Stepped::refused(head, o.number, sack_call(o.number))
 }
 
 // A SHUTDOWN that crosses ours.
