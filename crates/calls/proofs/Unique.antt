@@ -2,12 +2,8 @@
 -- Assumes nothing.
 use mathlib.Core.Path.{◌≡◌, sym, ◌∙◌}
 use Rattle.calls.specs.PeekLaws.{told-numbers-apart}
-use Rattle.calls.proofs.answer.earlier.Reads as earlier-reads
 use Rattle.calls.proofs.acknowledging.no_sack.Reads as no-sack-reads
 use Rattle.calls.proofs.peeking.peek.Reads as peek-reads
-
-pub earlier-unique : (κs : _) (a : _) (r q : _) (s t : _) → earlier-reads.Post κs a r s → earlier-reads.Post κs a q t → r ≡ q
-earlier-unique κs a r q s t x y = x ∙ sym y
 
 pub no-sack-unique : (κs : _) (a : _) (r q : _) (s t : _) → no-sack-reads.Post κs a r s → no-sack-reads.Post κs a q t → r ≡ q
 no-sack-unique κs a r q s t x y = x ∙ sym y

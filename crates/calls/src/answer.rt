@@ -1,7 +1,4 @@
-// What a call answers, and what bars it.
-ghost use Rattle.std.specs.Prelude.{◌≡◌};
-ghost use Rattle.association.specs.Bounds.{earlier};
-
+// What a call answers, and what it must be lent.
 use association::Association;
 use numbers::Rail;
 
@@ -19,10 +16,3 @@ pub struct Answer {
 pub const OUTPUT: usize = Rail::LONGEST_PACKET;
 
 pub const AREA: usize = Rail::AREA;
-
-// Of two numbers the first that is given.
-pub fn earlier(m: u8, n: u8) -> u8
-    ensures { result ≡ earlier m n }
-{
-    if m == 0 { n } else { m }
-}
