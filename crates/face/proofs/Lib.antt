@@ -1,4 +1,3 @@
--- What crate `lending` asks for, where the structs that are lent have their fields, and that each promise leaves one outcome.
-pub mod Outcomes
+-- How the head lies in memory, and that each promise leaves one outcome.
 pub mod Sizes
 pub mod Unique

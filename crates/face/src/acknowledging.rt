@@ -1,13 +1,12 @@
 // A SACK goes out.
-ghost use Rattle.std.specs.Prelude.{ℕ, ◌≡◌, List, [], ◌∷◌, map};
+ghost use Rattle.std.specs.Prelude.{ℕ, ◌≡◌, List, map};
 ghost use Rattle.calls.specs.Acknowledging.{no_sack};
 ghost use Rattle.asks.specs.TableAcknowledging.{sack_reply_of};
 ghost use Rattle.face.specs.FaceLeft.{call_told_of};
 ghost use Rattle.face.specs.FaceAcknowledging.{tsn_number, said_in, said_told, said_lists};
 ghost use Rattle.face.specs.Promises.{Acknowledges};
 
-use crate::answer;
-use crate::answer::Served;
+use crate::answer::{self, Served};
 use asks::Acknowledged;
 use chunks::sack::Sack;
 use flat::Head;
@@ -37,15 +36,13 @@ fn list(sack: Sack, starts: &mut [u16; 64], ends: &mut [u16; 64], dups: &mut [u3
     *dups = numbers;
 }
 
-// No block and no duplicate, and zeros.
-fn unsaid(starts: &mut [u16; 64], ends: &mut [u16; 64], dups: &mut [u32; 16], told: &mut [usize; 5])
-    ensures lists { (out : List ℕ) → said_in starts.new ends.new dups.new out ≡ said_lists no_sack out }
-    ensures zeros { told.new ≡ 0 ∷ 0 ∷ 0 ∷ 0 ∷ 0 ∷ [] }
+// No block and no duplicate.
+fn unsaid(starts: &mut [u16; 64], ends: &mut [u16; 64], dups: &mut [u32; 16])
+    ensures { (out : List ℕ) → said_in starts.new ends.new dups.new out ≡ said_lists no_sack out }
 {
     *starts = [0; 64];
     *ends = [0; 64];
     *dups = [0; 16];
-    *told = [0; 5];
 }
 
 // Told: length, point, window, how many blocks, how many duplicates.
@@ -70,14 +67,12 @@ fn said(
                 a.sack.blocks.count,
                 a.sack.listed,
             ];
-            Served {
-                number: 0,
-                kept: kept::pack(a.head),
-            }
+            Served::done(kept::pack(a.head))
         }
         Err(refusal) => {
-            unsaid(starts, ends, dups, told);
-            answer::refused(head, refusal)
+            unsaid(starts, ends, dups);
+            *told = [0; 5];
+            Served::refused(kept::pack(head), refusal)
         }
     }
 }
@@ -95,29 +90,11 @@ pub fn sack(
 ) -> Served
     ensures { Acknowledges k held.now places.now out.old (call_told_of result.number result.kept told.new) (said_in starts.new ends.new dups.new out.new) }
 {
-    if kept::is_named(k) {
-        let head = kept::unpack(k);
-        let answer = asks::sack(head, held, places, out);
-        return said(head, answer, starts, ends, dups, told);
+    if !kept::is_named(k) {
+        unsaid(starts, ends, dups);
+        return answer::unserved(k, told);
     }
-    unsaid(starts, ends, dups, told);
-    Served { number: 1, kept: k }
-}
-
-#[unsafe(no_mangle)]
-pub extern "C" fn ow_lent_sack(
-    k: &mut Kept,
-    held: &[u32; 512],
-    places: &[u32; 1024],
-    out: &mut [u8],
-    starts: &mut [u16; 64],
-    ends: &mut [u16; 64],
-    dups: &mut [u32; 16],
-    told: &mut [usize; 5],
-) -> u32
-    ensures { Acknowledges k.old held.now places.now out.old (call_told_of result k.new told.new) (said_in starts.new ends.new dups.new out.new) }
-{
-    let o = sack(*k, held, places, out, starts, ends, dups, told);
-    *k = o.kept;
-    o.number
+    let head = kept::unpack(k);
+    let answer = asks::sack(head, held, places, out);
+    said(head, answer, starts, ends, dups, told)
 }

@@ -1,5 +1,5 @@
 // What every call gives back, and what most calls tell.
-ghost use Rattle.std.specs.Prelude.{◌≡◌};
+ghost use Rattle.std.specs.Prelude.{◌≡◌, replicate};
 ghost use Rattle.numbers.specs.Refusal.{refusal_number};
 ghost use Rattle.kept.specs.Kept.{packed};
 ghost use Rattle.asks.specs.TableAnswer.{reply_of};
@@ -18,14 +18,30 @@ pub struct Served {
     pub kept: Kept,
 }
 
-// A call that is refused, over a head that stays as it was.
-pub(crate) fn refused(head: Head, refusal: Refusal) -> Served
-    ensures { (result.number ≡ refusal_number refusal) × (result.kept ≡ packed head) }
-{
-    Served {
-        number: u32::from(refusal.number()),
-        kept: kept::pack(head),
+impl Served {
+    pub(crate) fn done(kept: Kept) -> Self
+        ensures { (result.number ≡ 0) × (result.kept ≡ kept) }
+    {
+        Served { number: 0, kept }
     }
+
+    pub(crate) fn refused(kept: Kept, refusal: Refusal) -> Self
+        ensures { (result.number ≡ refusal_number refusal) × (result.kept ≡ kept) }
+    {
+        Served {
+            number: u32::from(refusal.number()),
+            kept,
+        }
+    }
+}
+
+// Where the head is not named: it stays, and zeros are told. They go by a variable: the borrow checker covers no other form at a length that is a parameter.
+pub(crate) fn unserved<const N: usize>(k: Kept, told: &mut [usize; N]) -> Served
+    ensures { call_told_of result.number result.kept told.new ≡ call_told_of 1 k (replicate N 0) }
+{
+    let zeros = [0; N];
+    *told = zeros;
+    Served::refused(k, Refusal::Record)
 }
 
 // Told: the length of the packet, and whether an expiry closed the association.
@@ -35,14 +51,11 @@ pub(crate) fn tell(head: Head, answer: Result<Answered, Refusal>, told: &mut [us
     match answer {
         Ok(answered) => {
             *told = [answered.length, usize::from(flags::byte_of(answered.over))];
-            Served {
-                number: 0,
-                kept: kept::pack(answered.head),
-            }
+            Served::done(kept::pack(answered.head))
         }
         Err(refusal) => {
             *told = [0; 2];
-            refused(head, refusal)
+            Served::refused(kept::pack(head), refusal)
         }
     }
 }

@@ -5,7 +5,7 @@ ghost use Rattle.face.specs.FaceLeft.{call_told_of};
 ghost use Rattle.face.specs.FaceArrival.{lent_as, made_as, landed_told, arrived_lent};
 ghost use Rattle.face.specs.Promises.{Arrives};
 
-use crate::answer::Served;
+use crate::answer::{self, Served};
 use kept::Kept;
 use landing::Landed;
 use numbers::Tsn;
@@ -54,82 +54,31 @@ pub fn arrive(
 ) -> Served
     ensures { Arrives k packet.now (lent_as tag tsn streams options) cookie.now (echoed_of word (made_as my_tag peer_tag streams_in streams_out my_tsn peer_tsn window my_tie peer_tie agreed)) (arrived_lent held.old next_in.old places.old next_out.old kept_cookie.old area.old verdicts.old out.old) (call_told_of result.number result.kept told.new) (arrived_lent held.new next_in.new places.new next_out.new kept_cookie.new area.new verdicts.new out.new) }
 {
-    if kept::is_named(k) {
-        let head = kept::unpack(k);
-        let lent = Lent {
-            tag,
-            tsn: Tsn(tsn),
-            streams,
-            options,
-        };
-        let made = Made {
-            my_tag,
-            peer_tag,
-            streams_in,
-            streams_out,
-            my_tsn: Tsn(my_tsn),
-            peer_tsn: Tsn(peer_tsn),
-            window,
-            my_tie,
-            peer_tie,
-            options: agreed,
-        };
-        let echoed = kept::word::echoed_of(word, made);
-        let landed = landing::arrive(
-            head,
-            held,
-            next_in,
-            places,
-            next_out,
-            kept_cookie,
-            area,
-            verdicts,
-            packet,
-            lent,
-            cookie,
-            echoed,
-            out,
-        );
-        return judged(landed, told);
+    if !kept::is_named(k) {
+        return answer::unserved(k, told);
     }
-    *told = [0; 2];
-    Served { number: 1, kept: k }
-}
-
-#[unsafe(no_mangle)]
-pub extern "C" fn ow_lent_arrive(
-    k: &mut Kept,
-    held: &mut [u32; 512],
-    next_in: &mut [u16; 128],
-    places: &mut [u32; 1024],
-    next_out: &mut [u16; 128],
-    kept_cookie: &mut [u8; 256],
-    area: &mut [u8],
-    verdicts: &mut [u32; 1460],
-    packet: &[u8],
-    tag: u32,
-    tsn: u32,
-    streams: u16,
-    options: u8,
-    cookie: &[u8],
-    word: u8,
-    my_tag: u32,
-    peer_tag: u32,
-    streams_in: u16,
-    streams_out: u16,
-    my_tsn: u32,
-    peer_tsn: u32,
-    window: u32,
-    my_tie: u32,
-    peer_tie: u32,
-    agreed: u8,
-    out: &mut [u8],
-    told: &mut [usize; 2],
-) -> u32
-    ensures { Arrives k.old packet.now (lent_as tag tsn streams options) cookie.now (echoed_of word (made_as my_tag peer_tag streams_in streams_out my_tsn peer_tsn window my_tie peer_tie agreed)) (arrived_lent held.old next_in.old places.old next_out.old kept_cookie.old area.old verdicts.old out.old) (call_told_of result k.new told.new) (arrived_lent held.new next_in.new places.new next_out.new kept_cookie.new area.new verdicts.new out.new) }
-{
-    let o = arrive(
-        *k,
+    let head = kept::unpack(k);
+    let lent = Lent {
+        tag,
+        tsn: Tsn(tsn),
+        streams,
+        options,
+    };
+    let made = Made {
+        my_tag,
+        peer_tag,
+        streams_in,
+        streams_out,
+        my_tsn: Tsn(my_tsn),
+        peer_tsn: Tsn(peer_tsn),
+        window,
+        my_tie,
+        peer_tie,
+        options: agreed,
+    };
+    let echoed = kept::word::echoed_of(word, made);
+    let landed = landing::arrive(
+        head,
         held,
         next_in,
         places,
@@ -138,25 +87,10 @@ pub extern "C" fn ow_lent_arrive(
         area,
         verdicts,
         packet,
-        tag,
-        tsn,
-        streams,
-        options,
+        lent,
         cookie,
-        word,
-        my_tag,
-        peer_tag,
-        streams_in,
-        streams_out,
-        my_tsn,
-        peer_tsn,
-        window,
-        my_tie,
-        peer_tie,
-        agreed,
+        echoed,
         out,
-        told,
     );
-    *k = o.kept;
-    o.number
+    judged(landed, told)
 }

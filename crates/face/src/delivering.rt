@@ -5,7 +5,7 @@ ghost use Rattle.face.specs.FaceLeft.{call_told_of};
 ghost use Rattle.face.specs.FaceMessages.{delivered_told, delivered_lent};
 ghost use Rattle.face.specs.Promises.{Takes};
 
-use crate::answer::Served;
+use crate::answer::{self, Served};
 use asks::Undelivered;
 use holding::taking::Message;
 use kept::{Kept, flags};
@@ -23,14 +23,11 @@ fn given(k: Kept, answer: Result<Message, Undelivered>, told: &mut [usize; 5]) -
                 usize::from(message.ssn.0),
                 message.ppid as usize,
             ];
-            Served { number: 0, kept: k }
+            Served::done(k)
         }
         Err(undelivered) => {
             *told = [undelivered.needed, 0, 0, 0, 0];
-            Served {
-                number: u32::from(undelivered.refusal.number()),
-                kept: k,
-            }
+            Served::refused(k, undelivered.refusal)
         }
     }
 }
@@ -47,28 +44,10 @@ pub fn take(
 ) -> Served
     ensures { Takes k places.now area.now (delivered_lent held.old next_in.old out.old) (call_told_of result.number result.kept told.new) (delivered_lent held.new next_in.new out.new) }
 {
-    if kept::is_named(k) {
-        let head = kept::unpack(k);
-        let answer = asks::take(head, held, next_in, places, area, out);
-        return given(k, answer, told);
+    if !kept::is_named(k) {
+        return answer::unserved(k, told);
     }
-    *told = [0; 5];
-    Served { number: 1, kept: k }
-}
-
-#[unsafe(no_mangle)]
-pub extern "C" fn ow_lent_take(
-    k: &mut Kept,
-    held: &mut [u32; 512],
-    next_in: &mut [u16; 128],
-    places: &[u32; 1024],
-    area: &[u8],
-    out: &mut [u8],
-    told: &mut [usize; 5],
-) -> u32
-    ensures { Takes k.old places.now area.now (delivered_lent held.old next_in.old out.old) (call_told_of result k.new told.new) (delivered_lent held.new next_in.new out.new) }
-{
-    let o = take(*k, held, next_in, places, area, out, told);
-    *k = o.kept;
-    o.number
+    let head = kept::unpack(k);
+    let answer = asks::take(head, held, next_in, places, area, out);
+    given(k, answer, told)
 }

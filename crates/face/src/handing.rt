@@ -5,21 +5,22 @@ ghost use Rattle.face.specs.FaceLeft.{call_told_of};
 ghost use Rattle.face.specs.FaceMessages.{handed_told, handed_lent};
 ghost use Rattle.face.specs.Promises.{HandsIn};
 
-use crate::answer::Served;
+use crate::answer::{self, Served};
 use kept::{Kept, flags};
 use numbers::{Refusal, StreamId};
 
 fn handed(k: Kept, answer: Result<usize, Refusal>, told: &mut [usize; 1]) -> Served
     ensures { call_told_of result.number result.kept told.new ≡ handed_told k (handing_of answer) }
 {
-    let (number, chunks) = match answer {
-        Ok(chunks) => (0, chunks),
-        Err(refusal) => (refusal.number(), 0),
-    };
-    *told = [chunks];
-    Served {
-        number: u32::from(number),
-        kept: k,
+    match answer {
+        Ok(chunks) => {
+            *told = [chunks];
+            Served::done(k)
+        }
+        Err(refusal) => {
+            *told = [0];
+            Served::refused(k, refusal)
+        }
     }
 }
 
@@ -37,41 +38,19 @@ pub fn hand_in(
 ) -> Served
     ensures { HandsIn k held.now message.now stream unordered ppid (handed_lent places.old area.old) (call_told_of result.number result.kept told.new) (handed_lent places.new area.new) }
 {
-    if kept::is_named(k) {
-        let head = kept::unpack(k);
-        let answer = asks::hand_in(
-            head,
-            held,
-            places,
-            area,
-            message,
-            StreamId(stream),
-            flags::is_yes(unordered),
-            ppid,
-        );
-        return handed(k, answer, told);
+    if !kept::is_named(k) {
+        return answer::unserved(k, told);
     }
-    *told = [0; 1];
-    Served { number: 1, kept: k }
-}
-
-#[unsafe(no_mangle)]
-pub extern "C" fn ow_lent_hand_in(
-    k: &mut Kept,
-    held: &[u32; 512],
-    places: &mut [u32; 1024],
-    area: &mut [u8],
-    message: &[u8],
-    stream: u16,
-    unordered: u8,
-    ppid: u32,
-    told: &mut [usize; 1],
-) -> u32
-    ensures { HandsIn k.old held.now message.now stream unordered ppid (handed_lent places.old area.old) (call_told_of result k.new told.new) (handed_lent places.new area.new) }
-{
-    let o = hand_in(
-        *k, held, places, area, message, stream, unordered, ppid, told,
+    let head = kept::unpack(k);
+    let answer = asks::hand_in(
+        head,
+        held,
+        places,
+        area,
+        message,
+        StreamId(stream),
+        flags::is_yes(unordered),
+        ppid,
     );
-    *k = o.kept;
-    o.number
+    handed(k, answer, told)
 }

@@ -1,5 +1,5 @@
-// What a host in C or Rust links: for each call a function over the head as the host keeps it and tables that it lends, by value, and over it one that is lent the head too.
-// Only pointers and numbers cross, so one module serves every C ABI of 64 bits. Crate `face_c` exports each that is lent the head, under its own name; `include/oilwhisper.h` says it in C.
+// What a host calls: for each call a function over the head as the host keeps it, by value, and over tables that it lends. Pointers and numbers are all that it is given.
+// Crate `face_c` exports each to C and Rust, over a head that is lent too.
 #![tactic(auto)]
 
 pub mod acknowledging;
@@ -13,4 +13,3 @@ pub mod peeking;
 pub mod telling;
 pub mod timers;
 pub mod transmitting;
-pub mod version;

@@ -4,7 +4,7 @@ ghost use Rattle.face.specs.FaceLeft.{call_told_of};
 ghost use Rattle.face.specs.FaceOpening.{tables_lent, associated_lent};
 ghost use Rattle.face.specs.Promises.{Closes, Associates};
 
-use crate::answer::{Served, tell};
+use crate::answer::{self, Served, tell};
 use flat::Head;
 use kept::Kept;
 use numbers::Tsn;
@@ -28,28 +28,7 @@ pub fn close(
     tables::place::clear(places);
     tables::ssns::clear(next_out);
     flat::fresh::clear_cookie(kept_cookie);
-    Served {
-        number: 0,
-        kept: kept::pack(head),
-    }
-}
-
-#[unsafe(no_mangle)]
-pub extern "C" fn ow_lent_close(
-    k: &mut Kept,
-    held: &mut [u32; 512],
-    next_in: &mut [u16; 128],
-    places: &mut [u32; 1024],
-    next_out: &mut [u16; 128],
-    kept_cookie: &mut [u8; 256],
-    port: u16,
-    mode: u8,
-) -> u32
-    ensures { Closes port mode (call_told_of result k.new []) (tables_lent held.new next_in.new places.new next_out.new kept_cookie.new) }
-{
-    let o = close(*k, held, next_in, places, next_out, kept_cookie, port, mode);
-    *k = o.kept;
-    o.number
+    Served::done(kept::pack(head))
 }
 
 // Our own INIT.
@@ -69,58 +48,22 @@ pub fn associate(
 ) -> Served
     ensures { Associates k tag tsn port streams (associated_lent (tables_lent held.old next_in.old places.old next_out.old kept_cookie.old) out.old) (call_told_of result.number result.kept told.new) (associated_lent (tables_lent held.new next_in.new places.new next_out.new kept_cookie.new) out.new) }
 {
-    if kept::is_named(k) {
-        let head = kept::unpack(k);
-        let answer = asks::associate(
-            head,
-            held,
-            next_in,
-            places,
-            next_out,
-            kept_cookie,
-            tag,
-            Tsn(tsn),
-            port,
-            streams,
-            out,
-        );
-        return tell(head, answer, told);
+    if !kept::is_named(k) {
+        return answer::unserved(k, told);
     }
-    *told = [0; 2];
-    Served { number: 1, kept: k }
-}
-
-#[unsafe(no_mangle)]
-pub extern "C" fn ow_lent_associate(
-    k: &mut Kept,
-    held: &mut [u32; 512],
-    next_in: &mut [u16; 128],
-    places: &mut [u32; 1024],
-    next_out: &mut [u16; 128],
-    kept_cookie: &mut [u8; 256],
-    tag: u32,
-    tsn: u32,
-    port: u16,
-    streams: u16,
-    out: &mut [u8],
-    told: &mut [usize; 2],
-) -> u32
-    ensures { Associates k.old tag tsn port streams (associated_lent (tables_lent held.old next_in.old places.old next_out.old kept_cookie.old) out.old) (call_told_of result k.new told.new) (associated_lent (tables_lent held.new next_in.new places.new next_out.new kept_cookie.new) out.new) }
-{
-    let o = associate(
-        *k,
+    let head = kept::unpack(k);
+    let answer = asks::associate(
+        head,
         held,
         next_in,
         places,
         next_out,
         kept_cookie,
         tag,
-        tsn,
+        Tsn(tsn),
         port,
         streams,
         out,
-        told,
     );
-    *k = o.kept;
-    o.number
+    tell(head, answer, told)
 }

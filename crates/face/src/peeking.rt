@@ -6,8 +6,14 @@ ghost use Rattle.face.specs.FacePeek.{seen_number, seen_words};
 use calls::Peeked;
 use numbers::Refusal;
 
-// Told: kind (1 an INIT, 2 a COOKIE ECHO, else 0), the port that it came from, tag, window, streams out and in, first TSN; where the cookie stands, and its length; the
-// options that are offered.
+// The number, 0 if none, and the words told: kind (1 an INIT, 2 a COOKIE ECHO, else 0), the port that it came from, tag, window, streams out and in, first TSN; where
+// the cookie stands, and its length; the options that are offered.
+#[derive(Clone, Copy)]
+pub struct Seen {
+    pub number: u32,
+    pub words: [usize; 10],
+}
+
 fn words_of(seen: Result<Option<Peeked>, Refusal>) -> [usize; 10]
     ensures { result ≡ seen_words (told_by_number seen) }
 {
@@ -29,14 +35,16 @@ fn words_of(seen: Result<Option<Peeked>, Refusal>) -> [usize; 10]
     }
 }
 
-#[unsafe(no_mangle)]
-pub extern "C" fn ow_lent_peek(packet: &[u8], told: &mut [usize; 10]) -> u32
-    ensures { (result ≡ seen_number (peeked packet.now)) × (told.new ≡ seen_words (peeked packet.now)) }
+// Told before a packet arrives, and the packet stays as it is.
+pub fn peek(packet: &[u8]) -> Seen
+    ensures { (result.number ≡ seen_number (peeked packet.now)) × (result.words ≡ seen_words (peeked packet.now)) }
 {
     let seen = calls::peek(packet);
-    *told = words_of(seen);
-    match seen {
-        Ok(_) => 0,
-        Err(refusal) => u32::from(refusal.number()),
+    Seen {
+        number: match seen {
+            Ok(_) => 0,
+            Err(refusal) => u32::from(refusal.number()),
+        },
+        words: words_of(seen),
     }
 }

@@ -3,7 +3,7 @@ ghost use Rattle.calls.specs.Telling.{telling_stream, telling_stale, beating};
 ghost use Rattle.face.specs.FaceLeft.{call_told_of};
 ghost use Rattle.face.specs.Promises.{Sends};
 
-use crate::answer::{Served, tell};
+use crate::answer::{self, Served, tell};
 use kept::Kept;
 use numbers::StreamId;
 
@@ -18,29 +18,12 @@ pub fn error_stream(
 ) -> Served
     ensures { Sends (λ a. telling_stream a (record { 0 = stream })) k held.now places.now out.old (call_told_of result.number result.kept told.new) out.new }
 {
-    if kept::is_named(k) {
-        let head = kept::unpack(k);
-        let answer = asks::error_stream(head, held, places, StreamId(stream), out);
-        return tell(head, answer, told);
+    if !kept::is_named(k) {
+        return answer::unserved(k, told);
     }
-    *told = [0; 2];
-    Served { number: 1, kept: k }
-}
-
-#[unsafe(no_mangle)]
-pub extern "C" fn ow_lent_error_stream(
-    k: &mut Kept,
-    held: &[u32; 512],
-    places: &[u32; 1024],
-    stream: u16,
-    out: &mut [u8],
-    told: &mut [usize; 2],
-) -> u32
-    ensures { Sends (λ a. telling_stream a (record { 0 = stream })) k.old held.now places.now out.old (call_told_of result k.new told.new) out.new }
-{
-    let o = error_stream(*k, held, places, stream, out, told);
-    *k = o.kept;
-    o.number
+    let head = kept::unpack(k);
+    let answer = asks::error_stream(head, held, places, StreamId(stream), out);
+    tell(head, answer, told)
 }
 
 // A cookie was stale.
@@ -56,31 +39,12 @@ pub fn error_stale(
 ) -> Served
     ensures { Sends (λ a. telling_stale a port tag late) k held.now places.now out.old (call_told_of result.number result.kept told.new) out.new }
 {
-    if kept::is_named(k) {
-        let head = kept::unpack(k);
-        let answer = asks::error_stale(head, held, places, port, tag, late, out);
-        return tell(head, answer, told);
+    if !kept::is_named(k) {
+        return answer::unserved(k, told);
     }
-    *told = [0; 2];
-    Served { number: 1, kept: k }
-}
-
-#[unsafe(no_mangle)]
-pub extern "C" fn ow_lent_error_stale(
-    k: &mut Kept,
-    held: &[u32; 512],
-    places: &[u32; 1024],
-    port: u16,
-    tag: u32,
-    late: u32,
-    out: &mut [u8],
-    told: &mut [usize; 2],
-) -> u32
-    ensures { Sends (λ a. telling_stale a port tag late) k.old held.now places.now out.old (call_told_of result k.new told.new) out.new }
-{
-    let o = error_stale(*k, held, places, port, tag, late, out, told);
-    *k = o.kept;
-    o.number
+    let head = kept::unpack(k);
+    let answer = asks::error_stale(head, held, places, port, tag, late, out);
+    tell(head, answer, told)
 }
 
 // A value of the host goes out, to be brought back.
@@ -94,28 +58,11 @@ pub fn heartbeat(
 ) -> Served
     ensures { Sends (λ a. beating a value.now) k held.now places.now out.old (call_told_of result.number result.kept told.new) out.new }
 {
-    if kept::is_named(k) {
-        let head = kept::unpack(k);
-        let bytes = *value;
-        let answer = asks::heartbeat(head, held, places, bytes, out);
-        return tell(head, answer, told);
+    if !kept::is_named(k) {
+        return answer::unserved(k, told);
     }
-    *told = [0; 2];
-    Served { number: 1, kept: k }
-}
-
-#[unsafe(no_mangle)]
-pub extern "C" fn ow_lent_heartbeat(
-    k: &mut Kept,
-    held: &[u32; 512],
-    places: &[u32; 1024],
-    value: &[u8; 8],
-    out: &mut [u8],
-    told: &mut [usize; 2],
-) -> u32
-    ensures { Sends (λ a. beating a value.now) k.old held.now places.now out.old (call_told_of result k.new told.new) out.new }
-{
-    let o = heartbeat(*k, held, places, value, out, told);
-    *k = o.kept;
-    o.number
+    let head = kept::unpack(k);
+    let bytes = *value;
+    let answer = asks::heartbeat(head, held, places, bytes, out);
+    tell(head, answer, told)
 }

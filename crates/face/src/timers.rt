@@ -3,7 +3,7 @@ ghost use Rattle.states.specs.declared.call.Call.TheVariants.{FirstTimer, Second
 ghost use Rattle.face.specs.FaceLeft.{call_told_of};
 ghost use Rattle.face.specs.Promises.{Expires, Lapses, Samples};
 
-use crate::answer::{Served, tell};
+use crate::answer::{self, Served, tell};
 use kept::Kept;
 
 // T1 expires: INIT or COOKIE ECHO again, or closed.
@@ -17,29 +17,12 @@ pub fn t1(
 ) -> Served
     ensures { Expires FirstTimer k held.now places.now kept_cookie.now out.old (call_told_of result.number result.kept told.new) out.new }
 {
-    if kept::is_named(k) {
-        let head = kept::unpack(k);
-        let answer = asks::t1(head, held, places, kept_cookie, out);
-        return tell(head, answer, told);
+    if !kept::is_named(k) {
+        return answer::unserved(k, told);
     }
-    *told = [0; 2];
-    Served { number: 1, kept: k }
-}
-
-#[unsafe(no_mangle)]
-pub extern "C" fn ow_lent_t1(
-    k: &mut Kept,
-    held: &[u32; 512],
-    places: &[u32; 1024],
-    kept_cookie: &[u8; 256],
-    out: &mut [u8],
-    told: &mut [usize; 2],
-) -> u32
-    ensures { Expires FirstTimer k.old held.now places.now kept_cookie.now out.old (call_told_of result k.new told.new) out.new }
-{
-    let o = t1(*k, held, places, kept_cookie, out, told);
-    *k = o.kept;
-    o.number
+    let head = kept::unpack(k);
+    let answer = asks::t1(head, held, places, kept_cookie, out);
+    tell(head, answer, told)
 }
 
 // T2 expires: SHUTDOWN or SHUTDOWN ACK again, or closed.
@@ -53,56 +36,24 @@ pub fn t2(
 ) -> Served
     ensures { Expires SecondTimer k held.now places.now kept_cookie.now out.old (call_told_of result.number result.kept told.new) out.new }
 {
-    if kept::is_named(k) {
-        let head = kept::unpack(k);
-        let answer = asks::t2(head, held, places, kept_cookie, out);
-        return tell(head, answer, told);
+    if !kept::is_named(k) {
+        return answer::unserved(k, told);
     }
-    *told = [0; 2];
-    Served { number: 1, kept: k }
-}
-
-#[unsafe(no_mangle)]
-pub extern "C" fn ow_lent_t2(
-    k: &mut Kept,
-    held: &[u32; 512],
-    places: &[u32; 1024],
-    kept_cookie: &[u8; 256],
-    out: &mut [u8],
-    told: &mut [usize; 2],
-) -> u32
-    ensures { Expires SecondTimer k.old held.now places.now kept_cookie.now out.old (call_told_of result k.new told.new) out.new }
-{
-    let o = t2(*k, held, places, kept_cookie, out, told);
-    *k = o.kept;
-    o.number
+    let head = kept::unpack(k);
+    let answer = asks::t2(head, held, places, kept_cookie, out);
+    tell(head, answer, told)
 }
 
 // T3 expires: what is outstanding is marked, or closed.
 pub fn t3(k: Kept, held: &[u32; 512], places: &mut [u32; 1024], told: &mut [usize; 2]) -> Served
     ensures { Lapses k held.now places.old (call_told_of result.number result.kept told.new) places.new }
 {
-    if kept::is_named(k) {
-        let head = kept::unpack(k);
-        let answer = asks::t3(head, held, places);
-        return tell(head, answer, told);
+    if !kept::is_named(k) {
+        return answer::unserved(k, told);
     }
-    *told = [0; 2];
-    Served { number: 1, kept: k }
-}
-
-#[unsafe(no_mangle)]
-pub extern "C" fn ow_lent_t3(
-    k: &mut Kept,
-    held: &[u32; 512],
-    places: &mut [u32; 1024],
-    told: &mut [usize; 2],
-) -> u32
-    ensures { Lapses k.old held.now places.old (call_told_of result k.new told.new) places.new }
-{
-    let o = t3(*k, held, places, told);
-    *k = o.kept;
-    o.number
+    let head = kept::unpack(k);
+    let answer = asks::t3(head, held, places);
+    tell(head, answer, told)
 }
 
 // A round trip was measured.
@@ -115,26 +66,10 @@ pub fn rtt(
 ) -> Served
     ensures { Samples k held.now places.now sample (call_told_of result.number result.kept told.new) }
 {
-    if kept::is_named(k) {
-        let head = kept::unpack(k);
-        let answer = asks::rtt(head, held, places, sample);
-        return tell(head, answer, told);
+    if !kept::is_named(k) {
+        return answer::unserved(k, told);
     }
-    *told = [0; 2];
-    Served { number: 1, kept: k }
-}
-
-#[unsafe(no_mangle)]
-pub extern "C" fn ow_lent_rtt(
-    k: &mut Kept,
-    held: &[u32; 512],
-    places: &[u32; 1024],
-    sample: u32,
-    told: &mut [usize; 2],
-) -> u32
-    ensures { Samples k.old held.now places.now sample (call_told_of result k.new told.new) }
-{
-    let o = rtt(*k, held, places, sample, told);
-    *k = o.kept;
-    o.number
+    let head = kept::unpack(k);
+    let answer = asks::rtt(head, held, places, sample);
+    tell(head, answer, told)
 }

@@ -1,5 +1,5 @@
-// What a host in C or Rust links: the functions of `face` that only pointers and numbers cross, each under its own name and with its promise there. Only a static library
-// exports a name to C, and nothing in Rattle can rest on one. `include/oilwhisper.h` says it in C.
+// What a host in C or Rust links: each call of `face` over a head that is lent, with the promise that it has there. Only pointers and numbers cross, so one module serves
+// every C ABI of 64 bits. Only a static library exports a name to C, and nothing in Rattle can rest on one. `include/oilwhisper.h` says it in C.
 #![tactic(auto)]
 
 ghost use Rattle.std.specs.Prelude.{[], ◌∷◌, ◌≡◌};
@@ -34,7 +34,9 @@ pub extern "C" fn ow_lent_sack(
 ) -> u32
     ensures { Acknowledges k.old held.now places.now out.old (call_told_of result k.new told.new) (said_in starts.new ends.new dups.new out.new) }
 {
-    face::acknowledging::ow_lent_sack(k, held, places, out, starts, ends, dups, told)
+    let served = face::acknowledging::sack(*k, held, places, out, starts, ends, dups, told);
+    *k = served.kept;
+    served.number
 }
 
 // A packet arrives: what is lent and `cookie` serve an INIT, the word and what the cookie was made from, its options `agreed`, a COOKIE ECHO.
@@ -70,8 +72,8 @@ pub extern "C" fn ow_lent_arrive(
 ) -> u32
     ensures { Arrives k.old packet.now (lent_as tag tsn streams options) cookie.now (echoed_of word (made_as my_tag peer_tag streams_in streams_out my_tsn peer_tsn window my_tie peer_tie agreed)) (arrived_lent held.old next_in.old places.old next_out.old kept_cookie.old area.old verdicts.old out.old) (call_told_of result k.new told.new) (arrived_lent held.new next_in.new places.new next_out.new kept_cookie.new area.new verdicts.new out.new) }
 {
-    face::arrival::ow_lent_arrive(
-        k,
+    let served = face::arrival::arrive(
+        *k,
         held,
         next_in,
         places,
@@ -98,7 +100,9 @@ pub extern "C" fn ow_lent_arrive(
         agreed,
         out,
         told,
-    )
+    );
+    *k = served.kept;
+    served.number
 }
 
 // No more messages.
@@ -112,7 +116,9 @@ pub extern "C" fn ow_lent_shutdown(
 ) -> u32
     ensures { Sends shutting k.old held.now places.now out.old (call_told_of result k.new told.new) out.new }
 {
-    face::closing::ow_lent_shutdown(k, held, places, out, told)
+    let served = face::closing::shutdown(*k, held, places, out, told);
+    *k = served.kept;
+    served.number
 }
 
 // Over at once.
@@ -128,7 +134,9 @@ pub extern "C" fn ow_lent_abort(
 ) -> u32
     ensures { Sends (λ a. aborting a (reason_of cause tsn)) k.old held.now places.now out.old (call_told_of result k.new told.new) out.new }
 {
-    face::closing::ow_lent_abort(k, held, places, cause, tsn, out, told)
+    let served = face::closing::abort(*k, held, places, cause, tsn, out, told);
+    *k = served.kept;
+    served.number
 }
 
 // A message is taken.
@@ -144,7 +152,9 @@ pub extern "C" fn ow_lent_take(
 ) -> u32
     ensures { Takes k.old places.now area.now (delivered_lent held.old next_in.old out.old) (call_told_of result k.new told.new) (delivered_lent held.new next_in.new out.new) }
 {
-    face::delivering::ow_lent_take(k, held, next_in, places, area, out, told)
+    let served = face::delivering::take(*k, held, next_in, places, area, out, told);
+    *k = served.kept;
+    served.number
 }
 
 // A message for a stream, to be sent.
@@ -162,9 +172,11 @@ pub extern "C" fn ow_lent_hand_in(
 ) -> u32
     ensures { HandsIn k.old held.now message.now stream unordered ppid (handed_lent places.old area.old) (call_told_of result k.new told.new) (handed_lent places.new area.new) }
 {
-    face::handing::ow_lent_hand_in(
-        k, held, places, area, message, stream, unordered, ppid, told,
-    )
+    let served = face::handing::hand_in(
+        *k, held, places, area, message, stream, unordered, ppid, told,
+    );
+    *k = served.kept;
+    served.number
 }
 
 // A closed record at one of the host's ports, in one of the two books, whatever stood there.
@@ -181,7 +193,9 @@ pub extern "C" fn ow_lent_close(
 ) -> u32
     ensures { Closes port mode (call_told_of result k.new []) (tables_lent held.new next_in.new places.new next_out.new kept_cookie.new) }
 {
-    face::opening::ow_lent_close(k, held, next_in, places, next_out, kept_cookie, port, mode)
+    let served = face::opening::close(*k, held, next_in, places, next_out, kept_cookie, port, mode);
+    *k = served.kept;
+    served.number
 }
 
 // Our own INIT.
@@ -202,8 +216,8 @@ pub extern "C" fn ow_lent_associate(
 ) -> u32
     ensures { Associates k.old tag tsn port streams (associated_lent (tables_lent held.old next_in.old places.old next_out.old kept_cookie.old) out.old) (call_told_of result k.new told.new) (associated_lent (tables_lent held.new next_in.new places.new next_out.new kept_cookie.new) out.new) }
 {
-    face::opening::ow_lent_associate(
-        k,
+    let served = face::opening::associate(
+        *k,
         held,
         next_in,
         places,
@@ -215,7 +229,9 @@ pub extern "C" fn ow_lent_associate(
         streams,
         out,
         told,
-    )
+    );
+    *k = served.kept;
+    served.number
 }
 
 // What the host must know of a packet before it arrives.
@@ -223,7 +239,11 @@ pub extern "C" fn ow_lent_associate(
 pub extern "C" fn ow_lent_peek(packet: &[u8], told: &mut [usize; 10]) -> u32
     ensures { (result ≡ seen_number (peeked packet.now)) × (told.new ≡ seen_words (peeked packet.now)) }
 {
-    face::peeking::ow_lent_peek(packet, told)
+    let seen = face::peeking::peek(packet);
+    // An array that is a field goes by a variable: the borrow checker covers no other form.
+    let words = seen.words;
+    *told = words;
+    seen.number
 }
 
 // A stream is not agreed.
@@ -238,7 +258,9 @@ pub extern "C" fn ow_lent_error_stream(
 ) -> u32
     ensures { Sends (λ a. telling_stream a (record { 0 = stream })) k.old held.now places.now out.old (call_told_of result k.new told.new) out.new }
 {
-    face::telling::ow_lent_error_stream(k, held, places, stream, out, told)
+    let served = face::telling::error_stream(*k, held, places, stream, out, told);
+    *k = served.kept;
+    served.number
 }
 
 // A cookie was stale.
@@ -255,7 +277,9 @@ pub extern "C" fn ow_lent_error_stale(
 ) -> u32
     ensures { Sends (λ a. telling_stale a port tag late) k.old held.now places.now out.old (call_told_of result k.new told.new) out.new }
 {
-    face::telling::ow_lent_error_stale(k, held, places, port, tag, late, out, told)
+    let served = face::telling::error_stale(*k, held, places, port, tag, late, out, told);
+    *k = served.kept;
+    served.number
 }
 
 // A value of the host goes out, to be brought back.
@@ -270,7 +294,9 @@ pub extern "C" fn ow_lent_heartbeat(
 ) -> u32
     ensures { Sends (λ a. beating a value.now) k.old held.now places.now out.old (call_told_of result k.new told.new) out.new }
 {
-    face::telling::ow_lent_heartbeat(k, held, places, value, out, told)
+    let served = face::telling::heartbeat(*k, held, places, value, out, told);
+    *k = served.kept;
+    served.number
 }
 
 // T1 expires: INIT or COOKIE ECHO again, or closed.
@@ -285,7 +311,9 @@ pub extern "C" fn ow_lent_t1(
 ) -> u32
     ensures { Expires FirstTimer k.old held.now places.now kept_cookie.now out.old (call_told_of result k.new told.new) out.new }
 {
-    face::timers::ow_lent_t1(k, held, places, kept_cookie, out, told)
+    let served = face::timers::t1(*k, held, places, kept_cookie, out, told);
+    *k = served.kept;
+    served.number
 }
 
 // T2 expires: SHUTDOWN or SHUTDOWN ACK again, or closed.
@@ -300,7 +328,9 @@ pub extern "C" fn ow_lent_t2(
 ) -> u32
     ensures { Expires SecondTimer k.old held.now places.now kept_cookie.now out.old (call_told_of result k.new told.new) out.new }
 {
-    face::timers::ow_lent_t2(k, held, places, kept_cookie, out, told)
+    let served = face::timers::t2(*k, held, places, kept_cookie, out, told);
+    *k = served.kept;
+    served.number
 }
 
 // T3 expires: what is outstanding is marked, or closed.
@@ -313,7 +343,9 @@ pub extern "C" fn ow_lent_t3(
 ) -> u32
     ensures { Lapses k.old held.now places.old (call_told_of result k.new told.new) places.new }
 {
-    face::timers::ow_lent_t3(k, held, places, told)
+    let served = face::timers::t3(*k, held, places, told);
+    *k = served.kept;
+    served.number
 }
 
 // A round trip was measured.
@@ -327,7 +359,9 @@ pub extern "C" fn ow_lent_rtt(
 ) -> u32
     ensures { Samples k.old held.now places.now sample (call_told_of result k.new told.new) }
 {
-    face::timers::ow_lent_rtt(k, held, places, sample, told)
+    let served = face::timers::rtt(*k, held, places, sample, told);
+    *k = served.kept;
+    served.number
 }
 
 // A packet of DATA chunks goes out.
@@ -343,15 +377,17 @@ pub extern "C" fn ow_lent_transmit(
 ) -> u32
     ensures { Transmits k.old held.now area.now (dispatched_lent places.old next_out.old out.old) (call_told_of result k.new told.new) (dispatched_lent places.new next_out.new out.new) }
 {
-    face::transmitting::ow_lent_transmit(k, held, places, next_out, area, out, told)
+    let served = face::transmitting::transmit(*k, held, places, next_out, area, out, told);
+    *k = served.kept;
+    served.number
 }
 
-// It grows by one with each change of what crosses.
+// What tells a header and a library of two days apart: it grows by one with each change of what crosses.
 #[unsafe(no_mangle)]
 pub extern "C" fn ow_version() -> u32
     ensures { result ≡ 2 }
 {
-    face::version::ow_version()
+    2
 }
 
 // The bytes of all that is lent: head, held chunks, next SSNs in, places, next SSNs out, cookie, verdicts.
@@ -359,5 +395,5 @@ pub extern "C" fn ow_version() -> u32
 pub extern "C" fn ow_sizes(told: &mut [usize; 7])
     ensures { told.new ≡ 296 ∷ 2048 ∷ 256 ∷ 4096 ∷ 256 ∷ 256 ∷ 5840 ∷ [] }
 {
-    face::version::ow_sizes(told);
+    *told = [296, 2048, 256, 4096, 256, 256, 5840];
 }
