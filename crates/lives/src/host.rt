@@ -1,6 +1,7 @@
 // What the host does: each line names an event of its association, a packet that comes, or a record of the line's own making.
 ghost use Rattle.std.specs.Prelude.{◌≤◌};
 
+use crate::bytes::Bytes;
 use crate::verbs::Verb;
 use crate::{showing, verbs};
 use flat::{Association, Head};
@@ -10,12 +11,14 @@ use octets::{get32, part};
 use pages::page::say;
 use pages::reading::{rest, spell, value16, value32, word};
 use states::State;
-use std::alloc::{AllocError, Global};
 
 // Of a packet; of an area, and of the output of a take.
 pub(crate) const LONGEST: usize = Rail::LONGEST_PACKET;
 
 pub(crate) const SPACE: usize = Rail::AREA;
+
+// Of a cookie that is lent, which may be longer than any that goes out.
+const LENT: usize = 300;
 
 // The numbers of events, as `happening::run_coded` takes them. That of a packet is the host's word on an echoed cookie.
 pub(crate) const BAD: u8 = 0;
@@ -23,6 +26,8 @@ pub(crate) const BAD: u8 = 0;
 pub(crate) const STALE: u8 = 1;
 
 pub(crate) const GOOD: u8 = 2;
+
+pub(crate) const ASSOCIATE: u8 = 3;
 
 pub(crate) const HAND_IN: u8 = 4;
 
@@ -48,7 +53,7 @@ const HEARTBEAT: u8 = 18;
 pub(crate) struct Host {
     word: u8,
     values: [u32; 12],
-    cookie: Vec<u8>,
+    cookie: Bytes<LENT>,
 }
 
 // An event by its number, and its values.
@@ -78,23 +83,22 @@ fn judged(line: &[u8], k: usize) -> u32 {
 }
 
 impl Host {
-    pub(crate) fn new(alloc: Global) -> Self {
+    pub(crate) fn new() -> Self {
         Host {
             word: BAD,
             values: [0; 12],
-            cookie: Vec::new(alloc),
+            cookie: Bytes::new(),
         }
     }
 
     // lends TAG TSN STREAMS COOKIE
-    pub(crate) fn lend(&mut self, line: &[u8]) -> Result<(), AllocError> {
-        let mut buffer = [0u8; 300];
+    pub(crate) fn lend(&mut self, line: &[u8]) {
+        let mut buffer = [0u8; LENT];
         let cookie = spelt(word(line, 4), &mut buffer);
         self.values[0] = value32(line, 1);
         self.values[1] = value32(line, 2);
         self.values[2] = value32(line, 3);
-        self.cookie.clear();
-        self.cookie.extend_from_slice(cookie)
+        self.cookie.set(cookie);
     }
 
     // good or stale, with MY TAG, PEER'S TAG, STREAMS IN, OUT, MY TSN, PEER'S TSN, WINDOW, and the ties, MY and PEER'S, where there are some; or bad
@@ -105,6 +109,8 @@ impl Host {
         self.word = match word(line, 1) {
             b"stale" => STALE,
             b"good" => GOOD,
+            // With no word behind it, the next packet's event is an associate.
+            b"" => ASSOCIATE,
             _ => BAD,
         };
     }
@@ -166,6 +172,10 @@ fn handed(line: &[u8]) -> Event {
     } else {
         HAND_IN
     };
+    handed_as(code, line)
+}
+
+fn handed_as(code: u8, line: &[u8]) -> Event {
     numbered(code, value32(line, 1), value32(line, 3), 0, 0)
 }
 
@@ -185,14 +195,23 @@ fn beaten(line: &[u8]) -> Event {
     numbered(HEARTBEAT, get32(&value, 0), get32(&value, 4), 0, 0)
 }
 
-// The event of a line; a packet has what the host lends.
-fn event_of(host: &Host, line: &[u8]) -> Event {
-    match verbs::of(line) {
-        Verb::Hears | Verb::Gets | Verb::Raw => Event {
-            code: host.word,
+// A packet has what the host lends.
+fn come(host: &Host, line: &[u8]) -> Event {
+    match host.word {
+        ASSOCIATE => called(ASSOCIATE, line),
+        word => Event {
+            code: word,
             values: host.values,
         },
+    }
+}
+
+// The event of a line.
+fn event_of(host: &Host, line: &[u8]) -> Event {
+    match verbs::of(line) {
+        Verb::Hears | Verb::Gets | Verb::Raw => come(host, line),
         Verb::Hands => handed(line),
+        Verb::Event(HAND_IN_UNORDERED) => handed_as(HAND_IN_UNORDERED, line),
         Verb::Aborts => aborted(line),
         Verb::Beats => beaten(line),
         Verb::Event(code) => called(code, line),
@@ -338,7 +357,7 @@ pub(crate) fn acts(
     happens(
         a,
         &event_of(host, deed),
-        &host.cookie,
+        host.cookie.as_slice(),
         input,
         &mut received[..i],
         &mut sent[..j],

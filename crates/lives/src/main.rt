@@ -2,19 +2,20 @@
 // come of it; the output repeats the line, with what came of it before what should, and whether they are the same.
 #![tactic(auto)]
 
+mod bytes;
 mod forms;
 mod host;
 mod sameness;
 mod showing;
 mod verbs;
 
+use crate::bytes::Bytes;
 use crate::host::{Host, LONGEST, SPACE, Said};
 use crate::verbs::Verb;
 use flat::Association;
 use octets::{get8, part};
 use pages::page::{compare, say, say_packet, text};
 use pages::reading::{deed, line_at, rest, should};
-use std::alloc::{AllocError, Global};
 
 // The descriptor of the standard input.
 const STANDARD_INPUT: i32 = 0;
@@ -40,9 +41,9 @@ struct Side {
     association: Association,
     aside: Association,
     host: Host,
-    wire: Vec<u8>,
-    received: Vec<u8>,
-    sent: Vec<u8>,
+    wire: Bytes<LONGEST>,
+    received: [u8; SPACE],
+    sent: [u8; SPACE],
 }
 
 #[derive(Drop)]
@@ -88,16 +89,16 @@ fn sums(received: &[u8], sent: &[u8]) -> [u32; 2] {
 }
 
 impl Side {
-    fn new(alloc: Global) -> Result<Side, AllocError> {
+    fn new() -> Self {
         let association = Association::closed(0, 0);
-        Ok(Side {
+        Side {
             association,
             aside: association,
-            host: Host::new(alloc),
-            wire: Vec::new(alloc),
-            received: vec![in alloc; 0; SPACE]?,
-            sent: vec![in alloc; 0; SPACE]?,
-        })
+            host: Host::new(),
+            wire: Bytes::new(),
+            received: [0; SPACE],
+            sent: [0; SPACE],
+        }
     }
 
     // The record put aside, or the present one.
@@ -109,18 +110,15 @@ impl Side {
     }
 
     // The packet that was written is the end's last one.
-    fn settle(&mut self, said: &Said, out: &[u8]) -> Result<(), AllocError> {
+    fn settle(&mut self, said: &Said, out: &[u8]) {
         self.association = said.association;
-        if said.length == 0 {
-            return Ok(());
+        if said.length != 0 {
+            self.wire.set(part(out, 0, said.length));
         }
-        self.wire.clear();
-        self.wire
-            .extend_from_slice(part(out, 0, said.length.min(LONGEST)))
     }
 
     // An event, with the last packet of the other end.
-    fn live(&mut self, last: &[u8], line: &[u8], should: &[u8]) -> Result<(), AllocError> {
+    fn live(&mut self, last: &[u8], line: &[u8], should: &[u8]) {
         text(b": ");
         let a = self.start(line);
         let event = verbs::behind(line, Verb::From);
@@ -140,49 +138,44 @@ impl Side {
         );
         let after = sums(&self.received, &self.sent);
         tell(should, &a, &said, before != after, &out);
-        self.settle(&said, &out)
+        self.settle(&said, &out);
     }
 
     // A record is put aside, the host changes its mind, or an event happens.
-    fn turn(&mut self, other: &Side, line: &[u8]) -> Result<(), AllocError> {
+    fn turn(&mut self, other: &Side, line: &[u8]) {
         let event = rest(deed(line));
         match verbs::of(event) {
             Verb::Saves => self.aside = self.association,
-            Verb::Lends => self.host.lend(event)?,
+            Verb::Lends => self.host.lend(event),
             Verb::Judges => self.host.judge(event),
-            _ => return self.live(&other.wire, event, should(line)),
+            _ => return self.live(other.wire.as_slice(), event, should(line)),
         }
         text(b"\n");
-        Ok(())
     }
 }
 
 // A line: an event of A, one of B, or a heading.
-fn turn(both: &mut Both, line: &[u8]) -> Result<(), AllocError> {
+fn turn(both: &mut Both, line: &[u8]) {
     text(part(deed(line), 0, ECHOED));
     match get8(line, 0) {
         b'A' => both.a.turn(&both.b, line),
         b'B' => both.b.turn(&both.a, line),
-        _ => {
-            text(b"\n");
-            Ok(())
-        }
+        _ => text(b"\n"),
     }
 }
 
-fn run(alloc: Global, script: &[u8]) -> Result<(), AllocError> {
+fn run(script: &[u8]) {
     let mut both = Both {
-        a: Side::new(alloc)?,
-        b: Side::new(alloc)?,
+        a: Side::new(),
+        b: Side::new(),
     };
     for line in script.split_inclusive(|byte| *byte == b'\n').take(LINES) {
-        turn(&mut both, line_at(line, 0))?;
+        turn(&mut both, line_at(line, 0));
     }
-    Ok(())
 }
 
-fn main(rt: HostRuntime) -> Result<(), AllocError> {
+fn main() {
     let mut script = [0u8; 262144];
     let n = io::read_full(STANDARD_INPUT, &mut script);
-    run(rt.alloc(), &script[..n])
+    run(&script[..n]);
 }

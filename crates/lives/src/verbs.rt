@@ -1,4 +1,5 @@
 // The word at the head of a line.
+use crate::host::{ACKNOWLEDGE, ASSOCIATE, HAND_IN_UNORDERED, TRANSMIT};
 use pages::reading::{first, rest};
 
 #[derive(Clone, Copy, PartialEq, Eq)]
@@ -57,12 +58,14 @@ pub(crate) fn of(line: &[u8]) -> Verb {
         b"hears" => Verb::Hears,
         b"gets" => Verb::Gets,
         b"raw" => Verb::Raw,
-        b"associates" => Verb::Event(3),
+        b"associates" => Verb::Event(ASSOCIATE),
         b"hands" => Verb::Hands,
-        b"transmits" => Verb::Event(6),
+        // A message with no bytes, in no order.
+        b"." => Verb::Event(HAND_IN_UNORDERED),
+        b"transmits" => Verb::Event(TRANSMIT),
         b"takes" => Verb::Takes,
         b"takes8" => Verb::TakesEight,
-        b"acknowledges" => Verb::Event(8),
+        b"acknowledges" => Verb::Event(ACKNOWLEDGE),
         b"t1" => Verb::Event(9),
         b"t2" => Verb::Event(10),
         b"t3" => Verb::Event(11),
