@@ -6,7 +6,7 @@ ghost use Rattle.face.specs.FaceLeft.{call_told_of};
 ghost use Rattle.face.specs.FaceAcknowledging.{tsn_number, said_in, said_told, said_lists};
 ghost use Rattle.face.specs.Promises.{Acknowledges};
 
-use crate::answer::{self, Served};
+use crate::answer::{Served, unserved};
 use asks::Acknowledged;
 use chunks::sack::Sack;
 use flat::Head;
@@ -92,7 +92,7 @@ pub fn sack(
 {
     if !kept::is_named(k) {
         unsaid(starts, ends, dups);
-        return answer::unserved(k, told);
+        return unserved(k, told);
     }
     let head = kept::unpack(k);
     let answer = asks::sack(head, held, places, out);

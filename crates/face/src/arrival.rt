@@ -5,7 +5,7 @@ ghost use Rattle.face.specs.FaceLeft.{call_told_of};
 ghost use Rattle.face.specs.FaceArrival.{lent_as, made_as, landed_told, arrived_lent};
 ghost use Rattle.face.specs.Promises.{Arrives};
 
-use crate::answer::{self, Served};
+use crate::answer::{Served, unserved};
 use kept::Kept;
 use landing::Landed;
 use numbers::Tsn;
@@ -55,7 +55,7 @@ pub fn arrive(
     ensures { Arrives k packet.now (lent_as tag tsn streams options) cookie.now (echoed_of word (made_as my_tag peer_tag streams_in streams_out my_tsn peer_tsn window my_tie peer_tie agreed)) (arrived_lent held.old next_in.old places.old next_out.old kept_cookie.old area.old verdicts.old out.old) (call_told_of result.number result.kept told.new) (arrived_lent held.new next_in.new places.new next_out.new kept_cookie.new area.new verdicts.new out.new) }
 {
     if !kept::is_named(k) {
-        return answer::unserved(k, told);
+        return unserved(k, told);
     }
     let head = kept::unpack(k);
     let lent = Lent {

@@ -4,7 +4,7 @@ ghost use Rattle.kept.specs.Cause.{reason_of};
 ghost use Rattle.face.specs.FaceLeft.{call_told_of};
 ghost use Rattle.face.specs.Promises.{Sends};
 
-use crate::answer::{self, Served, tell};
+use crate::answer::{Served, tell, unserved};
 use kept::{Kept, cause};
 
 // No more messages.
@@ -18,7 +18,7 @@ pub fn shutdown(
     ensures { Sends shutting k held.now places.now out.old (call_told_of result.number result.kept told.new) out.new }
 {
     if !kept::is_named(k) {
-        return answer::unserved(k, told);
+        return unserved(k, told);
     }
     let head = kept::unpack(k);
     let answer = asks::shutdown(head, held, places, out);
@@ -38,7 +38,7 @@ pub fn abort(
     ensures { Sends (λ a. aborting a (reason_of cause tsn)) k held.now places.now out.old (call_told_of result.number result.kept told.new) out.new }
 {
     if !kept::is_named(k) {
-        return answer::unserved(k, told);
+        return unserved(k, told);
     }
     let head = kept::unpack(k);
     let why = cause::reason_of(cause, tsn);

@@ -5,7 +5,7 @@ ghost use Rattle.face.specs.FaceLeft.{call_told_of};
 ghost use Rattle.face.specs.FaceMessages.{delivered_told, delivered_lent};
 ghost use Rattle.face.specs.Promises.{Takes};
 
-use crate::answer::{self, Served};
+use crate::answer::{Served, unserved};
 use asks::Undelivered;
 use holding::taking::Message;
 use kept::{Kept, flags};
@@ -45,7 +45,7 @@ pub fn take(
     ensures { Takes k places.now area.now (delivered_lent held.old next_in.old out.old) (call_told_of result.number result.kept told.new) (delivered_lent held.new next_in.new out.new) }
 {
     if !kept::is_named(k) {
-        return answer::unserved(k, told);
+        return unserved(k, told);
     }
     let head = kept::unpack(k);
     let answer = asks::take(head, held, next_in, places, area, out);

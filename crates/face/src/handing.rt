@@ -5,7 +5,7 @@ ghost use Rattle.face.specs.FaceLeft.{call_told_of};
 ghost use Rattle.face.specs.FaceMessages.{handed_told, handed_lent};
 ghost use Rattle.face.specs.Promises.{HandsIn};
 
-use crate::answer::{self, Served};
+use crate::answer::{Served, unserved};
 use kept::{Kept, flags};
 use numbers::{Refusal, StreamId};
 
@@ -39,7 +39,7 @@ pub fn hand_in(
     ensures { HandsIn k held.now message.now stream unordered ppid (handed_lent places.old area.old) (call_told_of result.number result.kept told.new) (handed_lent places.new area.new) }
 {
     if !kept::is_named(k) {
-        return answer::unserved(k, told);
+        return unserved(k, told);
     }
     let head = kept::unpack(k);
     let answer = asks::hand_in(

@@ -4,7 +4,7 @@ ghost use Rattle.face.specs.FaceLeft.{call_told_of};
 ghost use Rattle.face.specs.FaceOpening.{tables_lent, associated_lent};
 ghost use Rattle.face.specs.Promises.{Closes, Associates};
 
-use crate::answer::{self, Served, tell};
+use crate::answer::{Served, tell, unserved};
 use flat::Head;
 use kept::Kept;
 use numbers::Tsn;
@@ -49,7 +49,7 @@ pub fn associate(
     ensures { Associates k tag tsn port streams (associated_lent (tables_lent held.old next_in.old places.old next_out.old kept_cookie.old) out.old) (call_told_of result.number result.kept told.new) (associated_lent (tables_lent held.new next_in.new places.new next_out.new kept_cookie.new) out.new) }
 {
     if !kept::is_named(k) {
-        return answer::unserved(k, told);
+        return unserved(k, told);
     }
     let head = kept::unpack(k);
     let answer = asks::associate(

@@ -3,7 +3,7 @@ ghost use Rattle.calls.specs.Telling.{telling_stream, telling_stale, beating};
 ghost use Rattle.face.specs.FaceLeft.{call_told_of};
 ghost use Rattle.face.specs.Promises.{Sends};
 
-use crate::answer::{self, Served, tell};
+use crate::answer::{Served, tell, unserved};
 use kept::Kept;
 use numbers::StreamId;
 
@@ -19,7 +19,7 @@ pub fn error_stream(
     ensures { Sends (λ a. telling_stream a (record { 0 = stream })) k held.now places.now out.old (call_told_of result.number result.kept told.new) out.new }
 {
     if !kept::is_named(k) {
-        return answer::unserved(k, told);
+        return unserved(k, told);
     }
     let head = kept::unpack(k);
     let answer = asks::error_stream(head, held, places, StreamId(stream), out);
@@ -40,7 +40,7 @@ pub fn error_stale(
     ensures { Sends (λ a. telling_stale a port tag late) k held.now places.now out.old (call_told_of result.number result.kept told.new) out.new }
 {
     if !kept::is_named(k) {
-        return answer::unserved(k, told);
+        return unserved(k, told);
     }
     let head = kept::unpack(k);
     let answer = asks::error_stale(head, held, places, port, tag, late, out);
@@ -59,7 +59,7 @@ pub fn heartbeat(
     ensures { Sends (λ a. beating a value.now) k held.now places.now out.old (call_told_of result.number result.kept told.new) out.new }
 {
     if !kept::is_named(k) {
-        return answer::unserved(k, told);
+        return unserved(k, told);
     }
     let head = kept::unpack(k);
     let bytes = *value;

@@ -3,7 +3,7 @@ ghost use Rattle.states.specs.declared.call.Call.TheVariants.{FirstTimer, Second
 ghost use Rattle.face.specs.FaceLeft.{call_told_of};
 ghost use Rattle.face.specs.Promises.{Expires, Lapses, Samples};
 
-use crate::answer::{self, Served, tell};
+use crate::answer::{Served, tell, unserved};
 use kept::Kept;
 
 // T1 expires: INIT or COOKIE ECHO again, or closed.
@@ -18,7 +18,7 @@ pub fn t1(
     ensures { Expires FirstTimer k held.now places.now kept_cookie.now out.old (call_told_of result.number result.kept told.new) out.new }
 {
     if !kept::is_named(k) {
-        return answer::unserved(k, told);
+        return unserved(k, told);
     }
     let head = kept::unpack(k);
     let answer = asks::t1(head, held, places, kept_cookie, out);
@@ -37,7 +37,7 @@ pub fn t2(
     ensures { Expires SecondTimer k held.now places.now kept_cookie.now out.old (call_told_of result.number result.kept told.new) out.new }
 {
     if !kept::is_named(k) {
-        return answer::unserved(k, told);
+        return unserved(k, told);
     }
     let head = kept::unpack(k);
     let answer = asks::t2(head, held, places, kept_cookie, out);
@@ -49,7 +49,7 @@ pub fn t3(k: Kept, held: &[u32; 512], places: &mut [u32; 1024], told: &mut [usiz
     ensures { Lapses k held.now places.old (call_told_of result.number result.kept told.new) places.new }
 {
     if !kept::is_named(k) {
-        return answer::unserved(k, told);
+        return unserved(k, told);
     }
     let head = kept::unpack(k);
     let answer = asks::t3(head, held, places);
@@ -67,7 +67,7 @@ pub fn rtt(
     ensures { Samples k held.now places.now sample (call_told_of result.number result.kept told.new) }
 {
     if !kept::is_named(k) {
-        return answer::unserved(k, told);
+        return unserved(k, told);
     }
     let head = kept::unpack(k);
     let answer = asks::rtt(head, held, places, sample);

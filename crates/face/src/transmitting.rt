@@ -5,7 +5,7 @@ ghost use Rattle.face.specs.FaceLeft.{call_told_of};
 ghost use Rattle.face.specs.FaceTransmit.{dispatched_told, dispatched_lent};
 ghost use Rattle.face.specs.Promises.{Transmits};
 
-use crate::answer::{self, Served};
+use crate::answer::{Served, unserved};
 use asks::Transmitted;
 use flat::Head;
 use kept::{Kept, flags};
@@ -41,7 +41,7 @@ pub fn transmit(
     ensures { Transmits k held.now area.now (dispatched_lent places.old next_out.old out.old) (call_told_of result.number result.kept told.new) (dispatched_lent places.new next_out.new out.new) }
 {
     if !kept::is_named(k) {
-        return answer::unserved(k, told);
+        return unserved(k, told);
     }
     let head = kept::unpack(k);
     let answer = asks::transmit(head, held, places, next_out, area, out);
