@@ -14,6 +14,7 @@ use crate::lent::Tables;
 use crate::stepped::Stepped;
 use flat::Head;
 use numbers::Refusal;
+use numbers::refusal::number_of;
 use reception::arrival::Arrived;
 use sender::Sender;
 use states::State;
@@ -104,7 +105,7 @@ pub fn hear_sack(sender: Sender, places: &mut [u32; 1024], s: &[u8]) -> Result<S
 fn sack_read(head: Head, judged: Result<(), Refusal>) -> Stepped
     ensures { result ≡ stepped_with 0 (quiet (bare head) (told_sack (answered_number judged))) }
 {
-    Stepped::quiet(head, carrying::tell_sack(judged))
+    Stepped::quiet(head, carrying::tell_sack(number_of(judged)))
 }
 
 // A SACK in ESTABLISHED.

@@ -66,7 +66,10 @@ pub fn read_shutdown(
                 Stepped::accepted(head.moved(State::ShutdownReceived), Event::NoEvent, 0)
             }
         }
-        Err(refusal) => Stepped::refused(head, refusal.number(), sack_call(refusal)),
+        Err(refusal) => {
+            let number = refusal.number();
+            Stepped::refused(head, number, sack_call(number))
+        }
     }
 }
 
@@ -87,7 +90,10 @@ fn answer_shutdown(
             head.sender = sender;
             acknowledge_shutdown(head, state, space)
         }
-        Err(refusal) => Stepped::refused(head, refusal.number(), sack_call(refusal)),
+        Err(refusal) => {
+            let number = refusal.number();
+            Stepped::refused(head, number, sack_call(number))
+        }
     }
 }
 

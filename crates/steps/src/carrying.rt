@@ -1,13 +1,12 @@
 // The chunks of an open association: DATA, SACK, HEARTBEAT and HEARTBEAT ACK.
 ghost use Rattle.std.specs.Prelude.{◌≡◌};
-ghost use Rattle.numbers.specs.Refusal.{refusal_number, answered_number};
 ghost use Rattle.steps.specs.Carrying.{data_arriving, is_kept, call_of, told_data, chunk_blocks, sack_call, told_sack};
 
 use crate::verdict::{Fate, Named, Told};
 use chunks::data::Data;
 use delivery::Verdict;
 use holding::Chunk;
-use numbers::{Blocks, Refusal, StreamId, Tsn};
+use numbers::{Blocks, StreamId, Tsn};
 
 // Not `From`: both types are other crates', of which neither rests on the other.
 #[tactic(auto, unfolding(crate::specs::Carrying::data_arriving))]
@@ -73,28 +72,25 @@ pub fn blocks_of(s: &[u8]) -> Blocks
     }
 }
 
-// The call that a refused acknowledgement names.
-pub fn sack_call(refusal: Refusal) -> Named
-    ensures { result ≡ sack_call (refusal_number refusal) }
+// The call that a refused acknowledgement names. A number, and no `Refusal`: any that is given has an answer.
+pub fn sack_call(number: u8) -> Named
+    ensures { result ≡ sack_call number }
 {
-    match refusal {
-        Refusal::False => Named::AbortViolation,
+    match number {
+        16 => Named::AbortViolation,
         _ => Named::NoCall,
     }
 }
 
-// What the host is told of an acknowledgement.
-pub fn tell_sack(judged: Result<(), Refusal>) -> Told
-    ensures { result ≡ told_sack (answered_number judged) }
+// What the host is told of an acknowledgement with this number.
+pub fn tell_sack(number: u8) -> Told
+    ensures { result ≡ told_sack number }
 {
-    match judged {
-        Ok(()) => Told {
-            fate: Fate::Accepted,
-            named: Named::NoCall,
+    Told {
+        fate: match number {
+            0 => Fate::Accepted,
+            _ => Fate::Refused(number),
         },
-        Err(refusal) => Told {
-            fate: Fate::Refused(refusal.number()),
-            named: sack_call(refusal),
-        },
+        named: sack_call(number),
     }
 }

@@ -26,4 +26,4 @@ returns-else-is_empty c = let e = c.in-Ok.ensures in let l : is_last (answer_wit
 
 pub returns-in-Err : goal.returns-in-Err
 unfolding read_shutdown_by
-returns-in-Err c = let e = c.in-Err.ensures in let n = ne_eqb (refusal_number c.in-Err.refusal) 0 (refusal-never-none c.in-Err.refusal) in let l : is_last (answer_with (acked_of c.args.head.sender (Err c.in-Err.refusal)) c.hear_shutdown.new.places []) ≡ false = rw n in rw (← e.0, ← e.1, l, n) (let t = row-quiet-told c.args.space.now (refused (bare c.args.head) (refusal_number c.in-Err.refusal) (sack_call (refusal_number c.in-Err.refusal))) refl (rw (c.number.ensures, c.sack_call.ensures) at c.refused.ensures) in (t.0, refl, t.1))
+returns-in-Err c = let e = c.in-Err.ensures in let n = ne_eqb (refusal_number c.in-Err.refusal) 0 (refusal-never-none c.in-Err.refusal) in let l : is_last (answer_with (acked_of c.args.head.sender (Err c.in-Err.refusal)) c.hear_shutdown.new.places []) ≡ false = rw n in rw (← e.0, ← e.1, l, n) (let t = row-quiet-told c.args.space.now (refused (bare c.args.head) (refusal_number c.in-Err.refusal) (sack_call (refusal_number c.in-Err.refusal))) refl (rw (c.sack_call.ensures, c.number-number.ensures) at c.refused.ensures) in (t.0, refl, t.1))
