@@ -2,8 +2,7 @@
 use Rattle.std.specs.Prelude.{ℕ, List, [], ◌∷◌}
 use Rattle.steps.specs.declared.lent.Lent.{Lent}
 use Rattle.steps.specs.declared.lent.Made.{Made}
-use Rattle.landing.specs.declared.arrival.Landed.{Landed}
-use Rattle.landing.specs.Landing.{After}
+use Rattle.landing.specs.Landing.{Landing, After}
 use Rattle.kept.specs.declared.head.Kept.{Kept}
 use Rattle.kept.specs.Kept.{packed}
 use Rattle.face.specs.FaceLeft.{CallTold, call_told_of, CallLeft, left_with, served}
@@ -26,7 +25,7 @@ made_as ours theirs ins outs first second window tie tied agreed = record {
   options = agreed;
 }
 
-abbrev pub landed_told : Landed → CallTold
+abbrev pub landed_told : Landing → CallTold
 landed_told r = call_told_of r.number (packed r.head) (r.count ∷ r.length ∷ [])
 
 pub record ArrivedLent : Type 0 where

@@ -1,24 +1,31 @@
 // A packet arrives.
 ghost use Rattle.std.specs.Prelude.{◌≡◌};
 ghost use Rattle.kept.specs.Word.{echoed_of};
+ghost use Rattle.landing.specs.Landing.{landing_of};
 ghost use Rattle.face.specs.FaceLeft.{call_told_of};
 ghost use Rattle.face.specs.FaceArrival.{lent_as, made_as, landed_told, arrived_lent};
 ghost use Rattle.face.specs.Promises.{Arrives};
 
 use crate::answer::{Served, unserved};
+use flat::Head;
 use kept::Kept;
 use landing::Landed;
-use numbers::Tsn;
+use numbers::{Refusal, Tsn};
 use steps::{Lent, Made};
 
 // Told: how many verdicts there are, and the length of the reply.
-fn judged(r: Landed, told: &mut [usize; 2]) -> Served
-    ensures { call_told_of result.number result.kept told.new ≡ landed_told r }
+fn judged(head: Head, answer: Result<Landed, Refusal>, told: &mut [usize; 2]) -> Served
+    ensures { call_told_of result.number result.kept told.new ≡ landed_told (landing_of head answer) }
 {
-    *told = [r.count, r.length];
-    Served {
-        number: u32::from(r.number),
-        kept: kept::pack(r.head),
+    match answer {
+        Ok(landed) => {
+            *told = [landed.count, landed.length];
+            Served::done(kept::pack(landed.head))
+        }
+        Err(refusal) => {
+            *told = [0; 2];
+            Served::refused(kept::pack(head), refusal)
+        }
     }
 }
 
@@ -77,7 +84,7 @@ pub fn arrive(
         options: agreed,
     };
     let echoed = kept::word::echoed_of(word, made);
-    let landed = landing::arrive(
+    let answer = landing::arrive(
         head,
         held,
         next_in,
@@ -92,5 +99,5 @@ pub fn arrive(
         echoed,
         out,
     );
-    judged(landed, told)
+    judged(head, answer, told)
 }

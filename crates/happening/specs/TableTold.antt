@@ -7,7 +7,7 @@ use Rattle.calls.specs.declared.answer.Answer as whole
 use Rattle.calls.specs.Messages.{no_message}
 use Rattle.calls.specs.Acknowledging.{no_sack}
 use Rattle.messages.specs.MessageWords.{Handing}
-use Rattle.landing.specs.declared.arrival.Landed.{Landed}
+use Rattle.landing.specs.Landing.{Landing}
 use Rattle.asks.specs.TableAnswer.{Reply}
 use Rattle.asks.specs.TableAcknowledging.{SackReply}
 use Rattle.asks.specs.TableMessages.{MessageReply}
@@ -48,5 +48,5 @@ told_of_sack r = of_sack r.number r.length r.sack
 abbrev pub told_of_delivered : MessageReply → Told
 told_of_delivered r = telling_count r.number r.message.length false no_data_went no_sack r.message 0
 
-abbrev pub of_landed : Landed → Told
+abbrev pub of_landed : Landing → Told
 of_landed r = telling_count r.number r.length false no_data_went no_sack (no_message 0) r.count

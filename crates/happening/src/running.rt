@@ -253,7 +253,7 @@ fn packet(
 ) -> Ran
     ensures { (sent : List ℕ) → left_of result received.new sent verdicts.new out.new ≡ lands (landed input.now from cookie.now echoed a.head a.held a.next_in a.places a.next_out a.cookie received.old verdicts.old out.old) (lent_table_buffers received.old sent verdicts.old input.now cookie.now out.old) }
 {
-    let landed = landing::arrive(
+    let answer = landing::arrive(
         a.head,
         &mut a.held,
         &mut a.next_in,
@@ -268,9 +268,15 @@ fn packet(
         echoed,
         out,
     );
-    Ran {
-        told: told::of_landed(landed),
-        association: with_head(a, landed.head),
+    match answer {
+        Ok(landed) => Ran {
+            told: told::of_landed(landed),
+            association: with_head(a, landed.head),
+        },
+        Err(refusal) => Ran {
+            told: told::refused(refusal),
+            association: a,
+        },
     }
 }
 

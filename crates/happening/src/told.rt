@@ -7,6 +7,7 @@ ghost use Rattle.asks.specs.TableMessages.{message_reply_of};
 ghost use Rattle.asks.specs.TableTransmit.{packet_reply_of};
 ghost use Rattle.asks.specs.TableAcknowledging.{sack_reply_of};
 ghost use Rattle.numbers.specs.Refusal.{refusal_number};
+ghost use Rattle.landing.specs.Landing.{landing_done};
 ghost use Rattle.happening.specs.TableTold.{told_plainly, of_handed, told_of_transmitted, told_of_sack, told_of_delivered, of_landed};
 
 use asks::{Acknowledged, Transmitted, Undelivered};
@@ -121,9 +122,9 @@ pub(crate) fn of_delivered(answer: Result<Message, Undelivered>) -> Told
 }
 
 pub(crate) fn of_landed(r: Landed) -> Told
-    ensures { result ≡ of_landed r }
+    ensures { result ≡ of_landed (landing_done r) }
 {
-    let mut told = plain(r.number, r.length, false);
+    let mut told = plain(0, r.length, false);
     told.count = r.count;
     told
 }

@@ -1,6 +1,8 @@
 -- A packet arrives, over a head and lent tables: "Order: 1, 18, 2, 3, 4, 5, 6 for the packet; then chunk by chunk". The rules are those of `arriving`.
-use Rattle.std.specs.Prelude.{ℕ, true, List, eqb, take, replicate}
+use Rattle.std.specs.Prelude.{ℕ, true, List, Result, Ok, Err, eqb, take, replicate}
 use Rattle.scans.specs.Scan.{pick}
+use Rattle.numbers.specs.declared.refusal.Refusal.{Refusal}
+use Rattle.numbers.specs.Refusal.{refusal_number}
 use Rattle.numbers.specs.Profile.{chunk_room, rail}
 use Rattle.packets.specs.Header.{header_of}
 use Rattle.steps.specs.declared.lent.Lent.{Lent}
@@ -13,9 +15,16 @@ use Rattle.rows.specs.Lending.{Standing}
 use Rattle.landing.specs.declared.arrival.Landed.{Landed}
 use Rattle.landing.specs.TableWalk.{TableTurn, table_turn_of, bare_walked, head_walk_begun, table_walked_over}
 
--- the result and all that is lent: held chunks, next expected SSNs, places to send, next SSNs, the bytes of the cookie, the area, the verdicts, the output
+-- what a packet is told: its number, 0 if it was let in; then how many of its chunks have a verdict, the length of the reply, and the head
+pub record Landing : Type 0 where
+  pub number : ℕ
+  pub count : ℕ
+  pub length : ℕ
+  pub head : Head
+
+-- that, and all that is lent: held chunks, next expected SSNs, places to send, next SSNs, the bytes of the cookie, the area, the verdicts, the output
 pub record After : Type 0 where
-  pub landed : Landed
+  pub landed : Landing
   pub held : List ℕ
   pub next : List ℕ
   pub places : List ℕ
@@ -25,7 +34,7 @@ pub record After : Type 0 where
   pub verdicts : List ℕ
   pub out : List ℕ
 
-abbrev pub after_of : Landed → List ℕ → List ℕ → List ℕ → List ℕ → List ℕ → List ℕ → List ℕ → List ℕ → After
+abbrev pub after_of : Landing → List ℕ → List ℕ → List ℕ → List ℕ → List ℕ → List ℕ → List ℕ → List ℕ → After
 after_of r held next places next_out kept area verdicts out = record {
   landed = r;
   held = held;
@@ -39,15 +48,23 @@ after_of r held next places next_out kept area verdicts out = record {
 }
 
 -- the same, with what stands in the lent tables
-abbrev pub after_over : Landed → Standing → List ℕ → List ℕ → After
+abbrev pub after_over : Landing → Standing → List ℕ → List ℕ → After
 after_over r t verdicts out = after_of r t.held t.next t.places t.next_out t.kept t.area verdicts out
 
 -- "the whole packet" is refused
-abbrev pub landing_refused_as : Head → ℕ → Landed
+abbrev pub landing_refused_as : Head → ℕ → Landing
 landing_refused_as h n = record { number = n; count = 0; length = 0; head = h }
 
+-- what is told of a result; where the packet is refused, the head stays as it was
+abbrev pub landing_done : Landed → Landing
+landing_done r = record { number = 0; count = r.count; length = r.length; head = r.head }
+
+abbrev pub landing_of : Head → Result Landed Refusal → Landing
+landing_of h (Ok r) = landing_done r
+landing_of h (Err r) = landing_refused_as h (refusal_number r)
+
 -- a packet that is let in, with a reply of n bytes
-abbrev pub landed_accepted : TableTurn → ℕ → Landed
+abbrev pub landed_accepted : TableTurn → ℕ → Landing
 landed_accepted t n = record { number = 0; count = t.walk.count; length = n; head = t.walk.head }
 
 -- the replies gathered, at the head of their space

@@ -1,8 +1,10 @@
--- Which number a packet gets, and what it then leaves. Assumes nothing.
-use Rattle.std.specs.Prelude.{ℕ, ◌≡◌, Bool, List, length, take}
+-- Which number a packet gets, and what it then leaves; and two results that read alike are one. Assumes nothing.
+use Rattle.std.specs.Prelude.{ℕ, ◌≡◌, Bool, List, Result, Ok, Err, length, take}
 use Rattle.std.proofs.Math.Path.{refl, ap}
 use Rattle.std.proofs.Common.{sym, ◌∙◌, eq-eqb, ne_eqb}
 use Rattle.scans.specs.Scan.{pick}
+use Rattle.numbers.specs.declared.refusal.Refusal.{Refusal}
+use Rattle.numbers.specs.RefusalLaws.{refusals-apart, refusal-never-none}
 use Rattle.steps.specs.declared.lent.Lent.{Lent}
 use Rattle.steps.specs.declared.lent.Echoed.{Echoed}
 use Rattle.steps.specs.Lent.{heeded}
@@ -15,7 +17,13 @@ use Rattle.rows.specs.Lending.{Standing}
 use Rattle.landing.specs.declared.arrival.Landed.{Landed}
 use Rattle.landing.specs.declared.walk.Walk.{Walk}
 use Rattle.landing.specs.TableWalk.{TableTurn, turn_over, bare_walked}
-use Rattle.landing.specs.Landing.{After, after_of, after_over, landing_refused_as, packet_walked_over, let_in, landed}
+use Rattle.landing.specs.Landing.{Landing, After, after_of, after_over, landing_of, landing_refused_as, packet_walked_over, let_in, landed}
+
+pub landings-apart : (h : Head) (r q : Result Landed Refusal) → landing_of h r ≡ landing_of h q → r ≡ q
+landings-apart h (Ok a) (Ok b) e = ap (λ (x : Landing). Ok (record { count = x.count; length = x.length; head = x.head })) e
+landings-apart h (Ok a) (Err b) e = absurd (refusal-never-none b (sym (ap (λ (x : Landing). x.number) e)))
+landings-apart h (Err a) (Ok b) e = absurd (refusal-never-none a (ap (λ (x : Landing). x.number) e))
+landings-apart h (Err a) (Err b) e = ap Err (refusals-apart a b (ap (λ (x : Landing). x.number) e))
 
 -- the walk, then the answer
 pub landed-in-done : (w : Walk) (t : Standing) (verdicts scratch packet out : List ℕ) {u : TableTurn} → turn_over w t verdicts scratch ≡ u
@@ -47,13 +55,13 @@ module _ (packet : List ℕ) (lent : Lent) (cookie : List ℕ) (e : Echoed) (h :
   unfolding packet_number head_number
   packet-bare w = refl
 
-  refused-by : {n : ℕ} → n ≡ number → (n ≡ 0 → ⊥) → {r : Landed} → r ≡ landing_refused_as h n → Leaves (after_of r held next places next_out kept area verdicts out)
+  refused-by : {n : ℕ} → n ≡ number → (n ≡ 0 → ⊥) → {r : Landing} → r ≡ landing_refused_as h n → Leaves (after_of r held next places next_out kept area verdicts out)
   unfolding landed
   refused-by {n} k z {r} p =
       (λ i. after_of ((p ∙ ap (λ (m : ℕ). landing_refused_as h m) k) i) held next places next_out kept area verdicts out) ∙ ap choice (sym (ne_eqb number 0 (λ q. z (k ∙ q))))
 
   module _ {n : ℕ} (k : (ns ms cs : List ℕ) → n ≡ lent_number (shown h held ns places ms cs) (length area) (length out)) where
-    pub landed-refused-lent : (n ≡ 0 → ⊥) → {r : Landed} → r ≡ landing_refused_as h n → Leaves (after_of r held next places next_out kept area verdicts out)
+    pub landed-refused-lent : (n ≡ 0 → ⊥) → {r : Landing} → r ≡ landing_refused_as h n → Leaves (after_of r held next places next_out kept area verdicts out)
     unfolding arrival_number
     landed-refused-lent z p =
         let l : n ≡ first = k next next_out kept in
@@ -66,7 +74,7 @@ module _ (packet : List ℕ) (lent : Lent) (cookie : List ℕ) (e : Echoed) (h :
           q ∙ ap (λ (x : Echoed). packet_number (bare h) packet x) w ∙ packet-bare (heeded h.state h.ends e)
           ∙ ap (λ (t : Bool). pick t (packet_number all packet (heeded h.state h.ends e)) first) (sym (eq-eqb first 0 (sym (k next next_out kept) ∙ z)))
 
-      pub landed-refused : (m ≡ 0 → ⊥) → {r : Landed} → r ≡ landing_refused_as h m → Leaves (after_of r held next places next_out kept area verdicts out)
+      pub landed-refused : (m ≡ 0 → ⊥) → {r : Landing} → r ≡ landing_refused_as h m → Leaves (after_of r held next places next_out kept area verdicts out)
       landed-refused = refused-by is-packet
 
       pub landed-let-in : m ≡ 0 → {x : After} → x ≡ let_in (packet_walked_over packet lent cookie word h held next places next_out kept area verdicts) packet out → Leaves x

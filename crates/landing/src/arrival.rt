@@ -1,11 +1,11 @@
 // A packet arrives.
 ghost use Rattle.std.specs.Prelude.{◌≡◌, List, ℕ, ◌≤◌, length, take};
-ghost use Rattle.numbers.specs.Refusal.{refusal_number, answered_number};
+ghost use Rattle.numbers.specs.Refusal.{answered_number};
 ghost use Rattle.flat.specs.Shown.{bare, shown};
 ghost use Rattle.arriving.specs.Arrival.{lent_number, packet_number, answered_length, answered_out};
 ghost use Rattle.rows.specs.Lending.{standing, AreSame};
 ghost use Rattle.landing.specs.TableWalk.{bare_walked};
-ghost use Rattle.landing.specs.Landing.{after_of, after_over, landing_refused_as, packet_walked_from, let_in, landed};
+ghost use Rattle.landing.specs.Landing.{after_of, after_over, landing_done, landing_of, packet_walked_from, let_in, landed};
 
 use crate::verdict::WORDS;
 use crate::walk::Walk;
@@ -17,10 +17,9 @@ use numbers::{Rail, Refusal};
 use rows::Tables;
 use steps::{Beside, Echoed, Lent};
 
-// The number of the packet, 0 if it was let in; then how many of its chunks have a verdict, the length of the reply, and the head.
+// How many of the chunks have a verdict, the length of the reply, and the head.
 #[derive(Clone, Copy)]
 pub struct Landed {
-    pub number: u8,
     pub count: usize,
     pub length: usize,
     pub head: Head,
@@ -30,17 +29,6 @@ pub struct Landed {
 const AREA: usize = Rail::AREA;
 
 const OUTPUT: usize = Rail::LONGEST_PACKET;
-
-fn refused(head: Head, refusal: Refusal) -> Landed
-    ensures { result ≡ landing_refused_as head (refusal_number refusal) }
-{
-    Landed {
-        number: refusal.number(),
-        count: 0,
-        length: 0,
-        head,
-    }
-}
 
 // 1 or 18, whatever the next SSNs and the bytes of the cookie.
 fn check_lent(
@@ -98,7 +86,7 @@ fn let_in(
     out: &mut [u8],
 ) -> Landed
     ensures same { AreSame tables.old tables.new }
-    ensures left { after_over result (standing tables.new) verdicts.new out.new
+    ensures left { after_over (landing_done result) (standing tables.new) verdicts.new out.new
         ≡ let_in (packet_walked_from packet.now lent cookie.now echoed head (standing tables.old) verdicts.old) packet.now out.old }
 {
     let b = Beside {
@@ -110,15 +98,14 @@ fn let_in(
     let mut scratch = [0u8; ROOM];
     let w = walk::walk_over(head, tables, verdicts, b, cookie, packet, &mut scratch);
     Landed {
-        number: 0,
         count: w.count,
         length: answer(w, packet, &mut scratch, out),
         head: w.head,
     }
 }
 
-// A packet: 1, 18, 2, 3, 4, 5, 6 for the whole, which then leaves all that is lent; else each chunk with its own verdict. The words of the verdicts
-// behind the last one stay. The first `length` bytes of `out` are the reply.
+// A packet: 1, 18, 2, 3, 4, 5, 6 for the whole, which then leaves the head and all that is lent; else each chunk with its own verdict. The words of the
+// verdicts behind the last one stay. The first `length` bytes of `out` are the reply.
 pub fn arrive(
     head: Head,
     held: &mut [u32; 512],
@@ -133,18 +120,14 @@ pub fn arrive(
     cookie: &[u8],
     echoed: Echoed,
     out: &mut [u8],
-) -> Landed
-    ensures { after_of result held.new next_in.new places.new next_out.new kept.new area.new verdicts.new out.new
+) -> Result<Landed, Refusal>
+    ensures { after_of (landing_of head result) held.new next_in.new places.new next_out.new kept.new area.new verdicts.new out.new
         ≡ landed packet.now lent cookie.now echoed head held.old next_in.old places.old next_out.old kept.old area.old verdicts.old out.old }
 {
-    if let Err(refusal) = check_lent(head, held, places, area.len(), out.len()) {
-        return refused(head, refusal);
-    }
+    check_lent(head, held, places, area.len(), out.len())?;
     // The host's word on an echo, as it counts for this record.
     let word = echoed.heeded(head.state, head.ends);
-    if let Err(refusal) = check(head, packet, word) {
-        return refused(head, refusal);
-    }
+    check(head, packet, word)?;
     let mut tables = Tables {
         held,
         next_in,
@@ -153,5 +136,5 @@ pub fn arrive(
         kept,
         area,
     };
-    let_in(head, &mut tables, verdicts, packet, lent, cookie, word, out)
+    Ok(let_in(head, &mut tables, verdicts, packet, lent, cookie, word, out))
 }
