@@ -6,32 +6,40 @@ use Rattle.std.proofs.lemmas.List.{length-replicate}
 use Rattle.scans.specs.Upto.{pick-keeps}
 use Rattle.numbers.specs.Numbering.{circles}
 use Rattle.numbers.specs.Profile.{rail}
+use Rattle.octets.specs.Bytes.{u8}
 use Rattle.octets.specs.Writing.{wrote_bytes, Wrote, both_fitting}
 use Rattle.octets.specs.BytesLaws.{length-laid}
 use Rattle.octets.specs.WritingLaws.{holds-first, wrote-long, wrote-short, wrote-all, wrote_none, wrote-within}
 use Rattle.chunks.specs.declared.init.Init.{Init}
+use Rattle.chunks.specs.declared.kind.Kind.{Kind}
+use Rattle.chunks.specs.declared.kind.Handling.{Handling}
 use Rattle.chunks.specs.CookieChunk.{cookie_echo_bytes}
+use Rattle.chunks.specs.Kind.{kind_of}
 use Rattle.chunks.specs.ShutdownChunk.{point_of}
 use Rattle.parameters.specs.Report.{error_parameters_bytes}
 use Rattle.reception.specs.ReceptionLaws.{after-long}
 use Rattle.acks.specs.AcksLaws.{acked-long, shut-long}
 use Rattle.states.specs.declared.rows.Row.{Row}
 use Rattle.states.specs.declared.rows.Row.TheVariants.{Refused, ReadData, ReadLateData, AnswerInit, TakeInitAck, ReadSack, ReadSackPending, ReadSackReceived, EchoHeartbeat, ClearTries, BecomeClosed, ReadShutdown, CrossShutdown, RepeatShutdownAck, RepeatAck, ReflectComplete, SendComplete, PassError, ReadError, ReadEcho, BecomeEstablished, BecomeComplete, PassUnknown, TellUnknown}
+use Rattle.states.specs.Rows.{row_of}
 use Rattle.steps.specs.declared.chunk.Beside.{Beside}
+use Rattle.steps.specs.declared.lent.Echoed.{Echoed}
 use Rattle.steps.specs.declared.verdict.Event.{Event}
 use Rattle.steps.specs.declared.verdict.Event.TheVariants.{NoEvent}
 use Rattle.steps.specs.Verdict.{Step, accepted, answering}
+use Rattle.steps.specs.VerdictLaws.{pass-quiet}
 use Rattle.steps.specs.Opening.{kept_cookie, echoing, echoed_back}
+use Rattle.steps.specs.Unknown.{pass_unknown, tell_unknown}
 use Rattle.association.specs.Fresh.{with_receiving, with_sending}
 use Rattle.steps.specs.Carrying.{is_kept, data_read, shutdown_owed, sack_read, is_last}
-use Rattle.steps.specs.Steps.{row_met}
+use Rattle.steps.specs.Steps.{met_by, row_met}
 use Rattle.flat.specs.declared.head.Head.{Head}
 use Rattle.association.specs.declared.ends.Association.{Association}
 use Rattle.flat.specs.Shown.{cookie_shown, bare, association_head}
 use Rattle.rows.specs.declared.stepped.Stepped.{Stepped}
 use Rattle.rows.specs.Stepped.{stepped_with, stepped_in}
 use Rattle.rows.specs.Lending.{Standing, standing_of, rowed_with, rowed_over}
-use Rattle.rows.specs.TableRows.{held_heard, held_by, arrival_by, read_data_by, read_late_data_by, sack_to_sender, places_sacked, sack_answer, read_sack_by, read_sack_pending_by, places_shut, is_taken, is_starting, cleared_if, kept_if, RowLeft, row_left, reply_by, Rowed, rowed_by, rowed}
+use Rattle.rows.specs.TableRows.{held_heard, held_by, area_by, arrival_by, read_data_by, read_late_data_by, sack_to_sender, places_sacked, sack_answer, read_sack_by, read_sack_pending_by, places_shut, is_taken, is_starting, cleared_if, kept_if, RowLeft, head_left, data_left, places_left, ack_left, echo_left, row_left, reply_by, Rowed, rowed_of, rowed_by, rowed}
 
 -- what a function on a chunk promises: what was done of the step, and its reply in the output
 abbrev pub RowTold : List ℕ → Step → Stepped → List ℕ → Type 0
@@ -87,6 +95,60 @@ module _ (h : Head) where
 
 -- ---- one chunk
 
+module _ (h : Head) (held next places next_out kept area space s : List ℕ) where
+  -- what a row leaves, by its parts
+  pub head-rowed : (d : Step) {r : Stepped} {exit : List ℕ} → RowTold space d r exit
+      → rowed_of r held next places next_out kept area exit ≡ rowed_by space (head_left h held next places next_out kept area s d)
+  head-rowed d t = λ i. rowed_of (t.0 i) held next places next_out kept area (t.1 i)
+
+  pub quiet-rowed : (d : Step) → d.reply ≡ [] → {r : Stepped} → r ≡ stepped_with 0 d
+      → rowed_of r held next places next_out kept area space ≡ rowed_by space (head_left h held next places next_out kept area s d)
+  quiet-rowed d q e = head-rowed d (row-quiet-told space d q e)
+
+  pub data-rowed : (d : Step) → d.reply ≡ [] → {r : Stepped} {ws area' : List ℕ} → (r ≡ stepped_with 0 d) × (ws ≡ held_by h held next s) × (area' ≡ area_by h held next area s)
+      → rowed_of r ws next places next_out kept area' space ≡ rowed_by space (data_left h held next places next_out kept area s d)
+  data-rowed d q t =
+      let w : RowTold space d _ space = row-quiet-told space d q t.0 in
+      λ i. rowed_of (w.0 i) (t.1 i) next places next_out kept (t.2 i) (w.1 i)
+
+  pub places-rowed : (d : Step) {r : Stepped} {ws after exit : List ℕ} → (r ≡ stepped_in space d) × (ws ≡ after) × (exit ≡ wrote_bytes space d.reply)
+      → rowed_of r held next ws next_out kept area exit ≡ rowed_by space (places_left h held next places next_out kept area s after d)
+  places-rowed d t = λ i. rowed_of (t.0 i) held next (t.1 i) next_out kept area (t.2 i)
+
+  pub quiet-places : (d : Step) → d.reply ≡ [] → {r : Stepped} {ws after : List ℕ} → (r ≡ stepped_with 0 d) × (ws ≡ after)
+      → rowed_of r held next ws next_out kept area space ≡ rowed_by space (places_left h held next places next_out kept area s after d)
+  quiet-places d q t =
+      let w : RowTold space d _ space = row-quiet-told space d q t.0 in
+      places-rowed d (w.0, t.1, w.1)
+
+  pub ack-rowed : (d : Step) {r : Stepped} {ws ns bytes exit : List ℕ}
+      → (r ≡ stepped_in space d) × (ws ≡ cleared_if (is_taken s) 512 held) × (ns ≡ cleared_if (is_taken s) 128 next) × (bytes ≡ kept_if (is_taken s) s kept) × (exit ≡ wrote_bytes space d.reply)
+      → rowed_of r ws ns places next_out bytes area exit ≡ rowed_by space (ack_left h held next places next_out kept area s d)
+  ack-rowed d t = λ i. rowed_of (t.0 i) (t.1 i) (t.2 i) places next_out (t.3 i) area (t.4 i)
+
+  pub echo-rowed : (e : Echoed) (d : Step) {r : Stepped} {ws ns ps ms bytes exit : List ℕ}
+      → (r ≡ stepped_in space d) × (ws ≡ cleared_if (is_starting h.state h.ends e s) 512 held) × (ns ≡ cleared_if (is_starting h.state h.ends e s) 128 next) × (ps ≡ cleared_if (is_starting h.state h.ends e s) 1024 places) × (ms ≡ cleared_if (is_starting h.state h.ends e s) 128 next_out) × (bytes ≡ cleared_if (is_starting h.state h.ends e s) 256 kept) × (exit ≡ wrote_bytes space d.reply)
+      → rowed_of r ws ns ps ms bytes area exit ≡ rowed_by space (echo_left h held next places next_out kept area s e d)
+  echo-rowed e d t = λ i. rowed_of (t.0 i) (t.1 i) (t.2 i) (t.3 i) (t.4 i) (t.5 i) area (t.6 i)
+
+  -- the row that the chunk meets
+  module _ (b : Beside) (cookie : List ℕ) {k : Kind} (kind : k ≡ kind_of (u8 s 0)) {x : Row} (row : x ≡ row_of k (met_by (bare h) b) h.state) where
+    pub rowed-by : {y : Row} → x ≡ y → {t : Rowed} → t ≡ rowed_by space (row_left h held next places next_out kept area s (length space) b cookie y)
+        → t ≡ rowed b cookie s h held next places next_out kept area space
+    unfolding rowed
+    rowed-by e p =
+        p
+        ∙ ap (λ (y : Row). rowed_by space (row_left h held next places next_out kept area s (length space) b cookie y))
+        (sym e ∙ row ∙ ap (λ (j : Kind). row_of j (met_by (bare h) b) h.state) kind)
+
+    pub pass-rowed : {j : Handling} → x ≡ PassUnknown j → {r : Stepped} → r ≡ stepped_with 0 (pass_unknown (bare h) j)
+        → rowed_of r held next places next_out kept area space ≡ rowed b cookie s h held next places next_out kept area space
+    pass-rowed {j} e p = rowed-by e (quiet-rowed (pass_unknown (bare h) j) (pass-quiet (bare h) j) p)
+
+    pub tell-rowed : {j : Handling} → x ≡ TellUnknown j → {r : Stepped} {exit : List ℕ} → RowTold space (tell_unknown (bare h) j s) r exit
+        → rowed_of r held next places next_out kept area exit ≡ rowed b cookie s h held next places next_out kept area space
+    tell-rowed {j} e p = rowed-by e (head-rowed (tell_unknown (bare h) j s) p)
+
 -- what then stands in the tables
 abbrev pub standing_left : RowLeft → Standing
 standing_left l = standing_of l.held l.next l.places l.next_out l.kept l.area
@@ -107,8 +169,8 @@ module _ (h : Head) (t : Standing) (space s : List ℕ) (b : Beside) (cookie : L
       ∙ ap (λ (z : Row). rowed_by space (row_left h t.held t.next t.places t.next_out t.kept t.area s (length space) b cookie z)) (sym e ∙ met)
 
   -- with nothing in the reply
-  pub quiet-rowed : {r : Stepped} {u : Standing} → left.step.reply ≡ [] → (r ≡ stepped_with 0 left.step) × (u ≡ standing_left left) → rowed_with r u space ≡ rowed_over b cookie s h t space
-  quiet-rowed q p =
+  pub quiet-row-rowed : {r : Stepped} {u : Standing} → left.step.reply ≡ [] → (r ≡ stepped_with 0 left.step) × (u ≡ standing_left left) → rowed_with r u space ≡ rowed_over b cookie s h t space
+  quiet-row-rowed q p =
       let k : RowTold space left.step _ space = row-quiet-told space left.step q p.0 in
       row-rowed (k.0, p.1, k.1)
 
