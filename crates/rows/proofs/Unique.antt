@@ -52,14 +52,14 @@ quiet-unique κs a r q s t x y = x ∙ sym y
 pub ending-unique : (κs : _) (a : _) (r q : _) (s t : _) → ending-reads.Post κs a r s → ending-reads.Post κs a q t → r ≡ q
 ending-unique κs a r q s t x y = x ∙ sym y
 
-pub hear-data-unique : (κs : _) (a : _) (r q : _) (s t : _) → hear-data-reads.Post κs a r s → hear-data-reads.Post κs a q t → (r ≡ q) × (standing s.1.0.now ≡ standing t.1.0.now)
-hear-data-unique κs a r q s t x y = (x.1.0 ∙ sym y.1.0, x.1.1 ∙ sym y.1.1)
+pub hear-data-unique : (κs : _) (a : _) (r q : _) (s t : _) → hear-data-reads.Post κs a r s → hear-data-reads.Post κs a q t → (r ≡ q) × (s.1.1.0.now ≡ t.1.1.0.now) × (s.1.1.1.1.0.now ≡ t.1.1.1.1.0.now)
+hear-data-unique κs a r q s t x y = (x.0 ∙ sym y.0, x.1 ∙ sym y.1, x.2 ∙ sym y.2)
 
-pub read-data-unique : (κs : _) (a : _) (r q : _) (s t : _) → read-data-reads.Post κs a r s → read-data-reads.Post κs a q t → (r ≡ q) × (standing s.1.0.now ≡ standing t.1.0.now)
-read-data-unique κs a r q s t x y = (x.1.0 ∙ sym y.1.0, x.1.1 ∙ sym y.1.1)
+pub read-data-unique : (κs : _) (a : _) (r q : _) (s t : _) → read-data-reads.Post κs a r s → read-data-reads.Post κs a q t → (r ≡ q) × (s.1.0.now ≡ t.1.0.now) × (s.1.1.1.0.now ≡ t.1.1.1.0.now)
+read-data-unique κs a r q s t x y = (x.0 ∙ sym y.0, x.1 ∙ sym y.1, x.2 ∙ sym y.2)
 
-pub read-late-data-unique : (κs : _) (a : _) (r q : _) (s t : _) → read-late-data-reads.Post κs a r s → read-late-data-reads.Post κs a q t → (r ≡ q) × (standing s.1.0.now ≡ standing t.1.0.now)
-read-late-data-unique κs a r q s t x y = (x.1.0 ∙ sym y.1.0, x.1.1 ∙ sym y.1.1)
+pub read-late-data-unique : (κs : _) (a : _) (r q : _) (s t : _) → read-late-data-reads.Post κs a r s → read-late-data-reads.Post κs a q t → (r ≡ q) × (s.1.0.now ≡ t.1.0.now) × (s.1.1.1.0.now ≡ t.1.1.1.0.now)
+read-late-data-unique κs a r q s t x y = (x.0 ∙ sym y.0, x.1 ∙ sym y.1, x.2 ∙ sym y.2)
 
 pub hear-sack-unique : (κs : _) (a : _) (r q : _) (s t : _) → hear-sack-reads.Post κs a r s → hear-sack-reads.Post κs a q t → (r ≡ q) × (s.1.0.now ≡ t.1.0.now)
 hear-sack-unique κs a r q s t x y = (acked-apart a.0 r q (x.0 ∙ sym y.0), x.1 ∙ sym y.1)
@@ -109,11 +109,11 @@ answer-init-unique κs a r q s t x y = (x.0 ∙ sym y.0, x.1 ∙ sym y.1)
 pub repeat-ack-unique : (κs : _) (a : _) (r q : _) (s t : _) → repeat-ack-reads.Post κs a r s → repeat-ack-reads.Post κs a q t → (r ≡ q) × (s.1.1.0.now ≡ t.1.1.0.now)
 repeat-ack-unique κs a r q s t x y = (x.0 ∙ sym y.0, x.1 ∙ sym y.1)
 
-pub take-init-ack-unique : (κs : _) (a : _) (r q : _) (s t : _) → take-init-ack-reads.Post κs a r s → take-init-ack-reads.Post κs a q t → (r ≡ q) × (standing s.1.0.now ≡ standing t.1.0.now) × (s.1.1.1.0.now ≡ t.1.1.1.0.now)
-take-init-ack-unique κs a r q s t x y = (x.1.0 ∙ sym y.1.0, x.1.1 ∙ sym y.1.1, x.1.2 ∙ sym y.1.2)
+pub take-init-ack-unique : (κs : _) (a : _) (r q : _) (s t : _) → take-init-ack-reads.Post κs a r s → take-init-ack-reads.Post κs a q t → (r ≡ q) × (s.1.0.now ≡ t.1.0.now) × (s.1.1.0.now ≡ t.1.1.0.now) × (s.1.1.1.0.now ≡ t.1.1.1.0.now) × (s.1.1.1.1.1.0.now ≡ t.1.1.1.1.1.0.now)
+take-init-ack-unique κs a r q s t x y = (x.0 ∙ sym y.0, x.1 ∙ sym y.1, x.2 ∙ sym y.2, x.3 ∙ sym y.3, x.4 ∙ sym y.4)
 
-pub read-echo-unique : (κs : _) (a : _) (r q : _) (s t : _) → read-echo-reads.Post κs a r s → read-echo-reads.Post κs a q t → (r ≡ q) × (standing s.1.0.now ≡ standing t.1.0.now) × (s.1.1.1.1.1.0.now ≡ t.1.1.1.1.1.0.now)
-read-echo-unique κs a r q s t x y = (x.1.0 ∙ sym y.1.0, x.1.1 ∙ sym y.1.1, x.1.2 ∙ sym y.1.2)
+pub read-echo-unique : (κs : _) (a : _) (r q : _) (s t : _) → read-echo-reads.Post κs a r s → read-echo-reads.Post κs a q t → (r ≡ q) × (s.1.0.now ≡ t.1.0.now) × (s.1.1.0.now ≡ t.1.1.0.now) × (s.1.1.1.0.now ≡ t.1.1.1.0.now) × (s.1.1.1.1.0.now ≡ t.1.1.1.1.0.now) × (s.1.1.1.1.1.0.now ≡ t.1.1.1.1.1.0.now) × (s.1.1.1.1.1.1.1.1.1.0.now ≡ t.1.1.1.1.1.1.1.1.1.0.now)
+read-echo-unique κs a r q s t x y = (x.0 ∙ sym y.0, x.1 ∙ sym y.1, x.2 ∙ sym y.2, x.3 ∙ sym y.3, x.4 ∙ sym y.4, x.5 ∙ sym y.5, x.6 ∙ sym y.6)
 
 pub pass-unknown-unique : (κs : _) (a : _) (r q : _) (s t : _) → pass-unknown-reads.Post κs a r s → pass-unknown-reads.Post κs a q t → r ≡ q
 pass-unknown-unique κs a r q s t x y = x ∙ sym y

@@ -38,7 +38,7 @@ use Rattle.association.specs.declared.ends.Association.{Association}
 use Rattle.flat.specs.Shown.{cookie_shown, bare, association_head}
 use Rattle.rows.specs.declared.stepped.Stepped.{Stepped}
 use Rattle.rows.specs.Stepped.{stepped_with, stepped_in}
-use Rattle.rows.specs.Lending.{Standing, standing_of, rowed_with, rowed_over}
+use Rattle.rows.specs.Lending.{Standing, standing_of, heard_into, receiving_if, cookie_brought, begun_if, rowed_with, rowed_over}
 use Rattle.rows.specs.TableRows.{held_heard, held_by, area_by, arrival_by, read_data_by, read_late_data_by, sack_to_sender, places_sacked, sack_answer, read_sack_by, read_sack_pending_by, places_shut, is_taken, is_starting, cleared_if, kept_if, RowLeft, head_left, data_left, places_left, ack_left, echo_left, row_left, reply_by, Rowed, rowed_of, rowed_by, rowed}
 
 -- what a function on a chunk promises: what was done of the step, and its reply in the output
@@ -155,6 +155,21 @@ standing_left l = standing_of l.held l.next l.places l.next_out l.kept l.area
 
 abbrev pub places_in : Standing → List ℕ → Standing
 places_in t ws = standing_of t.held t.next ws t.next_out t.kept t.area
+
+-- and there, of a row that is lent some of them
+module _ (t : Standing) where
+  pub heard-stands : (h : Head) (s : List ℕ) {ws area : List ℕ} → (ws ≡ held_by h t.held t.next s) × (area ≡ area_by h t.held t.next t.area s)
+      → standing_of ws t.next t.places t.next_out t.kept area ≡ heard_into h s t
+  heard-stands h s p = λ i. standing_of (p.0 i) t.next t.places t.next_out t.kept (p.1 i)
+
+  pub receiving-stands : (s : List ℕ) {ws ns bytes : List ℕ} → (ws ≡ cleared_if (is_taken s) 512 t.held) × (ns ≡ cleared_if (is_taken s) 128 t.next) × (bytes ≡ kept_if (is_taken s) s t.kept)
+      → standing_of ws ns t.places t.next_out bytes t.area ≡ receiving_if (is_taken s) (cookie_brought s) t
+  receiving-stands s p = λ i. standing_of (p.0 i) (p.1 i) t.places t.next_out (p.2 i) t.area
+
+  pub begun-stands : (b : Bool) {ws ns ps ms bytes : List ℕ}
+      → (ws ≡ cleared_if b 512 t.held) × (ns ≡ cleared_if b 128 t.next) × (ps ≡ cleared_if b 1024 t.places) × (ms ≡ cleared_if b 128 t.next_out) × (bytes ≡ cleared_if b 256 t.kept)
+      → standing_of ws ns ps ms bytes t.area ≡ begun_if b t
+  begun-stands b p = λ i. standing_of (p.0 i) (p.1 i) (p.2 i) (p.3 i) (p.4 i) t.area
 
 -- the row that the chunk meets
 module _ (h : Head) (t : Standing) (space s : List ℕ) (b : Beside) (cookie : List ℕ) {x : Row} (met : x ≡ row_met (bare h) b s) {y : Row} (e : x ≡ y) where

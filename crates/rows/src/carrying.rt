@@ -1,43 +1,42 @@
 // The chunks of an open association: DATA, SACK, HEARTBEAT and HEARTBEAT ACK.
 ghost use Rattle.std.specs.Prelude.{◌≡◌, []};
+ghost use Rattle.numbers.specs.Profile.{rail};
 ghost use Rattle.numbers.specs.Refusal.{answered_number};
 ghost use Rattle.octets.specs.Writing.{wrote_bytes};
+ghost use Rattle.reception.specs.Reception.{receiving_shown};
 ghost use Rattle.acks.specs.Acks.{acked_of};
 ghost use Rattle.steps.specs.Verdict.{quiet};
-ghost use Rattle.steps.specs.Carrying.{data_read, shutdown_owed, shutdown_acked, told_sack, echo_heartbeat, clear_tries};
+ghost use Rattle.steps.specs.Carrying.{data_read, shutdown_owed, shutdown_acked, area_in, told_sack, echo_heartbeat, clear_tries};
 ghost use Rattle.flat.specs.Shown.{bare};
 ghost use Rattle.rows.specs.Stepped.{stepped_with, stepped_in};
-ghost use Rattle.rows.specs.TableRows.{side, heard_data, arrival_with, read_data_by, read_late_data_by, sack_heard, places_sacked, read_sack_by, read_sack_pending_by, read_sack_received_by};
-ghost use Rattle.rows.specs.Lending.{standing, AreSame, heard_into};
+ghost use Rattle.rows.specs.TableRows.{heard_data, held_heard, arrival_with, held_by, area_by, read_data_by, read_late_data_by, sack_heard, places_sacked, read_sack_by, read_sack_pending_by, read_sack_received_by};
 
-use crate::lent::Tables;
 use crate::stepped::Stepped;
 use flat::Head;
-use numbers::Refusal;
 use numbers::refusal::number_of;
+use numbers::{Keeping, Refusal};
 use reception::arrival::Arrived;
 use sender::Sender;
 use states::State;
 use steps::{Event, Owed, carrying};
 
 // The receiver's answer to a DATA chunk.
-pub fn hear_data(head: Head, tables: &mut Tables, s: &[u8]) -> Arrived
-    ensures same { AreSame tables.old tables.new }
-    ensures left { (result ≡ heard_data (side head tables.old.held.now tables.old.next_in.now) head.ends.streams_in s.now)
-        × (standing tables.new ≡ heard_into head s.now (standing tables.old)) }
+pub fn hear_data(
+    keeping: Keeping,
+    streams: u16,
+    held: &mut [u32; 512],
+    next_in: &[u16; 128],
+    area: &mut [u8],
+    s: &[u8],
+) -> Arrived
+    ensures { (result ≡ heard_data (receiving_shown rail keeping held.old next_in.now) streams s.now)
+        × (held.new ≡ held_heard (receiving_shown rail keeping held.old next_in.now) streams held.old s.now)
+        × (area.new ≡ area_in (receiving_shown rail keeping held.old next_in.now) streams area.old s.now) }
 {
     let c = carrying::chunk_of(s);
     let p = chunks::data::payload(s);
     let payload = &s[p.at..p.at + p.len];
-    reception::arrival::arrive(
-        head.keeping,
-        tables.held,
-        tables.next_in,
-        tables.area,
-        c,
-        payload,
-        head.ends.streams_in,
-    )
+    reception::arrival::arrive(keeping, held, next_in, area, c, payload, streams)
 }
 
 #[tactic(auto, unfolding(steps::specs::Carrying::data_read))]
@@ -50,12 +49,18 @@ fn data_read(mut head: Head, o: Arrived, s: &[u8]) -> Stepped
 
 // A DATA chunk in ESTABLISHED or SHUTDOWN-PENDING.
 #[tactic(auto, unfolding(crate::specs::TableRows::read_data_by))]
-pub fn read_data(head: Head, tables: &mut Tables, s: &[u8]) -> Stepped
-    ensures same { AreSame tables.old tables.new }
-    ensures left { (result ≡ stepped_with 0 (read_data_by head tables.old.held.now tables.old.next_in.now s.now))
-        × (standing tables.new ≡ heard_into head s.now (standing tables.old)) }
+pub fn read_data(
+    head: Head,
+    held: &mut [u32; 512],
+    next_in: &[u16; 128],
+    area: &mut [u8],
+    s: &[u8],
+) -> Stepped
+    ensures { (result ≡ stepped_with 0 (read_data_by head held.old next_in.now s.now))
+        × (held.new ≡ held_by head held.old next_in.now s.now)
+        × (area.new ≡ area_by head held.old next_in.now area.old s.now) }
 {
-    let o = hear_data(head, tables, s);
+    let o = hear_data(head.keeping, head.ends.streams_in, held, next_in, area, s);
     data_read(head, o, s)
 }
 
@@ -80,12 +85,18 @@ pub(crate) fn acknowledge_shutdown(head: Head, state: State, space: &mut [u8]) -
 
 // A DATA chunk in SHUTDOWN-SENT: one that is held is answered by a SHUTDOWN, and the tries begin anew.
 #[tactic(auto, unfolding(crate::specs::TableRows::read_late_data_by))]
-pub fn read_late_data(mut head: Head, tables: &mut Tables, s: &[u8]) -> Stepped
-    ensures same { AreSame tables.old tables.new }
-    ensures left { (result ≡ stepped_with 0 (read_late_data_by head tables.old.held.now tables.old.next_in.now s.now))
-        × (standing tables.new ≡ heard_into head s.now (standing tables.old)) }
+pub fn read_late_data(
+    mut head: Head,
+    held: &mut [u32; 512],
+    next_in: &[u16; 128],
+    area: &mut [u8],
+    s: &[u8],
+) -> Stepped
+    ensures { (result ≡ stepped_with 0 (read_late_data_by head held.old next_in.now s.now))
+        × (held.new ≡ held_by head held.old next_in.now s.now)
+        × (area.new ≡ area_by head held.old next_in.now area.old s.now) }
 {
-    let o = hear_data(head, tables, s);
+    let o = hear_data(head.keeping, head.ends.streams_in, held, next_in, area, s);
     if carrying::is_kept(o.verdict) {
         head.keeping = o.keeping;
         return owe_shutdown(head);

@@ -1,15 +1,13 @@
 // The chunks that open an association: INIT, INIT ACK, COOKIE ECHO, COOKIE ACK.
-ghost use Rattle.std.specs.Prelude.{◌≡◌, [], ◌≤◌, length, true};
+ghost use Rattle.std.specs.Prelude.{◌≡◌, [], ◌≤◌, length, replicate};
 ghost use Rattle.octets.specs.Writing.{wrote_bytes};
 ghost use Rattle.steps.specs.declared.meeting.Action.TheVariants.{Restart};
 ghost use Rattle.steps.specs.Opening.{answer_init, kept_cookie, echoing, echoed_back, take_init_ack, established};
 ghost use Rattle.steps.specs.Meeting.{offered, repeat_ack, starts_anew, with_peer_tag, stays, acts, read_echo};
 ghost use Rattle.flat.specs.Shown.{cookie_shown, bare, association_head};
 ghost use Rattle.rows.specs.Stepped.{stepped_in};
-ghost use Rattle.rows.specs.TableRows.{is_taken, is_starting};
-ghost use Rattle.rows.specs.Lending.{standing, AreSame, cookie_brought, receiving_if, begun_if};
+ghost use Rattle.rows.specs.TableRows.{is_taken, is_starting, cleared_if, kept_if};
 
-use crate::lent::Tables;
 use crate::stepped::Stepped;
 use association::Ends;
 use chunks::init::Init;
@@ -92,21 +90,24 @@ fn echoing(head: Head, v: Init, cookie_len: u16) -> Head
 
 fn echo_back(
     head: Head,
-    tables: &mut Tables,
+    held: &mut [u32; 512],
+    next_in: &mut [u16; 128],
+    kept: &mut [u8; 256],
     v: Init,
     cookie: &[u8],
     s: &[u8],
     space: &mut [u8],
 ) -> Stepped
     requires { length cookie.now ≤ 256 }
-    ensures same { AreSame tables.old tables.new }
-    ensures left { (result ≡ stepped_in space.old (echoed_back (length space.old) (bare head) v cookie.now s.now))
-        × (standing tables.new ≡ receiving_if true (kept_cookie cookie.now).bytes (standing tables.old))
+    ensures { (result ≡ stepped_in space.old (echoed_back (length space.old) (bare head) v cookie.now s.now))
+        × (held.new ≡ replicate 512 0)
+        × (next_in.new ≡ replicate 128 0)
+        × (kept.new ≡ (kept_cookie cookie.now).bytes)
         × (space.new ≡ wrote_bytes space.old (echoed_back (length space.old) (bare head) v cookie.now s.now).reply) }
 {
-    tables::held::clear(tables.held);
-    tables::ssns::clear(tables.next_in);
-    let len = keep(tables.kept, cookie);
+    tables::held::clear(held);
+    tables::ssns::clear(next_in);
+    let len = keep(kept, cookie);
     let after = echoing(head, v, len);
     let n = chunks::cookie::write_cookie_echo(space, cookie);
     let m = parameters::report::write_error_parameters(&mut space[n..], s);
@@ -114,10 +115,18 @@ fn echo_back(
 }
 
 // An INIT ACK in COOKIE-WAIT.
-pub fn take_init_ack(head: Head, tables: &mut Tables, s: &[u8], space: &mut [u8]) -> Stepped
-    ensures same { AreSame tables.old tables.new }
-    ensures left { (result ≡ stepped_in space.old (take_init_ack (length space.old) (bare head) s.now))
-        × (standing tables.new ≡ receiving_if (is_taken s.now) (cookie_brought s.now) (standing tables.old))
+pub fn take_init_ack(
+    head: Head,
+    held: &mut [u32; 512],
+    next_in: &mut [u16; 128],
+    kept: &mut [u8; 256],
+    s: &[u8],
+    space: &mut [u8],
+) -> Stepped
+    ensures { (result ≡ stepped_in space.old (take_init_ack (length space.old) (bare head) s.now))
+        × (held.new ≡ cleared_if (is_taken s.now) 512 held.old)
+        × (next_in.new ≡ cleared_if (is_taken s.now) 128 next_in.old)
+        × (kept.new ≡ kept_if (is_taken s.now) s.now kept.old)
         × (space.new ≡ wrote_bytes space.old (take_init_ack (length space.old) (bare head) s.now).reply) }
 {
     let v = chunks::init::read_init(s);
@@ -139,7 +148,7 @@ pub fn take_init_ack(head: Head, tables: &mut Tables, s: &[u8], space: &mut [u8]
         );
     }
     let cookie = &s[p.at..p.at + p.len];
-    echo_back(head, tables, v, cookie, s, space)
+    echo_back(head, held, next_in, kept, v, cookie, s, space)
 }
 
 #[tactic(auto, unfolding(steps::specs::Opening::established))]
@@ -166,15 +175,24 @@ fn established(head: Head, source: u16, m: Made) -> Head
 }
 
 // All tables begin.
-fn clear(tables: &mut Tables)
-    ensures same { AreSame tables.old tables.new }
-    ensures left { standing tables.new ≡ begun_if true (standing tables.old) }
+fn clear(
+    held: &mut [u32; 512],
+    next_in: &mut [u16; 128],
+    places: &mut [u32; 1024],
+    next_out: &mut [u16; 128],
+    kept: &mut [u8; 256],
+)
+    ensures { (held.new ≡ replicate 512 0)
+        × (next_in.new ≡ replicate 128 0)
+        × (places.new ≡ replicate 1024 0)
+        × (next_out.new ≡ replicate 128 0)
+        × (kept.new ≡ replicate 256 0) }
 {
-    tables::held::clear(tables.held);
-    tables::ssns::clear(tables.next_in);
-    tables::place::clear(tables.places);
-    tables::ssns::clear(tables.next_out);
-    flat::fresh::clear_cookie(tables.kept);
+    tables::held::clear(held);
+    tables::ssns::clear(next_in);
+    tables::place::clear(places);
+    tables::ssns::clear(next_out);
+    flat::fresh::clear_cookie(kept);
 }
 
 // The peer's tag alone changes.
@@ -217,19 +235,26 @@ fn stay(head: Head, m: Made, action: Action, space: &mut [u8]) -> Stepped
 // A good echo, by what table 12 says to do.
 fn act(
     head: Head,
-    tables: &mut Tables,
+    held: &mut [u32; 512],
+    next_in: &mut [u16; 128],
+    places: &mut [u32; 1024],
+    next_out: &mut [u16; 128],
+    kept: &mut [u8; 256],
     m: Made,
     action: Action,
     source: u16,
     space: &mut [u8],
 ) -> Stepped
-    ensures same { AreSame tables.old tables.new }
-    ensures left { (result ≡ stepped_in space.old (acts (length space.old) (bare head) source m action))
-        × (standing tables.new ≡ begun_if (starts_anew action head.state) (standing tables.old))
+    ensures { (result ≡ stepped_in space.old (acts (length space.old) (bare head) source m action))
+        × (held.new ≡ cleared_if (starts_anew action head.state) 512 held.old)
+        × (next_in.new ≡ cleared_if (starts_anew action head.state) 128 next_in.old)
+        × (places.new ≡ cleared_if (starts_anew action head.state) 1024 places.old)
+        × (next_out.new ≡ cleared_if (starts_anew action head.state) 128 next_out.old)
+        × (kept.new ≡ cleared_if (starts_anew action head.state) 256 kept.old)
         × (space.new ≡ wrote_bytes space.old (acts (length space.old) (bare head) source m action).reply) }
 {
     if meeting::starts(action, head.state) {
-        clear(tables);
+        clear(held, next_in, places, next_out, kept);
         let after = established(head, source, m);
         let event = meeting::started_as(action, head.state);
         let n = chunks::cookie::write_cookie_ack(space);
@@ -241,15 +266,22 @@ fn act(
 // A COOKIE ECHO that is the first chunk of its packet. Refused, it leaves the rest of the packet unread.
 pub fn read_echo(
     head: Head,
-    tables: &mut Tables,
+    held: &mut [u32; 512],
+    next_in: &mut [u16; 128],
+    places: &mut [u32; 1024],
+    next_out: &mut [u16; 128],
+    kept: &mut [u8; 256],
     echoed: Echoed,
     source: u16,
     s: &[u8],
     space: &mut [u8],
 ) -> Stepped
-    ensures same { AreSame tables.old tables.new }
-    ensures left { (result ≡ stepped_in space.old (read_echo (length space.old) (bare head) echoed source s.now))
-        × (standing tables.new ≡ begun_if (is_starting head.state head.ends echoed s.now) (standing tables.old))
+    ensures { (result ≡ stepped_in space.old (read_echo (length space.old) (bare head) echoed source s.now))
+        × (held.new ≡ cleared_if (is_starting head.state head.ends echoed s.now) 512 held.old)
+        × (next_in.new ≡ cleared_if (is_starting head.state head.ends echoed s.now) 128 next_in.old)
+        × (places.new ≡ cleared_if (is_starting head.state head.ends echoed s.now) 1024 places.old)
+        × (next_out.new ≡ cleared_if (is_starting head.state head.ends echoed s.now) 128 next_out.old)
+        × (kept.new ≡ cleared_if (is_starting head.state head.ends echoed s.now) 256 kept.old)
         × (space.new ≡ wrote_bytes space.old (read_echo (length space.old) (bare head) echoed source s.now).reply) }
 {
     let p = chunks::cookie::cookie(s);
@@ -259,7 +291,9 @@ pub fn read_echo(
     match echoed {
         Echoed::Good(m) => {
             let action = meeting::action_of(head.state, head.ends, m);
-            act(head, tables, m, action, source, space)
+            act(
+                head, held, next_in, places, next_out, kept, m, action, source, space,
+            )
         }
         Echoed::Stale(_) => Stepped::refused(head, 27, Named::ErrorStale).ending(),
         Echoed::Bad => Stepped::refused(head, 27, Named::NoCall).ending(),

@@ -2,7 +2,8 @@ use mathlib.Core.Path.{refl}
 use Rattle.steps.specs.VerdictLaws.{clear-quiet, error-quiet, pass-quiet}
 use Rattle.flat.specs.Shown.{bare}
 use Rattle.rows.specs.Lending.{standing}
-use Rattle.rows.specs.TableRowsLaws.{data-quiet, row-late-data-quiet, sack-quiet, row-pending-quiet, places_in, row-rowed, quiet-row-rowed}
+use Rattle.rows.specs.TableRows.{is_starting}
+use Rattle.rows.specs.TableRowsLaws.{data-quiet, row-late-data-quiet, sack-quiet, row-pending-quiet, places_in, heard-stands, receiving-stands, begun-stands, row-rowed, quiet-row-rowed}
 use Rattle.rows.proofs.chunk.step.Goals as goal
 
 pub returns-in-Refused-clause-left : goal.returns-in-Refused-clause-left
@@ -12,19 +13,19 @@ pub returns-in-AnswerInit-clause-left : goal.returns-in-AnswerInit-clause-left
 returns-in-AnswerInit-clause-left c = row-rowed c.args.head (standing c.args.tables.now) c.args.space.now c.args.s.now c.args.b c.args.cookie.now c.row_met.ensures c.in-AnswerInit.is (c.answer_init.ensures.0, refl, c.answer_init.ensures.1)
 
 pub returns-in-TakeInitAck-clause-left : goal.returns-in-TakeInitAck-clause-left
-returns-in-TakeInitAck-clause-left c = row-rowed c.args.head (standing c.args.tables.now) c.args.space.now c.args.s.now c.args.b c.args.cookie.now c.row_met.ensures c.in-TakeInitAck.is c.take_init_ack.ensures.left
+returns-in-TakeInitAck-clause-left c = row-rowed c.args.head (standing c.args.tables.now) c.args.space.now c.args.s.now c.args.b c.args.cookie.now c.row_met.ensures c.in-TakeInitAck.is (let e = c.take_init_ack.ensures in (e.0, receiving-stands (standing c.args.tables.now) c.args.s.now (e.1, e.2, e.3), e.4))
 
 pub returns-in-ReadEcho-clause-left : goal.returns-in-ReadEcho-clause-left
-returns-in-ReadEcho-clause-left c = row-rowed c.args.head (standing c.args.tables.now) c.args.space.now c.args.s.now c.args.b c.args.cookie.now c.row_met.ensures c.in-ReadEcho.is c.read_echo.ensures.left
+returns-in-ReadEcho-clause-left c = row-rowed c.args.head (standing c.args.tables.now) c.args.space.now c.args.s.now c.args.b c.args.cookie.now c.row_met.ensures c.in-ReadEcho.is (let e = c.read_echo.ensures in (e.0, begun-stands (standing c.args.tables.now) (is_starting c.args.head.state c.args.head.ends c.args.b.echoed c.args.s.now) (e.1, e.2, e.3, e.4, e.5), e.6))
 
 pub returns-in-BecomeEstablished-clause-left : goal.returns-in-BecomeEstablished-clause-left
 returns-in-BecomeEstablished-clause-left c = quiet-row-rowed c.args.head (standing c.args.tables.now) c.args.space.now c.args.s.now c.args.b c.args.cookie.now c.row_met.ensures c.in-BecomeEstablished.is refl (rw c.moved.ensures at c.accepted.ensures, refl)
 
 pub returns-in-ReadData-clause-left : goal.returns-in-ReadData-clause-left
-returns-in-ReadData-clause-left c = quiet-row-rowed c.args.head (standing c.args.tables.now) c.args.space.now c.args.s.now c.args.b c.args.cookie.now c.row_met.ensures c.in-ReadData.is (data-quiet c.args.head c.args.tables.now.held.now c.args.tables.now.next_in.now c.args.s.now) c.read_data.ensures.left
+returns-in-ReadData-clause-left c = quiet-row-rowed c.args.head (standing c.args.tables.now) c.args.space.now c.args.s.now c.args.b c.args.cookie.now c.row_met.ensures c.in-ReadData.is (data-quiet c.args.head c.args.tables.now.held.now c.args.tables.now.next_in.now c.args.s.now) (let e = c.read_data.ensures in (e.0, heard-stands (standing c.args.tables.now) c.args.head c.args.s.now (e.1, e.2)))
 
 pub returns-in-ReadLateData-clause-left : goal.returns-in-ReadLateData-clause-left
-returns-in-ReadLateData-clause-left c = quiet-row-rowed c.args.head (standing c.args.tables.now) c.args.space.now c.args.s.now c.args.b c.args.cookie.now c.row_met.ensures c.in-ReadLateData.is (row-late-data-quiet c.args.head c.args.tables.now.held.now c.args.tables.now.next_in.now c.args.s.now) c.read_late_data.ensures.left
+returns-in-ReadLateData-clause-left c = quiet-row-rowed c.args.head (standing c.args.tables.now) c.args.space.now c.args.s.now c.args.b c.args.cookie.now c.row_met.ensures c.in-ReadLateData.is (row-late-data-quiet c.args.head c.args.tables.now.held.now c.args.tables.now.next_in.now c.args.s.now) (let e = c.read_late_data.ensures in (e.0, heard-stands (standing c.args.tables.now) c.args.head c.args.s.now (e.1, e.2)))
 
 pub returns-in-ReadSack-clause-left : goal.returns-in-ReadSack-clause-left
 returns-in-ReadSack-clause-left c = quiet-row-rowed c.args.head (standing c.args.tables.now) c.args.space.now c.args.s.now c.args.b c.args.cookie.now c.row_met.ensures c.in-ReadSack.is (sack-quiet c.args.head c.args.tables.now.places.now c.args.s.now) (c.read_sack.ensures.0, λ i. places_in (standing c.args.tables.now) (c.read_sack.ensures.1 i))

@@ -2,7 +2,6 @@ use Rattle.octets.specs.WritingLaws.{wrote-within, wrote-both}
 use Rattle.chunks.specs.CookieLaws.{echo-within}
 use Rattle.parameters.specs.ReportLaws.{error-within}
 use Rattle.steps.specs.VerdictLaws.{echo-short, few}
-use Rattle.rows.specs.Lending.{standing, standing_of}
 use Rattle.rows.specs.TableRowsLaws.{echoed-told}
 use borrow.Author.Rules.{rules}
 use Rattle.rows.proofs.opening.echo_back.Goals as goal
@@ -16,5 +15,5 @@ slice_bounds-write_error_parameters-start c = search (rules, wrote-within c.writ
 pub overflow_add-n : goal.overflow_add-n
 overflow_add-n c = search (rules, few c.write_cookie_echo-n.ensures (echo-within _), few c.write_error_parameters-m.ensures (error-within _))
 
-pub returns-clause-left : goal.returns-clause-left
-returns-clause-left c = let t = echoed-told c.args.head c.args.v c.args.cookie.now c.args.s.now (wrote-both (echo-short _ _) c.write_cookie_echo-n.ensures c.write_error_parameters-m.ensures) c.keep-len.ensures.0 c.echoing-after.ensures c.accepted.ensures in (t.0, let u = standing c.args.tables.now in λ i. standing_of (c.clear.ensures i) (c.clear-2.ensures i) u.places u.next_out (c.keep-len.ensures.1 i) u.area, t.1)
+pub returns : goal.returns
+returns c = let t = echoed-told c.args.head c.args.v c.args.cookie.now c.args.s.now (wrote-both (echo-short _ _) c.write_cookie_echo-n.ensures c.write_error_parameters-m.ensures) c.keep-len.ensures.0 c.echoing-after.ensures c.accepted.ensures in (t.0, c.clear.ensures, c.clear-2.ensures, c.keep-len.ensures.1, t.1)

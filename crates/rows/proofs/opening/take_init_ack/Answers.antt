@@ -10,22 +10,22 @@ use Rattle.rows.specs.TableRows.{is_taken}
 use Rattle.rows.specs.TableRowsLaws.{answered-told, row-quiet-told}
 use Rattle.rows.proofs.opening.take_init_ack.Goals as goal
 
-pub returns-then-is_poor-clause-left : goal.returns-then-is_poor-clause-left
+pub returns-then-is_poor : goal.returns-then-is_poor
 unfolding take_init_ack is_taken
-returns-then-is_poor-clause-left c = rw (← c.read_init-v.ensures, ← c.is_poor.ensures, c.if-is_poor.true) (let t = row-quiet-told c.args.space.now (refused (bare c.args.head) 8 NoCall) refl c.refused.ensures in (t.0, refl, t.1))
+returns-then-is_poor c = rw (← c.read_init-v.ensures, ← c.is_poor.ensures, c.if-is_poor.true) (let t = row-quiet-told c.args.space.now (refused (bare c.args.head) 8 NoCall) refl c.refused.ensures in (t.0, refl, refl, refl, t.1))
 
-pub returns-then-is_odd-clause-left : goal.returns-then-is_odd-clause-left
+pub returns-then-is_odd : goal.returns-then-is_odd
 unfolding take_init_ack is_taken
-returns-then-is_odd-clause-left c = rw (← c.read_init-v.ensures, ← c.is_poor.ensures, c.if-is_poor.false, ← c.cookie-p.ensures.0, ← c.is_odd.ensures, c.if-is_odd.true) (let t = row-quiet-told c.args.space.now (refused (bare c.args.head) 8 NoCall) refl c.refused-then-is_odd.ensures in (t.0, refl, t.1))
+returns-then-is_odd c = rw (← c.read_init-v.ensures, ← c.is_poor.ensures, c.if-is_poor.false, ← c.cookie-p.ensures.0, ← c.is_odd.ensures, c.if-is_odd.true) (let t = row-quiet-told c.args.space.now (refused (bare c.args.head) 8 NoCall) refl c.refused-then-is_odd.ensures in (t.0, refl, refl, refl, t.1))
 
-pub returns-then-has_host_name-clause-left : goal.returns-then-has_host_name-clause-left
+pub returns-then-has_host_name : goal.returns-then-has_host_name
 unfolding take_init_ack is_taken
-returns-then-has_host_name-clause-left c = rw (← c.read_init-v.ensures, ← c.is_poor.ensures, c.if-is_poor.false, ← c.cookie-p.ensures.0, ← c.is_odd.ensures, c.if-is_odd.false, ← c.has_host_name.ensures, c.if-has_host_name.true, ← c.host_name-h.ensures.0, ← part_bytes c.host_name-h.result c.args.s.now) (let t = answered-told (with_state (bare c.args.head) Closed) c.write_abort_address-n.ensures c.moved.ensures c.answering.ensures in (t.0, refl, t.1))
+returns-then-has_host_name c = rw (← c.read_init-v.ensures, ← c.is_poor.ensures, c.if-is_poor.false, ← c.cookie-p.ensures.0, ← c.is_odd.ensures, c.if-is_odd.false, ← c.has_host_name.ensures, c.if-has_host_name.true, ← c.host_name-h.ensures.0, ← part_bytes c.host_name-h.result c.args.s.now) (let t = answered-told (with_state (bare c.args.head) Closed) c.write_abort_address-n.ensures c.moved.ensures c.answering.ensures in (t.0, refl, refl, refl, t.1))
 
 pub echo_back-requires : goal.echo_back-requires
 unfolding take_init_ack is_taken
 echo_back-requires c = cookie-short c.cookie-p.result c.args.s.now (sym c.is_odd.ensures ∙ c.if-is_odd.false)
 
-pub returns-clause-left : goal.returns-clause-left
+pub returns : goal.returns
 unfolding take_init_ack is_taken
-returns-clause-left c = rw (← c.read_init-v.ensures, ← c.is_poor.ensures, c.if-is_poor.false, ← c.cookie-p.ensures.0, ← c.is_odd.ensures, c.if-is_odd.false, ← c.has_host_name.ensures, c.if-has_host_name.false, ← part_bytes c.cookie-p.result c.args.s.now) c.echo_back.ensures.left
+returns c = rw (← c.read_init-v.ensures, ← c.is_poor.ensures, c.if-is_poor.false, ← c.cookie-p.ensures.0, ← c.is_odd.ensures, c.if-is_odd.false, ← c.has_host_name.ensures, c.if-has_host_name.false, ← part_bytes c.cookie-p.result c.args.s.now) c.echo_back.ensures
