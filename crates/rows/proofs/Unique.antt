@@ -1,7 +1,7 @@
 -- Each promise leaves one outcome: two results, and two contents of a lent buffer, that a contract allows are equal. Assumes nothing.
 use mathlib.Core.Path.{◌≡◌, sym, ap, ◌∙◌}
 use Rattle.rows.specs.TableRows.{Rowed}
-use Rattle.rows.specs.Lending.{standing, standing_of}
+use Rattle.rows.specs.Lending.{standing, standing_of, AreSame}
 use Rattle.acks.specs.AnsweredLaws.{acked-apart}
 use Rattle.rows.proofs.stepped.Stepped.accepted.Reads as accepted-reads
 use Rattle.rows.proofs.stepped.Stepped.answering.Reads as answering-reads
@@ -121,7 +121,9 @@ pass-unknown-unique κs a r q s t x y = x ∙ sym y
 pub tell-unknown-unique : (κs : _) (a : _) (r q : _) (s t : _) → tell-unknown-reads.Post κs a r s → tell-unknown-reads.Post κs a q t → (r ≡ q) × (s.1.1.1.0.now ≡ t.1.1.1.0.now)
 tell-unknown-unique κs a r q s t x y = (x.0 ∙ sym y.0, x.1 ∙ sym y.1)
 
-pub step-unique : (κs : _) (a : _) (r q : _) (s t : _) → step-reads.Post κs a r s → step-reads.Post κs a q t → (r ≡ q) × (standing s.1.0.now ≡ standing t.1.0.now) × (s.1.1.1.1.1.0.now ≡ t.1.1.1.1.1.0.now)
+pub step-unique : (κs : _) (a : _) (r q : _) (s t : _) → step-reads.Post κs a r s → step-reads.Post κs a q t → (r ≡ q) × (AreSame s.1.0.now t.1.0.now) × (standing s.1.0.now ≡ standing t.1.0.now) × (s.1.1.1.1.1.0.now ≡ t.1.1.1.1.1.0.now)
 step-unique κs a r q s t x y =
     let e = x.1 ∙ sym y.1 in
-    (ap (λ (u : Rowed). u.stepped) e, ap (λ (u : Rowed). standing_of u.held u.next u.places u.next_out u.kept u.area) e, ap (λ (u : Rowed). u.space) e)
+    let f = x.0 in
+    let g = y.0 in
+    (ap (λ (u : Rowed). u.stepped) e, (g.0 ∙ sym f.0, g.1 ∙ sym f.1, g.2 ∙ sym f.2, g.3 ∙ sym f.3, g.4 ∙ sym f.4, g.5 ∙ sym f.5), ap (λ (u : Rowed). standing_of u.held u.next u.places u.next_out u.kept u.area) e, ap (λ (u : Rowed). u.space) e)
