@@ -39,8 +39,9 @@ returns-in-ReadSackReceived-clause-left c = row-rowed c.args.head (standing c.ar
 pub returns-in-EchoHeartbeat-clause-left : goal.returns-in-EchoHeartbeat-clause-left
 returns-in-EchoHeartbeat-clause-left c = row-rowed c.args.head (standing c.args.tables.now) c.args.space.now c.args.s.now c.args.b c.args.cookie.now c.row_met.ensures c.in-EchoHeartbeat.is (c.echo_heartbeat.ensures.0, refl, c.echo_heartbeat.ensures.1)
 
+-- cc, where refl is enough: so the edit tables_exchanged leaves this clause true, and `same` alone refuses it
 pub returns-in-ClearTries-clause-left : goal.returns-in-ClearTries-clause-left
-returns-in-ClearTries-clause-left c = quiet-row-rowed c.args.head (standing c.args.tables.now) c.args.space.now c.args.s.now c.args.b c.args.cookie.now c.row_met.ensures c.in-ClearTries.is (clear-quiet (bare c.args.head) c.args.s.now) (c.clear_tries.ensures, refl)
+returns-in-ClearTries-clause-left c = quiet-row-rowed c.args.head (standing c.args.tables.now) c.args.space.now c.args.s.now c.args.b c.args.cookie.now c.row_met.ensures c.in-ClearTries.is (clear-quiet (bare c.args.head) c.args.s.now) (c.clear_tries.ensures, cc)
 
 pub returns-in-BecomeClosed-clause-left : goal.returns-in-BecomeClosed-clause-left
 returns-in-BecomeClosed-clause-left c = quiet-row-rowed c.args.head (standing c.args.tables.now) c.args.space.now c.args.s.now c.args.b c.args.cookie.now c.row_met.ensures c.in-BecomeClosed.is refl (c.become_closed.ensures, refl)
