@@ -1,4 +1,5 @@
 // The chunks of an open association: DATA, SACK, HEARTBEAT and HEARTBEAT ACK.
+// A row is lent the tables that it needs, one by one: with all six it would ask more of its caller.
 ghost use Rattle.std.specs.Prelude.{◌≡◌, []};
 ghost use Rattle.numbers.specs.Profile.{rail};
 ghost use Rattle.numbers.specs.Refusal.{answered_number};

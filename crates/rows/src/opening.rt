@@ -1,4 +1,5 @@
 // The chunks that open an association: INIT, INIT ACK, COOKIE ECHO, COOKIE ACK.
+// A row is lent the tables that it needs, one by one: with all six it would ask more of its caller.
 ghost use Rattle.std.specs.Prelude.{◌≡◌, [], ◌≤◌, length, replicate};
 ghost use Rattle.octets.specs.Writing.{wrote_bytes};
 ghost use Rattle.steps.specs.declared.meeting.Action.TheVariants.{Restart};
