@@ -1,16 +1,17 @@
 -- What an event over the record by value has to show. Assumes nothing.
-use Rattle.std.specs.Prelude.{ℕ, ◌≡◌, List}
+use Rattle.std.specs.Prelude.{ℕ, ◌≡◌, refl, false, List}
 use Rattle.std.proofs.Common.{◌∙◌}
 use Rattle.calls.specs.declared.acknowledging.Acknowledged as whole
-use Rattle.calls.specs.Answer.{Plan, CallDone, QuietlyDone}
-use Rattle.flat.specs.Shown.{association_head}
+use Rattle.calls.specs.Answer.{Plan, CallDone, QuietlyDone, refusing}
+use Rattle.flat.specs.Shown.{association_head, shows}
 use Rattle.flat.specs.declared.head.Association.{Association}
 use Rattle.asks.specs.TableAnswer.{Reply, answer_in}
 use Rattle.asks.specs.TableAcknowledging.{SackReply, acknowledged_in}
 use Rattle.asks.specs.TableOpening.{Tables, tables_after}
+use Rattle.events.specs.HappeningLaws.{refused-done}
 use Rattle.happening.specs.declared.told.Told.{Told}
 use Rattle.happening.specs.declared.told.Ran.{Ran}
-use Rattle.happening.specs.TableTold.{of_answered, told_of_answer, told_of_sack}
+use Rattle.happening.specs.TableTold.{told_plainly, of_answered, told_of_answer, told_of_sack}
 use Rattle.happening.specs.TableHappening.{TableBuffers, ran_of, ran_with, table_leaving, with_head, with_tables, tables_of, table_planned, keeping, table_associates, table_acknowledges}
 
 module _ (a : Association) (b : TableBuffers) where
@@ -32,3 +33,8 @@ module _ (a : Association) (b : TableBuffers) where
   pub says : {r : SackReply} {t : Told} → t ≡ told_of_sack r → {g : Association} {k : whole.Acknowledged} {out bytes : List ℕ} → g ≡ with_head a r.head
       → (acknowledged_in r a.held a.next_in a.places a.next_out a.cookie ≡ k) × (out ≡ bytes) → table_leaving (ran_of t g) out b ≡ table_acknowledges a k bytes b
   says w {out = out} u d = (λ i. table_leaving (ran_of (w i) (u i)) out b) ∙ (λ i. table_acknowledges a (d.0 i) (d.1 i) b)
+
+-- a call that is refused outright
+pub refuses : (a : Association) (b : TableBuffers) {t : Told} {m n : ℕ} → m ≡ n → (m ≡ 0 → ⊥) → t ≡ told_plainly m 0 false → table_leaving (ran_of t a) b.out b ≡ table_planned a (refusing (shows a) n) b
+refuses a b {m = m} e ne w =
+    goes-as-planned a b {r = record { number = m; length = 0; over = false; head = a.head }} (λ i. ran_of (w i) a) (refused-done (shows a) e ne (record { is = refl }))
