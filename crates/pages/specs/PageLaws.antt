@@ -1,6 +1,6 @@
 -- That the comparison of the library is ours, and that the digits of the kit are a number's. Assumes nothing.
-use Rattle.std.specs.Prelude.{ℕ, zero, suc, ◌-◌, ◌*◌, ◌/◌, ◌%◌, ◌^◌, ◌<◌, ◌≤◌, ◌≡◌, refl, Bool, true, false, ◌&&◌, List, [], ◌∷◌, eqb}
-use Rattle.std.proofs.Common.{arith, lt-ltb, le-ltb}
+use Rattle.std.specs.Prelude.{ℕ, zero, suc, ◌-◌, ◌*◌, ◌/◌, ◌%◌, ◌^◌, ◌<◌, ◌≤◌, ◌≡◌, refl, Bool, true, false, ◌&&◌, List, [], ◌∷◌, length, eqb}
+use Rattle.std.proofs.Common.{ap, arith, lt-ltb, le-ltb}
 use Rattle.std.proofs.Math.Nat.{pow-succ'}
 use Rattle.std.proofs.Math.Decide.{dec_le}
 use Rattle.std.specs.Cmp.Lexicographic.{pointwise}
@@ -18,6 +18,17 @@ same-is (x ∷ xs) [] = refl
 same-is (x ∷ xs) (y ∷ ys) = rw (same-is xs ys) (go (eqb x y))
   where
     go : (t : Bool) → (t && is_same xs ys) ≡ pick t (is_same xs ys) false
+    go true = refl
+    go false = refl
+
+-- those of other lengths are not the same
+pub same-long : (s t : List ℕ) → (length s ≡ length t → ⊥) → is_same s t ≡ false
+same-long [] [] n = absurd (n refl)
+same-long [] (y ∷ ys) n = refl
+same-long (x ∷ xs) [] n = refl
+same-long (x ∷ xs) (y ∷ ys) n = rw (same-long xs ys (λ e. n (ap suc e))) (go (eqb x y))
+  where
+    go : (t : _) → pick t false false ≡ false
     go true = refl
     go false = refl
 

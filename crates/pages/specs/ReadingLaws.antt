@@ -1,9 +1,10 @@
 -- What the loops over a line keep. Assumes nothing.
-use Rattle.std.specs.Prelude.{ℕ, ◌+◌, ◌-◌, ◌<◌, ◌≤◌, ◌≡◌, refl, Bool, true, false, List, length, drop, get_or, ltb, min}
+use Rattle.std.specs.Prelude.{ℕ, ◌+◌, ◌-◌, ◌<◌, ◌≤◌, ◌≡◌, refl, Bool, true, false, List, length, drop, get_or, eqb, ltb, min}
 use Rattle.std.proofs.Common.{ap, ◌∙◌, arith}
-use Rattle.scans.specs.Scan.{pick, left_one}
+use Rattle.std.specs.Bool.{beq}
+use Rattle.scans.specs.Scan.{pick, left_one, left-none}
 use Rattle.scans.specs.Upto.{pick_less, upto-start, upto-one, upto-end}
-use Rattle.pages.specs.Reading.{plus_of, seek_from, sought, past_words, rest_of, text_value_in, grown_by, digit_of, spelt, spelt_at}
+use Rattle.pages.specs.Reading.{plus_of, seek_from, sought, past_words, rest_of, text_value_in, grown_by, digit_of, Spelling, spelt, sign_put, spelt_at}
 
 -- ---- a search
 
@@ -15,6 +16,16 @@ pub search-start : (is : Bool) (s : List ℕ) (from c : ℕ) → Searching is s 
 unfolding sought
 search-start is s from c = record { rest = refl }
 
+module _ {is : Bool} {s : List ℕ} {from c i : ℕ} (w : Searching is s from c i) where
+  pub search-yes : i < length s → beq (eqb (get_or s i 0) c) is ≡ true → i ≡ sought is s from c
+  search-yes h t = rw t at (left_one (seek_from is c (length s) i) s i w.rest 0 h)
+
+  pub search_no : i < length s → beq (eqb (get_or s i 0) c) is ≡ false → Searching is s from c (i + 1)
+  search_no h t = record { rest = rw t at (left_one (seek_from is c (length s) i) s i w.rest 0 h) }
+
+  pub search-end : length s ≤ i → length s ≡ sought is s from c
+  search-end h = left-none (seek_from is c (length s) i) s i w.rest h
+
 -- ---- a number
 
 -- n so far, of the digits before place i
@@ -24,6 +35,9 @@ pub record Valuing (hex : Bool) (s : List ℕ) (from n i : ℕ) : Type 0 where
 module _ {hex : Bool} {s : List ℕ} {from n i : ℕ} (w : Valuing hex s from n i) where
   pub value-more : {m : ℕ} → i < length s → m ≡ grown_by n hex (digit_of (get_or s i 0)) → Valuing hex s from m (i + 1)
   value-more h e = record { rest = rw e (left_one (text_value_in hex n) s i w.rest 0 h) }
+
+  pub value-end : length s ≤ i → n ≡ text_value_in hex 0 (drop from s)
+  value-end h = left-none (text_value_in hex n) s i w.rest h
 
 -- what is no digit is passed over
 pub grown-none : (n : ℕ) (hex : Bool) {d : ℕ} → d ≡ 16 → n ≡ grown_by n hex d
@@ -62,3 +76,16 @@ pub record Spelled (s first : List ℕ) (at : ℕ) (out : List ℕ) (half i : �
 pub spell-start : (s out : List ℕ) (at : ℕ) {half : ℕ} → half ≡ plus_of at at → Spelled s out at out half 0
 unfolding spelt_at
 spell-start s out at e = record { rest = rw e }
+
+module _ {s first : List ℕ} {at : ℕ} {out : List ℕ} {half i : ℕ} (w : Spelled s first at out half i) where
+  pub spell-more : {now : List ℕ} {next : ℕ} → i < length s → record { out = now; half = next } ≡ sign_put (record { out = out; half = half }) (get_or s i 0)
+      → Spelled s first at now next (i + 1)
+  spell-more h e = record { rest = ap (λ (x : Spelling). spelt x (drop (i + 1) s)) e ∙ left_one (spelt (record { out = out; half = half })) s i w.rest 0 h }
+
+  pub spell-end : length s ≤ i → record { out = out; half = half } ≡ spelt_at s first at
+  spell-end h = left-none (spelt (record { out = out; half = half })) s i w.rest h
+
+-- ---- a number that is none of those before n
+
+pub past_one : (n k : ℕ) → n ≤ k → (k ≡ n → ⊥) → n + 1 ≤ k
+past_one n k h e = omega arith

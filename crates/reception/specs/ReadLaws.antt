@@ -18,8 +18,8 @@ use Rattle.delivery.specs.Contradiction.{contradicts_next}
 use Rattle.delivery.specs.LookLaws.{Looking, look-used, look-free}
 use Rattle.delivery.specs.ReceivingBounds.{is_twice, is_unfit}
 use Rattle.delivery.specs.ReceivingBoundsLaws.{low_weight, weight-fit, unfit-free}
-use Rattle.taking.specs.TakeWords.{next_used}
-use Rattle.taking.specs.FreeLaws.{to_used, to_end}
+use Rattle.taking.specs.TakeWords.{free_for, next_used}
+use Rattle.taking.specs.FreeLaws.{over-free, to_used, to_end}
 use Rattle.reception.specs.NoteLaws.{Checking, check-start, check-free, check-new, check-held, check-same, check-noted, check-end}
 
 -- a flag as it is
@@ -62,6 +62,12 @@ module _ {T : Numbering} {P : Profile} {k : Keeping} {hs : List Held} {h : Held}
 
   pub look-last : from ≤ P.places → next_used hs from ≡ None → Looking T P k hs h P.places a b d
   look-last l e = rw q at (to_end (λ (x : ℕ). Looking T P k hs h x a b d) hs from (omega (arith, q)) e (λ x l u v. look-free v (omega (arith, q)) u) w)
+
+-- eight free places, side by side
+module _ {T : Numbering} {P : Profile} {k : Keeping} {hs : List Held} where
+  pub look-eight : {h : Held} {i a : ℕ} {b d : Bool} → Looking T P k hs h i a b d → i + 8 ≤ P.places → free_for hs i 8 ≡ true
+      → Looking T P k hs h (i + 8) a b d
+  look-eight {h} {i} {a} {b} {d} w l e = over-free (λ (x : ℕ). Looking T P k hs h x a b d) hs 8 i e (λ x y u v o. look-free o (omega arith) v) w
 
 -- the same, in the pass that looks for a number held twice
 module _ {hs : List Held} {m : ℕ} {seen : List Bool} {i : ℕ} (w : Checking hs m seen i) (h : i < m)
@@ -128,6 +134,22 @@ module _ (T : Numbering) (P : Profile) (k : Keeping) (hs : List Held) where
       free q x l u v =
           let y : x < m = omega (arith, q) in
           (check-free v.0 y u, seek-no v.1 no_held y (unfit-free P (get_or hs x no_held) u), count_no v.2 no_held y (low_free T k (get_or hs x no_held) u))
+
+-- free places, side by side
+module _ (T : Numbering) (P : Profile) (k : Keeping) {hs : List Held} where
+  pub weigh-free : {m : ℕ} {seen : List Bool} {i low : ℕ} (j : ℕ)
+      → Checking hs m seen i × Seeking (is_unfit P) hs m i × Counting (is_low T k) hs m i low → i + j ≤ m → free_for hs i j ≡ true
+      → Checking hs m seen (i + j) × Seeking (is_unfit P) hs m (i + j) × Counting (is_low T k) hs m (i + j) low
+  weigh-free {m} {seen} {i} {low} j w l e =
+      over-free (λ (x : ℕ). Checking hs m seen x × Seeking (is_unfit P) hs m x × Counting (is_low T k) hs m x low) hs j i e
+      (λ x a b u v. (check-free v.0 (omega arith) u, seek-no v.1 no_held (omega arith) (unfit-free P (get_or hs x no_held) u), count_no v.2 no_held (omega arith) (low_free T k (get_or hs x no_held) u))) w
+
+  -- those from the first on
+  pub weigh-first : {m : ℕ} (j : ℕ) → length hs ≡ m → j ≤ m → free_for hs 0 j ≡ true
+      → Checking hs m (replicate 128 false) j × Seeking (is_unfit P) hs m j × Counting (is_low T k) hs m j 0
+  weigh-first {m} j q l e =
+      let z : 0 + j ≡ j = omega arith in
+      rw z at (weigh-free j (check-start hs m q, record { long = q; rest = refl }, count-start (is_low T k) hs m q) (omega arith) e)
 
 -- a flag is set from the n-th on where the highest lies behind it
 none-clear : (flags : List Bool) → ((j : ℕ) → get_or flags j false ≡ false) → any itself flags ≡ false

@@ -19,6 +19,14 @@ use Rattle.tables.specs.PlaceWords.{places_of, place_at}
 use Rattle.tables.specs.PlaceWordsLaws.{places-long}
 use Rattle.sender.specs.Seen.{is_blank, blank_for}
 
+-- one, and one more
+pub blank-two : (P : Profile) (ws : List ℕ) (i : ℕ) → blank_for P ws i 2 ≡ pick (is_blank (place_at P ws i)) (is_blank (place_at P ws (i + 1))) false
+blank-two P ws i = ap (λ (b : Bool). pick (is_blank (place_at P ws i)) b false) (go (is_blank (place_at P ws (i + 1))))
+  where
+    go : (b : Bool) → pick b true false ≡ b
+    go true = refl
+    go false = refl
+
 -- so many, and so many more
 pub blank-add : (P : Profile) (ws : List ℕ) (a i b : ℕ) → blank_for P ws i (a + b) ≡ pick (blank_for P ws i a) (blank_for P ws (i + a) b) false
 blank-add P ws zero i b =

@@ -1,14 +1,14 @@
 -- Free places that stand side by side, and what a loop keeps that passes over them. Assumes nothing.
-use Rattle.std.specs.Prelude.{ℕ, zero, suc, ◌+◌, ◌-◌, ◌<◌, ◌≤◌, ◌≡◌, refl, Bool, true, false, List, [], ◌∷◌, length, drop, get_or, ltb, Option, Some, None}
+use Rattle.std.specs.Prelude.{ℕ, zero, suc, ◌+◌, ◌-◌, ◌<◌, ◌≤◌, ◌≡◌, refl, Bool, true, false, not, List, [], ◌∷◌, length, drop, get_or, ltb, Option, Some, None}
 use Rattle.std.specs.Option.{is_some}
 use Rattle.std.proofs.Common.{sym, ap, ◌∙◌, subst, arith, ltb-false, length-drop, get_or-drop}
 use Rattle.numbers.specs.declared.circle.Ssn.{Ssn}
 use Rattle.numbers.specs.Numbering.{Numberings}
 use Rattle.numbers.specs.Profile.{Profile}
-use Rattle.scans.specs.Scan.{pick, find_from, found, front, left_one, left-none}
+use Rattle.scans.specs.Scan.{pick, find_from, found, front, left_one, left-none, Counting, count_yes}
 use Rattle.scans.specs.Each.{clash, fails-behind}
 use Rattle.holding.specs.declared.held.Held.{Held}
-use Rattle.holding.specs.Held.{no_held}
+use Rattle.holding.specs.Held.{no_held, is_held_free}
 use Rattle.holding.specs.declared.message.Best.{Best}
 use Rattle.holding.specs.Message.{is_left_end, is_expected}
 use Rattle.holding.specs.MessageLaws.{is_better, tried_run, Choosing, choose-worse, choose-better}
@@ -20,6 +20,34 @@ none_some e = clash (ap (λ (found : Option ℕ). is_some found) e)
 
 some_same : {i j : ℕ} → Some i ≡ Some j → i ≡ j
 some_same e = cc
+
+-- one, and one more
+pub free-two : (hs : List Held) (i : ℕ) {a b : Bool} → a ≡ (get_or hs i no_held).used → b ≡ (get_or hs (i + 1) no_held).used → pick a false (not b) ≡ free_for hs i 2
+free-two hs i {a} {b} p q = go a b p q
+  where
+    go : (a b : Bool) → a ≡ (get_or hs i no_held).used → b ≡ (get_or hs (i + 1) no_held).used → pick a false (not b) ≡ free_for hs i 2
+    go true b p q = rw (← p)
+    go false true p q = rw (← p, ← q)
+    go false false p q = rw (← p, ← q)
+
+-- so many, and so many more
+pub free-add : (hs : List Held) (a i b : ℕ) → free_for hs i (a + b) ≡ pick (free_for hs i a) (free_for hs (i + a) b) false
+free-add hs zero i b =
+    let z : 0 + b ≡ b = omega arith in
+    let y : i + 0 ≡ i = omega arith in
+    rw (z, y)
+free-add hs (suc a) i b = let z : suc a + b ≡ suc (a + b) = omega arith in rw z (go (free-add hs a (i + 1) b) (get_or hs i no_held).used)
+  where
+    go : free_for hs (i + 1) (a + b) ≡ pick (free_for hs (i + 1) a) (free_for hs (i + 1 + a) b) false → (u : Bool)
+        → pick u false (free_for hs (i + 1) (a + b)) ≡ pick (pick u false (free_for hs (i + 1) a)) (free_for hs (i + suc a) b) false
+    go e true = refl
+    go e false = e ∙ ap (λ (k : ℕ). pick (free_for hs (i + 1) a) (free_for hs k b) false) (omega arith)
+
+-- eight more behind those from the first on
+pub free_more : (hs : List Held) (n : ℕ) → free_for hs 0 n ≡ true → free_for hs n 8 ≡ true → free_for hs 0 (n + 8) ≡ true
+free_more hs n e f =
+    let z : 0 + n ≡ n = omega arith in
+    rw (free-add hs n 0 8, e, z) f
 
 -- what is left to ask of n places, where those up to k are free
 pub free-one : (hs : List Held) (i n k : ℕ) → i ≤ k → k < i + n → free_for hs k (i + n - k) ≡ free_for hs i n → (get_or hs k no_held).used ≡ false
@@ -57,6 +85,19 @@ over-free Inv hs (suc n) i e f w =
     let q = free-first hs i n e in
     let z : i + 1 + n ≡ i + suc n = omega arith in
     subst Inv z (over-free Inv hs n (i + 1) q.1 (λ k a b u v. f k (omega arith) (omega arith) u v) (f i (omega arith) (omega arith) q.0 w))
+
+-- they are all counted
+pub count-free : (hs : List Held) {m i c : ℕ} → Counting is_held_free hs m i c → i + 8 ≤ m → free_for hs i 8 ≡ true → Counting is_held_free hs m (i + 8) (c + 8)
+count-free hs {m} {i} {c} w l e =
+    let z : c ≡ c + (i - i) = omega arith in
+    let y : c + (i + 8 - i) ≡ c + 8 = omega arith in
+    subst (λ (x : ℕ). Counting is_held_free hs m (i + 8) x) y
+    (over-free (λ (k : ℕ). Counting is_held_free hs m k (c + (k - i))) hs 8 i e step (subst (λ (x : ℕ). Counting is_held_free hs m i x) z w))
+  where
+    step : (k : ℕ) → i ≤ k → k < i + 8 → (get_or hs k no_held).used ≡ false → Counting is_held_free hs m k (c + (k - i)) → Counting is_held_free hs m (k + 1) (c + (k + 1 - i))
+    step k a b u v =
+        let z : c + (k - i) + 1 ≡ c + (k + 1 - i) = omega arith in
+        subst (λ (x : ℕ). Counting is_held_free hs m (k + 1) x) z (count_yes v no_held (omega arith) (ap not u))
 
 -- ---- the first used place from one on
 
@@ -127,6 +168,13 @@ to_end Inv hs from m e f w = go (drop from hs) from m refl e w
 pub choose-free : (N : Numberings) (P : Profile) (hs : List Held) (next : List Ssn) (point : ℕ) {m i : ℕ} {best : Option Best} → Choosing N P hs next point m i best → i < m
     → (get_or hs i no_held).used ≡ false → Choosing N P hs next point m (i + 1) best
 choose-free N P hs next point {m} {i} {best} w l u = choose-worse N P hs next point w l (free-not-better N P next point best (get_or hs i no_held) u)
+
+-- nor have eight
+pub choose-eight : (N : Numberings) (P : Profile) (hs : List Held) (next : List Ssn) (point : ℕ) {m i : ℕ} {best : Option Best} → Choosing N P hs next point m i best → i + 8 ≤ m
+    → free_for hs i 8 ≡ true → Choosing N P hs next point m (i + 8) best
+choose-eight N P hs next point {m} {i} {best} w l e =
+    over-free (λ (k : ℕ). Choosing N P hs next point m k best) hs 8 i e
+    (λ k a b u v. choose-free N P hs next point v (omega arith) u) w
 
 -- the message at a place, tried where it is better
 pub choose-tried : (N : Numberings) (P : Profile) (hs : List Held) (next : List Ssn) (point : ℕ) {m i : ℕ} {best b : Option Best} → Choosing N P hs next point m i best → i < m

@@ -1,7 +1,7 @@
 -- The loops over the places of a message, what a take leaves of the words, and that the words then show what a take leaves of places and SSNs. Assumes nothing.
 use Rattle.std.specs.Prelude.{ℕ, ◌+◌, ◌*◌, ◌^◌, ◌<◌, ◌≤◌, ◌≡◌, Bool, List, [], ◌∷◌, ◌++◌, take, drop, get_or, set, ltb, Option, Some, None, IfSome, IsSome}
 use Rattle.std.proofs.Math.Path.{refl, ap}
-use Rattle.std.proofs.Common.{sym, ◌∙◌, subst, arith, add-one, take-suc-set}
+use Rattle.std.proofs.Common.{sym, ◌∙◌, subst, arith, add-one, get_or-take, take-suc-set}
 use Rattle.std.proofs.Math.Bool.{true, false}
 use borrow.Author.Tests.{lt-ltb, le-ltb}
 use Rattle.std.proofs.Math.ListN.{length}
@@ -12,7 +12,7 @@ use Rattle.numbers.specs.Profile.{Profile}
 use Rattle.numbers.specs.ReachLaws.{on-On}
 use Rattle.octets.specs.Bytes.{laid}
 use Rattle.octets.specs.BytesLaws.{length-laid}
-use Rattle.scans.specs.Scan.{pick, left_one, left-none}
+use Rattle.scans.specs.Scan.{pick, left_one, left-none, Summing, sum_more}
 use Rattle.scans.specs.Upto.{upto-one}
 use Rattle.holding.specs.declared.held.Held.{Held}
 use Rattle.holding.specs.declared.message.Best.{Best}
@@ -48,6 +48,11 @@ gather-whole {T} {hs} {first} {m} {place} {at} {i} {cur} {n} w h t =
     (rw t at (upto-one (λ (k : ℕ). joined_run (take n at) (follow T hs first k i cur)) m n w.rest h))
 
 -- ---- the loops over the places of a list
+
+-- the length of one chunk more
+pub add-place : (hs : List Held) (at : List ℕ) (n : ℕ) {a j : ℕ} → Summing (len_at hs) 65535 (take n at) n j a → {i v : ℕ} → j < n → i ≡ get_or at j 0 → v ≡ len_at hs i
+    → v ≤ 65535 → Summing (len_at hs) 65535 (take n at) n (j + 1) (a + v)
+add-place hs at n {a} {j} s {i} {v} h z e l = sum_more s 0 v h (e ∙ ap (len_at hs) (z ∙ sym (get_or-take n at j 0 h))) l
 
 -- the message copied up to its j-th chunk
 pub record Copying (P : Profile) (area : List ℕ) (hs : List Held) (out list : List ℕ) (now : List ℕ) (at j : ℕ) : Type 0 where
