@@ -7,6 +7,12 @@ use Rattle.kept.proofs.head.unpack.Reads as unpack-reads
 use Rattle.kept.proofs.head.pack.Reads as pack-reads
 use Rattle.kept.proofs.word.echoed_of.Reads as echoed-of-reads
 use Rattle.kept.proofs.cause.reason_of.Reads as reason-of-reads
+use Rattle.kept.proofs.parts.KeepingFromKeptKeeping.from.Reads as keeping-from-reads
+use Rattle.kept.proofs.parts.KeptKeepingFromKeeping.from.Reads as kept-keeping-from-reads
+use Rattle.kept.proofs.parts.PathFromKeptPath.from.Reads as path-from-reads
+use Rattle.kept.proofs.parts.KeptPathFromPath.from.Reads as kept-path-from-reads
+use Rattle.kept.proofs.parts.SenderFromKeptSender.from.Reads as sender-from-reads
+use Rattle.kept.proofs.parts.KeptSenderFromSender.from.Reads as kept-sender-from-reads
 
 pub is-yes-unique : (κs : _) (a : _) (r q : _) (s t : _) → is-yes-reads.Post κs a r s → is-yes-reads.Post κs a q t → r ≡ q
 is-yes-unique κs a r q s t x y = x ∙ sym y
@@ -28,3 +34,21 @@ echoed-of-unique κs a r q s t x y = x ∙ sym y
 
 pub reason-of-unique : (κs : _) (a : _) (r q : _) (s t : _) → reason-of-reads.Post κs a r s → reason-of-reads.Post κs a q t → r ≡ q
 reason-of-unique κs a r q s t x y = x ∙ sym y
+
+pub keeping-from-unique : (κs : _) (a : _) (r q : _) (s t : _) → keeping-from-reads.Post κs a r s → keeping-from-reads.Post κs a q t → r ≡ q
+keeping-from-unique κs a r q s t x y = x ∙ sym y
+
+pub kept-keeping-from-unique : (κs : _) (a : _) (r q : _) (s t : _) → kept-keeping-from-reads.Post κs a r s → kept-keeping-from-reads.Post κs a q t → r ≡ q
+kept-keeping-from-unique κs a r q s t x y = x ∙ sym y
+
+pub path-from-unique : (κs : _) (a : _) (r q : _) (s t : _) → path-from-reads.Post κs a r s → path-from-reads.Post κs a q t → r ≡ q
+path-from-unique κs a r q s t x y = x ∙ sym y
+
+pub kept-path-from-unique : (κs : _) (a : _) (r q : _) (s t : _) → kept-path-from-reads.Post κs a r s → kept-path-from-reads.Post κs a q t → r ≡ q
+kept-path-from-unique κs a r q s t x y = x ∙ sym y
+
+pub sender-from-unique : (κs : _) (a : _) (r q : _) (s t : _) → sender-from-reads.Post κs a r s → sender-from-reads.Post κs a q t → r ≡ q
+sender-from-unique κs a r q s t x y = x ∙ sym y
+
+pub kept-sender-from-unique : (κs : _) (a : _) (r q : _) (s t : _) → kept-sender-from-reads.Post κs a r s → kept-sender-from-reads.Post κs a q t → r ≡ q
+kept-sender-from-unique κs a r q s t x y = x ∙ sym y
