@@ -16,7 +16,7 @@ pub const ROOM: usize = Rail::CHUNK_ROOM;
 
 // The record so far, the verdicts of the chunks passed, how many bytes of replies are gathered, whether the rest is unread, whether a SHUTDOWN is
 // due, and what the whole reply owes beside it.
-// Kept as it is, with a number: the definitions of specs/ answer it, and no code makes one.
+// Kept as it is: the definitions of specs/ answer it, and no code makes one.
 #[derive(Clone, Copy)]
 pub struct Walked {
     pub association: Association,
