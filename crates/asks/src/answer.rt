@@ -20,6 +20,7 @@ pub struct Answered {
 
 impl Answered {
     // An expiry that closes changes nothing but the state.
+    #[inline(always)]
     pub(crate) fn over(head: Head) -> Answered
         ensures { reply_done result ≡ over_with head }
     {
@@ -30,6 +31,7 @@ impl Answered {
         }
     }
 
+    #[inline(always)]
     pub(crate) fn told(head: Head, length: usize) -> Answered
         ensures { reply_done result ≡ told_with head length }
     {

@@ -59,6 +59,7 @@ fn try_again(head: Head, next: State, kept: &[u8; 256], out: &mut [u8]) -> Answe
 }
 
 // T1 and T2 alike.
+#[inline(always)]
 fn expire(
     head: Head,
     held: &[u32; 512],

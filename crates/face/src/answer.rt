@@ -19,12 +19,14 @@ pub struct Served {
 }
 
 impl Served {
+    #[inline(always)]
     pub(crate) fn done(kept: Kept) -> Self
         ensures { (result.number ≡ 0) × (result.kept ≡ kept) }
     {
         Served { number: 0, kept }
     }
 
+    #[inline(always)]
     pub(crate) fn refused(kept: Kept, refusal: Refusal) -> Self
         ensures { (result.number ≡ refusal_number refusal) × (result.kept ≡ kept) }
     {
@@ -36,6 +38,7 @@ impl Served {
 }
 
 // Where the head is not named: it stays, and zeros are told. They go by a variable: the borrow checker covers no other form at a length that is a parameter.
+#[inline(always)]
 pub(crate) fn unserved<const N: usize>(k: Kept, told: &mut [usize; N]) -> Served
     ensures { call_told_of result.number result.kept told.new ≡ call_told_of 1 k (replicate N 0) }
 {
@@ -45,6 +48,7 @@ pub(crate) fn unserved<const N: usize>(k: Kept, told: &mut [usize; N]) -> Served
 }
 
 // Told: the length of the packet, and whether an expiry closed the association.
+#[inline(always)]
 pub(crate) fn tell(head: Head, answer: Result<Answered, Refusal>, told: &mut [usize; 2]) -> Served
     ensures { call_told_of result.number result.kept told.new ≡ answer_told (reply_of head answer) }
 {
