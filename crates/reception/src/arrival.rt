@@ -29,6 +29,7 @@ pub struct Arrived {
 fn look_for(keeping: Keeping, words: &[u32; held::WORDS], c: Chunk) -> Look
     ensures { Looked (ring (2 ^ 32)) rail keeping (held_of rail words.now) c result }
 {
+    let come = keeping.come;
     let new = Held::of(c, 0);
     let mut low = 0;
     let mut held = false;
@@ -36,7 +37,7 @@ fn look_for(keeping: Keeping, words: &[u32; held::WORDS], c: Chunk) -> Look
     let mut from = 0;
     while let Some(place) = choosing::next_used(words, from) {
         let h = held::held_at(words, place);
-        low += usize::from(receiving::is_low(&keeping.come, keeping.offset(h.tsn)));
+        low += usize::from(receiving::is_low(&come, keeping.offset(h.tsn)));
         held |= h.is_of(new.tsn);
         clash |= arrival::contradict(h, new);
         from = place + 1;

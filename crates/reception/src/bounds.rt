@@ -64,7 +64,9 @@ fn weight(keeping: Keeping, words: &[u32; held::WORDS]) -> Option<usize>
     let Some(first) = choosing::next_used(words, 0) else {
         return Some(0);
     };
-    let some = has_come(&keeping.come);
+    // Taken out first: lent where it lies, all of number-keeping is copied to have an address.
+    let come = keeping.come;
+    let some = has_come(&come);
     let mut low = 0;
     let mut seen = [false; Rail::PLACES];
     let mut from = first;
@@ -73,7 +75,7 @@ fn weight(keeping: Keeping, words: &[u32; held::WORDS]) -> Option<usize>
         if Rail::is_misfit(h.len, h.stream) {
             return None;
         }
-        low += usize::from(is_low_at(keeping.point, &keeping.come, some, h.tsn));
+        low += usize::from(is_low_at(keeping.point, &come, some, h.tsn));
         let d = slot(h.tsn);
         if seen[d] && is_held_before(words, place, h.tsn) {
             return None;
@@ -102,5 +104,6 @@ pub fn is_sound(keeping: Keeping, words: &[u32; held::WORDS]) -> bool
     let Some(low) = weight(keeping, words) else {
         return false;
     };
-    low < 1 || !is_over(&keeping.come, low)
+    let come = keeping.come;
+    low < 1 || !is_over(&come, low)
 }
