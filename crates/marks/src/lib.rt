@@ -42,13 +42,15 @@ pub fn taken_in(k: Sack, t: &mut [u32; 1024], from: Tsn) -> Took
             continue;
         }
         let p = tables::place::place_at(t, i);
+        // Written on each way by itself: written before the question, every way asks what most places are spared.
         let q = k.settled(p);
-        tables::place::put_state(t, i, q);
         if q.status == p.status {
+            tables::place::put_state(t, i, q);
             continue;
         }
         newly += sack::newly_bytes(p, q);
         highest = highest.max(sack::newly_offset(p, q, from));
+        tables::place::put_state(t, i, q);
     }
     Took { newly, highest }
 }

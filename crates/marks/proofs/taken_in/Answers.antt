@@ -29,7 +29,7 @@ pub overflow_add-newly : goal.overflow_add-newly
 overflow_add-newly c = search (rules, c.loop-i.invariant.1.below, c.loop-i.invariant.1.within, c.loop-i-test.true, c.newly_bytes-newly.ensures.1)
 
 pub loop-i-preserved : goal.loop-i-preserved
-loop-i-preserved c = let w = c.loop-i.invariant in let h = c.loop-i-test.true in let e = c.place_at-p.ensures in let f = e ∙ state-next w.0 h in let s = c.settled-q.ensures in (state-more w.0 h (ap (λ (s : ℕ). eqb s 0) (sym c.status_at.ensures) ∙ ne_eqb _ _ c.if-status_at-eq-FREE.false) (s ∙ ap (place_settled c.args.k) e) c.put_state.ensures, sum_more w.1 vacant _ h (rw f at (rw s at c.newly_bytes-newly.ensures.0)) c.newly_bytes-newly.ensures.1, top-more w.2 vacant _ h (c.max-highest.ensures ∙ max-larger c.loop-i.highest c.newly_offset.result ∙ ap (λ (n : ℕ). larger c.loop-i.highest n) (rw f at (rw s at c.newly_offset.ensures))))
+loop-i-preserved c = let w = c.loop-i.invariant in let h = c.loop-i-test.true in let e = c.place_at-p.ensures in let f = e ∙ state-next w.0 h in let s = c.settled-q.ensures in (state-more w.0 h (ap (λ (s : ℕ). eqb s 0) (sym c.status_at.ensures) ∙ ne_eqb _ _ c.if-status_at-eq-FREE.false) (s ∙ ap (place_settled c.args.k) e) c.put_state-in-loop-i.ensures, sum_more w.1 vacant _ h (rw f at (rw s at c.newly_bytes-newly.ensures.0)) c.newly_bytes-newly.ensures.1, top-more w.2 vacant _ h (c.max-highest.ensures ∙ max-larger c.loop-i.highest c.newly_offset.result ∙ ap (λ (n : ℕ). larger c.loop-i.highest n) (rw f at (rw s at c.newly_offset.ensures))))
 
 pub returns-clause-newly_after : goal.returns-clause-newly_after
 returns-clause-newly_after c = let w = c.loop-i.invariant in let d = c.loop-i-test.false in (sum-end w.1 d ∙ sym (taken-newly _ _ _), top-end w.2 d ∙ sym (taken-highest _ _ _))
