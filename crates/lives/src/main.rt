@@ -14,8 +14,8 @@ use crate::host::{Host, LONGEST, SPACE, Said};
 use crate::verbs::Verb;
 use flat::Association;
 use octets::{get8, part};
-use pages::page::{compare, say, say_packet, text};
-use pages::reading::{deed, line_at, rest, should};
+use pages::page::{compare, plus, say, say_packet, text};
+use pages::reading::{deed, rest};
 
 // The descriptor of the standard input.
 const STANDARD_INPUT: i32 = 0;
@@ -142,24 +142,26 @@ impl Side {
     }
 
     // A record is put aside, the host changes its mind, or an event happens.
-    fn turn(&mut self, other: &Side, line: &[u8]) {
-        let event = rest(deed(line));
+    fn turn(&mut self, other: &Side, event: &[u8], should: &[u8]) {
         match verbs::of(event) {
             Verb::Saves => self.aside = self.association,
             Verb::Lends => self.host.lend(event),
             Verb::Judges => self.host.judge(event),
-            _ => return self.live(other.wire.as_slice(), event, should(line)),
+            _ => return self.live(other.wire.as_slice(), event, should),
         }
         text(b"\n");
     }
 }
 
-// A line: an event of A, one of B, or a heading.
+// A line: an event of A, one of B, or a heading. What should come of it is cut where the deed ends, since a search for the colon of its own would go
+// through a long line again.
 fn turn(both: &mut Both, line: &[u8]) {
-    text(part(deed(line), 0, ECHOED));
+    let event = deed(line);
+    let should = part(line, plus(event.len(), 2), line.len());
+    text(part(event, 0, ECHOED));
     match get8(line, 0) {
-        b'A' => both.a.turn(&both.b, line),
-        b'B' => both.b.turn(&both.a, line),
+        b'A' => both.a.turn(&both.b, rest(event), should),
+        b'B' => both.b.turn(&both.a, rest(event), should),
         _ => text(b"\n"),
     }
 }
@@ -170,7 +172,7 @@ fn run(script: &[u8]) {
         b: Side::new(),
     };
     for line in script.split_inclusive(|byte| *byte == b'\n').take(LINES) {
-        turn(&mut both, line_at(line, 0));
+        turn(&mut both, line.strip_suffix(b"\n").unwrap_or(line));
     }
 }
 
