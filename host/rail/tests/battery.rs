@@ -167,11 +167,15 @@ fn every_tile_stands_once_whoever_loses_power_or_line() {
             }
         }
         match round {
-            // A short while, which the association outlives, and one that it does not.
+            // A short while, which the association outlives, and one that it does not: at least so many rounds, and until the head has said so, which takes
+            // as long as its timers are doubled.
             4 => pulled[0].store(true, Ordering::Relaxed),
             10 => pulled[0].store(false, Ordering::Relaxed),
             6 => pulled[1].store(true, Ordering::Relaxed),
-            60 => pulled[1].store(false, Ordering::Relaxed),
+            60.. if pulled[1].load(Ordering::Relaxed) => {
+                let said = fs::read_to_string(&log).unwrap_or_default();
+                pulled[1].store(!said.contains("the line is lost"), Ordering::Relaxed);
+            }
             8 => {
                 field.kill();
                 thread::sleep(Duration::from_millis(200));
