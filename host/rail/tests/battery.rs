@@ -147,7 +147,7 @@ fn every_tile_stands_once_whoever_loses_power_or_line() {
         |n: usize| format!("head {} --name {} --from {} --heartbeat 1 --unanswered 1", cables[n].address, names[n], here.join(names[n]).display());
     let mut heads: Vec<Option<Process>> = (0..names.len()).map(|n| Some(Process::start(&head_line(n), &log))).collect();
     let start = Instant::now();
-    let (mut kills, mut round) = (0, 0);
+    let (mut kills, mut round, mut was_lost) = (0, 0, false);
     while heads.iter().any(Option::is_some) {
         assert!(start.elapsed() < Duration::from_secs(240), "{}", fs::read_to_string(&log).unwrap_or_default());
         thread::sleep(Duration::from_millis(30 + chance.below(120)));
@@ -160,28 +160,28 @@ fn every_tile_stands_once_whoever_loses_power_or_line() {
             if let Some(is_well) = process.ended() {
                 assert!(is_well, "{}", fs::read_to_string(&log).unwrap_or_default());
                 *head = None;
-            } else if kills < 12 && chance.below(8) == 0 && !pulled[n].load(Ordering::Relaxed) {
+            } else if kills < 12 && chance.below(8) == 0 && !pulled[n].load(Ordering::Relaxed) && (n != 1 || was_lost) {
                 process.kill();
                 kills += 1;
                 *process = Process::start(&head_line(n), &log);
             }
         }
         match round {
-            // A short while, which the association outlives, and one that it does not: at least so many rounds, and until the head has said so, which takes
-            // as long as its timers are doubled.
+            // A short while, which the association outlives.
             4 => pulled[0].store(true, Ordering::Relaxed),
             10 => pulled[0].store(false, Ordering::Relaxed),
-            6 => pulled[1].store(true, Ordering::Relaxed),
-            60.. if pulled[1].load(Ordering::Relaxed) => {
-                let said = fs::read_to_string(&log).unwrap_or_default();
-                pulled[1].store(!said.contains("the line is lost"), Ordering::Relaxed);
-            }
             8 => {
                 field.kill();
                 thread::sleep(Duration::from_millis(200));
                 field = Process::start(&field_line, &log);
             }
             _ => {}
+        }
+        // And one that it does not: from its first tile on, since a head that has no association yet has no line to lose, and until it has said so, which takes
+        // as long as its timers are doubled. Till then it keeps its power.
+        if !was_lost && kept.join(names[1]).exists() {
+            was_lost = round >= 60 && fs::read_to_string(&log).unwrap_or_default().contains("the line is lost");
+            pulled[1].store(!was_lost, Ordering::Relaxed);
         }
     }
     assert!(kills >= 5, "only {} heads lost their power", kills);
